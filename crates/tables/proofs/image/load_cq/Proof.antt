@@ -1,0 +1,48 @@
+use borrow.Author.Needs.{needs}
+use native.Mathlib.Nat.{add-zero}
+use Rattle.tables.specs.Layout.{cqT}
+use Rattle.wire.specs.Table.{rowAt, place}
+use Rattle.wire.specs.Fields.{fieldsAt}
+use Rattle.tables.proofs.image.load_cq.Statement.{statement}
+use Rattle.tables.proofs.image.load_cq.Tie as tie
+use Rattle.tables.proofs.image.load_cq.Reads as reads
+use Rattle.tables.proofs.image.load_cq.Lts as lts
+use Rattle.wire.proofs.get8.Reads as get8-reads
+
+mul-at : tie.Need-mul-at
+mul-at c = search needs
+
+add-at : tie.Need-add-at
+add-at c = search needs
+
+get8-requires : tie.Need-get8-requires
+get8-requires c κs = search needs
+
+add-get8 : tie.Need-add-get8
+add-get8 c = search needs
+
+get8-requires-2 : tie.Need-get8-requires-2
+get8-requires-2 c κs = search needs
+
+add-get8-2 : tie.Need-add-get8-2
+add-get8-2 c = search needs
+
+get8-requires-3 : tie.Need-get8-requires-3
+get8-requires-3 c κs = search needs
+
+returns : tie.Need-returns
+unfolding rowAt cqT fieldsAt place
+returns c = rw add-zero (cc)
+
+pub load-cq-spec : {M : Type 1} → statement M
+load-cq-spec =
+    tie.close
+    (tie.spec
+    mul-at
+    add-at
+    get8-requires
+    add-get8
+    get8-requires-2
+    add-get8-2
+    get8-requires-3
+    returns)

@@ -1,0 +1,28 @@
+use borrow.Author.Needs.{needs}
+use native.Mathlib.Nat.{add-zero, mul-one}
+use Rattle.tables.specs.Layout.{pdT}
+use Rattle.wire.specs.Table.{rowAt, place}
+use Rattle.wire.specs.Fields.{fieldsAt}
+use Rattle.tables.proofs.image.load_pd.Statement.{statement}
+use Rattle.tables.proofs.image.load_pd.Tie as tie
+use Rattle.tables.proofs.image.load_pd.Reads as reads
+use Rattle.tables.proofs.image.load_pd.Lts as lts
+use Rattle.wire.proofs.get8.Reads as get8-reads
+
+add-at : tie.Need-add-at
+add-at c = search needs
+
+get8-requires : tie.Need-get8-requires
+get8-requires c κs = search needs
+
+returns : tie.Need-returns
+unfolding rowAt pdT fieldsAt place
+returns c = rw (mul-one, add-zero) (cc)
+
+pub load-pd-spec : {M : Type 1} → statement M
+load-pd-spec =
+    tie.close
+    (tie.spec
+    add-at
+    get8-requires
+    returns)

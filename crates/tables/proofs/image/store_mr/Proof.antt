@@ -1,0 +1,84 @@
+use borrow.Author.Needs.{needs}
+use native.Mathlib.Nat.{add-zero}
+use Rattle.tables.specs.Layout.{mrT}
+use Rattle.wire.specs.Table.{putRow, place}
+use Rattle.wire.specs.Fields.{putFields}
+use Rattle.tables.proofs.image.store_mr.Statement.{statement}
+use Rattle.tables.proofs.image.store_mr.Tie as tie
+use Rattle.tables.proofs.image.store_mr.Reads as reads
+use Rattle.tables.proofs.image.store_mr.Lts as lts
+use Rattle.wire.proofs.put8.Reads as put8-reads
+use Rattle.wire.proofs.put64.Reads as put64-reads
+
+mul-at : tie.Need-mul-at
+mul-at c = search needs
+
+add-at : tie.Need-add-at
+add-at c = search needs
+
+put8-requires : tie.Need-put8-requires
+put8-requires c κs = search needs
+
+add-put8 : tie.Need-add-put8
+add-put8 c = search needs
+
+put8-requires-2 : tie.Need-put8-requires-2
+put8-requires-2 c κs = search needs
+
+add-put8-2 : tie.Need-add-put8-2
+add-put8-2 c = search needs
+
+put8-requires-3 : tie.Need-put8-requires-3
+put8-requires-3 c κs = search needs
+
+add-put64 : tie.Need-add-put64
+add-put64 c = search needs
+
+put64-requires : tie.Need-put64-requires
+put64-requires c κs = search needs
+
+add-put64-2 : tie.Need-add-put64-2
+add-put64-2 c = search needs
+
+put64-requires-2 : tie.Need-put64-requires-2
+put64-requires-2 c κs = search needs
+
+add-put64-3 : tie.Need-add-put64-3
+add-put64-3 c = search needs
+
+put64-requires-3 : tie.Need-put64-requires-3
+put64-requires-3 c κs = search needs
+
+same-length : tie.Need-same-length
+same-length c = search needs
+
+returns : tie.Need-returns
+unfolding putRow mrT putFields place
+returns c =
+    let c0 = c .before .before in
+    let c1 = c0 .before .before .before .before in
+    let c2 = c1 .before .before .before .before in
+    let c3 = c2 .before .before .before .before in
+    let c4 = c3 .before .before .before .before in
+    let c5 = c4 .before .before .before .before in
+    rw (add-zero, c0 .put643 .ensures, c1 .put642 .ensures, c2 .put64 .ensures, c3 .put83 .ensures, c4 .put82 .ensures, c5 .put8 .ensures)
+
+pub store-mr-spec : {M : Type 1} → statement M
+store-mr-spec =
+    tie.close
+    (tie.spec
+    mul-at
+    add-at
+    put8-requires
+    add-put8
+    put8-requires-2
+    add-put8-2
+    put8-requires-3
+    add-put64
+    put64-requires
+    add-put64-2
+    put64-requires-2
+    add-put64-3
+    put64-requires-3
+    same-length
+    returns)

@@ -1,0 +1,34 @@
+use borrow.Author.Needs.{needs}
+use native.Mathlib.Nat.{add-zero, mul-one}
+use Rattle.tables.specs.Layout.{pdT}
+use Rattle.wire.specs.Table.{putRow, place}
+use Rattle.wire.specs.Fields.{putFields}
+use Rattle.tables.proofs.image.store_pd.Statement.{statement}
+use Rattle.tables.proofs.image.store_pd.Tie as tie
+use Rattle.tables.proofs.image.store_pd.Reads as reads
+use Rattle.tables.proofs.image.store_pd.Lts as lts
+use Rattle.wire.proofs.put8.Reads as put8-reads
+
+add-at : tie.Need-add-at
+add-at c = search needs
+
+put8-requires : tie.Need-put8-requires
+put8-requires c κs = search needs
+
+same-length : tie.Need-same-length
+same-length c = search needs
+
+returns : tie.Need-returns
+unfolding putRow pdT putFields place
+returns c =
+    let c0 = c .before .before in
+    rw (mul-one, add-zero, c0 .put8 .ensures)
+
+pub store-pd-spec : {M : Type 1} → statement M
+store-pd-spec =
+    tie.close
+    (tie.spec
+    add-at
+    put8-requires
+    same-length
+    returns)

@@ -1,0 +1,82 @@
+-- The card, document 01, "What the card is": its tables as functions of a number. A number past a table's end, and a slot that is
+-- not live, hold the free object. Assumes nothing.
+use mathlib.Core.Bool.{Bool, true, false}
+use mathlib.Core.List.{List, [], _∷_}
+use mathlib.Core.Option.{Option, none, some}
+use Prim.Native.Nat.{ℕ}
+use Rattle.tables.specs.declared.Sge.{Sge}
+use Rattle.tables.specs.declared.Completion.{Completion}
+
+-- what a register command says of a memory region
+pub record Registration : Type 0 where
+  pub pd : ℕ
+  pub access : ℕ
+  pub start : ℕ
+  pub length : ℕ
+  pub virt : ℕ
+
+-- a slot of the region table; the variant is the last one handed out, 0 before the first
+pub record Mr : Type 0 where
+  pub live : Bool
+  pub variant : ℕ
+  pub reg : Registration
+
+-- a receive: its wr_id and its pieces, which are scatter/gather entries
+pub record Receive : Type 0 where
+  pub wr : ℕ
+  pub sges : List Sge
+
+-- a queue pair, with its send and receive completion queues, its destination and its waiting receives, the oldest first
+pub record Qp : Type 0 where
+  pub live : Bool
+  pub pd : ℕ
+  pub signal : ℕ
+  pub scq : ℕ
+  pub rcq : ℕ
+  pub state : ℕ
+  pub dest : Option ℕ
+  pub waiting : List Receive
+
+-- a completion queue and its unread completions, the oldest first; it is live where it has places
+pub record Cq : Type 0 where
+  pub places : ℕ
+  pub entries : List Completion
+
+-- memory: the length given at reset
+pub record Card : Type 0 where
+  pub memory : ℕ
+  pub pd : ℕ → Bool
+  pub cq : ℕ → Cq
+  pub mr : ℕ → Mr
+  pub qp : ℕ → Qp
+
+abbrev pub withPd : Card → (ℕ → Bool) → Card
+withPd c f = record { memory = c .memory; pd = f; cq = c .cq; mr = c .mr; qp = c .qp }
+
+abbrev pub withCq : Card → (ℕ → Cq) → Card
+withCq c f = record { memory = c .memory; pd = c .pd; cq = f; mr = c .mr; qp = c .qp }
+
+abbrev pub withMr : Card → (ℕ → Mr) → Card
+withMr c f = record { memory = c .memory; pd = c .pd; cq = c .cq; mr = f; qp = c .qp }
+
+abbrev pub withQp : Card → (ℕ → Qp) → Card
+withQp c f = record { memory = c .memory; pd = c .pd; cq = c .cq; mr = c .mr; qp = f }
+
+abbrev pub noRegistration : Registration
+noRegistration = record { pd = 0; access = 0; start = 0; length = 0; virt = 0 }
+
+abbrev pub freeMr : ℕ → Mr
+freeMr v = record { live = false; variant = v; reg = noRegistration }
+
+abbrev pub freeQp : Qp
+freeQp = record { live = false; pd = 0; signal = 0; scq = 0; rcq = 0; state = 0; dest = none; waiting = [] }
+
+abbrev pub freeCq : Cq
+freeCq = record { places = 0; entries = [] }
+
+abbrev pub noReceive : Receive
+noReceive = record { wr = 0; sges = [] }
+
+-- the card after a reset with the memory length n: no object, no variant handed out
+abbrev pub fresh : ℕ → Card
+fresh n = record { memory = n; pd = λ i. false; cq = λ i. freeCq; mr = λ i. freeMr 0; qp = λ i. freeQp }

@@ -1,0 +1,4 @@
+pub mod Limits
+pub mod Card
+pub mod Records
+pub mod Layout

@@ -1,0 +1,47 @@
+-- Document 01's numbers, each once. Assumes nothing.
+use Prim.Native.Nat.{ℕ, _+_, _*_, _-_, _^_}
+
+-- the tables: "8 domains (PD), 8 completion queues (CQ) of 1 to 16 places, 32 regions (MR), 8 queue pairs (QP), each with up to 4 waiting receives"
+abbrev pub pdCount : ℕ
+pdCount = 8
+
+abbrev pub cqCount : ℕ
+cqCount = 8
+
+abbrev pub mostPlaces : ℕ
+mostPlaces = 16
+
+abbrev pub mrCount : ℕ
+mrCount = 32
+
+abbrev pub qpCount : ℕ
+qpCount = 8
+
+abbrev pub mostWaiting : ℕ
+mostWaiting = 4
+
+-- "the memory length, 1 to 1,048,576"
+abbrev pub mostMemory : ℕ
+mostMemory = 1048576
+
+-- "virt + length over 2^64 − 1"
+abbrev pub mostAddress : ℕ
+mostAddress = 2 ^ 64 - 1
+
+-- "Total .. over 4,096"
+abbrev pub mostMessage : ℕ
+mostMessage = 4096
+
+-- a send's pieces and inline bytes, a receive's pieces
+abbrev pub mostSges : ℕ
+mostSges = 4
+
+abbrev pub mostInline : ℕ
+mostInline = 512
+
+abbrev pub mostReceiveSges : ℕ
+mostReceiveSges = 2
+
+-- access bits: "1 local write, 2 remote write, 4 remote read"
+abbrev pub mostAccess : ℕ
+mostAccess = 7

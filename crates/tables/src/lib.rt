@@ -1,0 +1,66 @@
+// The lower part: the records' layouts and the card's tables in the lent state.
+pub mod image;
+pub mod limits;
+
+// A scatter/gather entry, document 01's piece: length bytes from the address on, under the key.
+pub struct Sge {
+    pub address: u64,
+    pub length: u32,
+    pub key: u32,
+}
+
+// A completion; wr is the work request's wr_id, owner the number of the queue pair.
+pub struct Completion {
+    pub wr: u64,
+    pub status: u8,
+    pub opcode: u8,
+    pub length: u32,
+    pub imm: u32,
+    pub owner: u32,
+}
+
+// A completion queue without its ring: its places (0 where it is not live), the place of the oldest completion, how many are unread.
+pub struct QueueHead {
+    pub places: u8,
+    pub first: u8,
+    pub count: u8,
+}
+
+// A queue pair: scq and rcq are its send and its receive completion queue; dest 8 is no destination.
+pub struct QueuePair {
+    pub live: u8,
+    pub pd: u8,
+    pub signal: u8,
+    pub scq: u8,
+    pub rcq: u8,
+    pub state: u8,
+    pub dest: u8,
+}
+
+// Where a queue pair's waiting receives stand among its 4 places: the oldest, and how many.
+pub struct WaitingHead {
+    pub first: u8,
+    pub count: u8,
+}
+
+// A memory region; the variant is the last one that its slot handed out.
+pub struct Region {
+    pub access: u8,
+    pub variant: u8,
+    pub pd: u8,
+    pub start: u64,
+    pub length: u64,
+    pub virt: u64,
+}
+
+// A receive record, of at most two scatter/gather entries.
+pub struct ReceiveRecord {
+    pub wr: u64,
+    pub count: u32,
+    pub address0: u64,
+    pub length0: u32,
+    pub key0: u32,
+    pub address1: u64,
+    pub length1: u32,
+    pub key1: u32,
+}

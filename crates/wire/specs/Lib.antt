@@ -1,0 +1,9 @@
+pub mod Le
+pub mod Fields
+pub mod Codec
+pub mod Rows
+pub mod Table
+pub mod Ring
+pub mod Scan
+pub mod Blocks
+pub mod Slots
