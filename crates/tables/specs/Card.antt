@@ -4,16 +4,9 @@ use mathlib.Core.Bool.{Bool, true, false}
 use mathlib.Core.List.{List, [], _∷_}
 use mathlib.Core.Option.{Option, none, some}
 use Prim.Native.Nat.{ℕ}
-use Rattle.tables.specs.declared.Sge.{Sge}
 use Rattle.tables.specs.declared.Completion.{Completion}
-
--- what a register command says of a memory region
-pub record Registration : Type 0 where
-  pub pd : ℕ
-  pub access : ℕ
-  pub start : ℕ
-  pub length : ℕ
-  pub virt : ℕ
+use Rattle.tables.specs.declared.Registration.{Registration}
+use Rattle.tables.specs.declared.Sge.{Sge}
 
 -- a slot of the region table; the variant is the last one handed out, 0 before the first
 pub record Mr : Type 0 where

@@ -64,3 +64,55 @@ pub struct ReceiveRecord {
     pub length1: u32,
     pub key1: u32,
 }
+
+// A send record without its inline bytes and scatter/gather entries. With the inline flag, the low 16 bits of count are the inline length.
+pub struct SendRecord {
+    pub wr: u64,
+    pub opcode: u8,
+    pub flags: u8,
+    pub imm: u32,
+    pub address: u64,
+    pub key: u32,
+    pub count: u32,
+}
+
+// What reading a send record gives: the record, or the answer of the refusal.
+pub enum SendRead {
+    Record(SendRecord),
+    Refused(u8),
+}
+
+// What reading a receive record gives.
+pub enum ReceiveRead {
+    Record(ReceiveRecord),
+    Refused(u8),
+}
+
+// The data of command 7, register MR.
+pub struct Registration {
+    pub pd: u32,
+    pub access: u32,
+    pub start: u64,
+    pub length: u64,
+    pub virt: u64,
+}
+
+// The data of command 9, create QP; kind is the paper's type.
+pub struct CreateQp {
+    pub pd: u32,
+    pub kind: u8,
+    pub signal: u8,
+    pub scq: u32,
+    pub rcq: u32,
+}
+
+// The data of command 10, modify QP; the paddings must be zero.
+pub struct ModifyQp {
+    pub qpn: u32,
+    pub mask: u32,
+    pub state: u8,
+    pub pad0: u8,
+    pub pad1: u8,
+    pub pad2: u8,
+    pub dest: u32,
+}

@@ -7,3 +7,4 @@ pub mod Ring
 pub mod Scan
 pub mod Blocks
 pub mod Slots
+pub mod Checks
