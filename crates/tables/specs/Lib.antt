@@ -6,3 +6,4 @@ pub mod Image
 pub mod Accept
 pub mod Objects
 pub mod Tests
+pub mod Stores
