@@ -61,29 +61,33 @@ waitingOk h = ltb (h .first) mostWaiting && leb (h .count) mostWaiting
 abbrev pub receiveOk : ReceiveRecord → Bool
 receiveOk r = leb (r .count) mostReceiveSges
 
--- ---- the object numbered n of each table
+-- ---- the object numbered n of each table: free, or within its limits and naming live objects only
 
 unfoldable pub pdOk : List ℕ → ℕ → Bool
 pdOk l n = flagOk (rowAt pdT l n)
 
+-- a completion queue with its ring
+abbrev pub cqSound : QueueHead → List Completion → Bool
+cqSound h es = eqb (h .places) 0 || (queueOk h && all completionOk (unread h es))
+
 unfoldable pub cqOk : List ℕ → ℕ → Bool
-cqOk l n =
-    let h : QueueHead = rowAt cqT l n in
-    eqb (h .places) 0 || (queueOk h && all completionOk (unread h (entriesAt l n)))
+cqOk l n = cqSound (rowAt cqT l n) (entriesAt l n)
+
+-- a region slot with its flag, where pd tells the live domains
+abbrev pub mrSound : (pd : ℕ → Bool) → ℕ → ℕ → Region → Bool
+mrSound pd memory flag r = eqb flag 0 || (eqb flag 1 && pd (r .pd) && regionOk memory r)
 
 unfoldable pub mrOk : List ℕ → ℕ → Bool
-mrOk l n =
-    let flag : ℕ = rowAt mrLiveT l n in
-    let r : Region = rowAt mrT l n in
-    eqb flag 0 || (eqb flag 1 && card l .pd (r .pd) && regionOk (rowAt memoryT l 0) r)
+mrOk l n = mrSound (card l .pd) (rowAt memoryT l 0) (rowAt mrLiveT l n) (rowAt mrT l n)
+
+-- a queue pair with its receives, where pd and cq tell the live domains and completion queues
+abbrev pub qpSound : (pd cq : ℕ → Bool) → ℕ → QueuePair → WaitingHead → List ReceiveRecord → Bool
+qpSound pd cq n p h ws =
+    eqb (p .live) 0
+    || (eqb (p .live) 1 && pd (p .pd) && cq (p .scq) && cq (p .rcq) && pairOk n p && waitingOk h && all receiveOk (posted h ws))
 
 unfoldable pub qpOk : List ℕ → ℕ → Bool
-qpOk l n =
-    let p : QueuePair = rowAt qpT l n in
-    let h : WaitingHead = rowAt waitingT l n in
-    eqb (p .live) 0
-    || (eqb (p .live) 1 && card l .pd (p .pd) && cqLive (card l) (p .scq) && cqLive (card l) (p .rcq) && pairOk n p && waitingOk h
-    && all receiveOk (posted h (receivesAt l n)))
+qpOk l n = qpSound (card l .pd) (cqLive (card l)) n (rowAt qpT l n) (rowAt waitingT l n) (receivesAt l n)
 
 -- ---- the test
 

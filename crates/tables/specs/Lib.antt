@@ -4,6 +4,10 @@ pub mod Records
 pub mod Layout
 pub mod Image
 pub mod Accept
+pub mod Search
+pub mod Accepted
 pub mod Objects
 pub mod Tests
 pub mod Stores
+pub mod Kept
+pub mod KeptNamed

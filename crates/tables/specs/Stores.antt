@@ -59,12 +59,12 @@ module _ {A : Type 0} (t : Table A) (l : List ℕ) (n : ℕ) (v : A) (h : n < t 
 
 -- ---- rings: the places of other queues, and the place that is written
 module _ (l : List ℕ) (n k : ℕ) where
-  entries-other : (v : Completion) (i : ℕ) → k < mostPlaces → i ≢ n → entriesAt (putRow entryT l (mostPlaces * n + k) v) i ≡ entriesAt l i
+  pub entries-other : (v : Completion) (i : ℕ) → k < mostPlaces → i ≢ n → entriesAt (putRow entryT l (mostPlaces * n + k) v) i ≡ entriesAt l i
   unfolding entriesAt
   entries-other v i d x =
       rows-same mostPlaces _ _ noCompletion (λ j c. row-other entryT l (mostPlaces * n + k) v (mostPlaces * i + j) (λ y. x (omega arith)))
 
-  receives-other : (v : ReceiveRecord) (i : ℕ) → k < mostWaiting → i ≢ n → receivesAt (putRow receiveT l (mostWaiting * n + k) v) i ≡ receivesAt l i
+  pub receives-other : (v : ReceiveRecord) (i : ℕ) → k < mostWaiting → i ≢ n → receivesAt (putRow receiveT l (mostWaiting * n + k) v) i ≡ receivesAt l i
   unfolding receivesAt
   receives-other v i d x =
       rows-same mostWaiting _ _ noRecord (λ j c. row-other receiveT l (mostWaiting * n + k) v (mostWaiting * i + j) (λ y. x (omega arith)))
