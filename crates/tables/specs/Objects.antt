@@ -16,6 +16,7 @@ use Rattle.tables.specs.Card.{Card, Cq, Mr, Qp, freeMr, freeQp, freeCq, 
 use Rattle.tables.specs.Image.{card, pdAt, cqAt, mrAt, qpAt, mrOf, qpOf, cqOf, liveQp, entriesAt, receivesAt, registrationOf, noCompletion, noRecord}
 use Rattle.tables.specs.Layout.{memoryT, pdT, mrLiveT, mrT, cqT, entryT, qpT, waitingT, receiveT}
 use Rattle.tables.specs.Limits.{pdCount, cqCount, mrCount, qpCount, mostPlaces, mostWaiting}
+use Rattle.tables.specs.Search.{mrNames, qpNames, qpUses}
 use Rattle.tables.specs.declared.Registration.{Registration}
 
 -- a number whose slot is not the free one lies in the table
@@ -109,6 +110,48 @@ module _ (l : List ℕ) where
     pub mr-row : n < mrCount → rowAt mrLiveT l n ≡ 1 → card l .mr n .reg ≡ registrationOf (rowAt mrT l n)
     unfolding mrOf
     mr-row h e = rw (mr-is h, eq-eqb (rowAt mrLiveT l n) 1 e)
+
+  -- whether an object is free, and whom a live one names, as its row says
+  module _ (n : ℕ) where
+    pub pd-free : n < pdCount → not (card l .pd n) ≡ not (eqb (rowAt pdT l n) 1)
+    pd-free h = ap not (pd-is n h)
+
+    pub cq-free : n < cqCount → not (cqLive (card l) n) ≡ not (ltb 0 (rowAt cqT l n .places))
+    cq-free h = ap not (cq-live n h)
+
+    pub mr-free : n < mrCount → not (card l .mr n .live) ≡ not (eqb (rowAt mrLiveT l n) 1)
+    mr-free h = ap not (mr-live n h)
+
+    pub qp-free : n < qpCount → not (card l .qp n .live) ≡ not (eqb (rowAt qpT l n .live) 1)
+    qp-free h = ap not (qp-live n h)
+
+    pub mr-names : (d : ℕ) → n < mrCount → mrNames (card l) d n ≡ (eqb (rowAt mrLiveT l n) 1 && eqb (rowAt mrT l n .pd) d)
+    unfolding mrOf
+    mr-names d h = rw (mr-is n h) (go (eqb (rowAt mrLiveT l n) 1))
+      where
+        go : (b : Bool) → (b && eqb ((cond {A = Registration} b (registrationOf (rowAt mrT l n)) noRegistration) .pd) d) ≡ (b && eqb (rowAt mrT l n .pd) d)
+        go true = refl
+        go false = refl
+
+    abbrev named : Bool → Qp
+    named b = cond {A = Qp} b (liveQp (rowAt qpT l n) (rowAt waitingT l n) (receivesAt l n)) freeQp
+
+    pub qp-names : (d : ℕ) → n < qpCount → qpNames (card l) d n ≡ (eqb (rowAt qpT l n .live) 1 && eqb (rowAt qpT l n .pd) d)
+    unfolding qpOf
+    qp-names d h = rw (qp-is n h) (go (eqb (rowAt qpT l n .live) 1))
+      where
+        go : (b : Bool) → (named b .live && eqb (named b .pd) d) ≡ (b && eqb (rowAt qpT l n .pd) d)
+        go true = refl
+        go false = refl
+
+    pub qp-uses : (d : ℕ) → n < qpCount
+        → qpUses (card l) d n ≡ (eqb (rowAt qpT l n .live) 1 && (eqb (rowAt qpT l n .scq) d || eqb (rowAt qpT l n .rcq) d))
+    unfolding qpOf
+    qp-uses d h = rw (qp-is n h) (go (eqb (rowAt qpT l n .live) 1))
+      where
+        go : (b : Bool) → (named b .live && (eqb (named b .scq) d || eqb (named b .rcq) d)) ≡ (b && (eqb (rowAt qpT l n .scq) d || eqb (rowAt qpT l n .rcq) d))
+        go true = refl
+        go false = refl
 
   -- place k of a ring
   pub entry-at : (n k : ℕ) → k < mostPlaces → getD (entriesAt l n) k noCompletion ≡ rowAt entryT l (mostPlaces * n + k)

@@ -1,5 +1,6 @@
 // The lower part: the records' layouts and the card's tables in the lent state.
 pub mod accept;
+pub mod find;
 pub mod image;
 pub mod limits;
 

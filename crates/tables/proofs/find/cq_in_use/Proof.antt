@@ -1,0 +1,62 @@
+use borrow.Author.Needs.{needs}
+use denote.Ref.{now}
+use Prim.Native.Nat.{ℕ, _≤_, _<_, _-_, _+_}
+use mathlib.Core.Path.{_≡_, refl, sym, ap, _∙_}
+use native.Mathlib.Omega.{arith}
+use Rattle.tables.specs.Image.{card}
+use Rattle.wire.specs.Scan.{anyBelow, any-none, any-more}
+use Rattle.tables.specs.Limits.{qpCount}
+use Rattle.tables.specs.Objects.{qp-uses}
+use Rattle.tables.specs.Search.{qpUses}
+use Rattle.tables.proofs.find.cq_in_use.Statement.{statement}
+use Rattle.tables.proofs.find.cq_in_use.Tie as tie
+use Rattle.tables.proofs.find.cq_in_use.Reads as reads
+use Rattle.tables.proofs.find.cq_in_use.Lts as lts
+use Rattle.tables.proofs.image.load_qp.Reads as load-qp-reads
+
+abbrev Inv-loop : tie.InvT-loop
+Inv-loop img cq used₀ n₀ used n = (n ≤ qpCount) × (used ≡ anyBelow n (qpUses (card img) cq))
+
+abbrev μ-loop : tie.MeasureT-loop
+μ-loop img cq used₀ n₀ used n = qpCount - n
+
+loop-holds : tie.Need-loop-holds Inv-loop μ-loop
+loop-holds c = (search needs, sym (any-none _))
+
+load-qp-requires : tie.Need-load-qp-requires Inv-loop μ-loop
+load-qp-requires c κs = search needs
+
+cast-used : tie.Need-cast-used Inv-loop μ-loop
+cast-used c = search needs
+
+cast-used-2 : tie.Need-cast-used-2 Inv-loop μ-loop
+cast-used-2 c = search needs
+
+add-n : tie.Need-add-n Inv-loop μ-loop
+add-n c = search needs
+
+loop-less : tie.Need-loop-less Inv-loop μ-loop
+loop-less c = search needs
+
+loop-again : tie.Need-loop-again Inv-loop μ-loop
+loop-again c =
+    let h : c .before .before .before .before .before .loop .n < qpCount = search needs in
+    (search needs, rw (any-more, qp-uses _ (c .before .before .before .before .before .loop .n) _ h) (cc))
+
+returns : tie.Need-returns Inv-loop μ-loop
+returns c = let e : c .before .loop .n ≡ qpCount = omega arith in (cc)
+
+pub cq-in-use-spec : {M : Type 1} → statement M
+cq-in-use-spec =
+    tie.close
+    (tie.spec
+    Inv-loop
+    μ-loop
+    loop-holds
+    load-qp-requires
+    cast-used
+    cast-used-2
+    add-n
+    loop-less
+    loop-again
+    returns)
