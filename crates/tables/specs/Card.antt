@@ -55,6 +55,16 @@ withMr c f = record { memory = c .memory; pd = c .pd; cq = c .cq; mr = f; qp = c
 abbrev pub withQp : Card → (ℕ → Qp) → Card
 withQp c f = record { memory = c .memory; pd = c .pd; cq = c .cq; mr = c .mr; qp = f }
 
+-- a queue pair with other waiting receives
+abbrev pub withWaiting : Qp → List Receive → Qp
+withWaiting q ws =
+    record { live = q .live; pd = q .pd; signal = q .signal; scq = q .scq; rcq = q .rcq; state = q .state; dest = q .dest; waiting = ws }
+
+-- a list without its oldest element
+abbrev pub tail : {A : Type 0} → List A → List A
+tail [] = []
+tail (x ∷ xs) = xs
+
 abbrev pub noRegistration : Registration
 noRegistration = record { pd = 0; access = 0; start = 0; length = 0; virt = 0 }
 

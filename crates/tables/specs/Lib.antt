@@ -11,3 +11,6 @@ pub mod Tests
 pub mod Stores
 pub mod Kept
 pub mod KeptNamed
+pub mod Queue
+pub mod QueueLaws
+pub mod WaitingLaws

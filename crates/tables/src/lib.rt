@@ -3,6 +3,7 @@ pub mod accept;
 pub mod find;
 pub mod image;
 pub mod limits;
+pub mod queue;
 
 // A scatter/gather entry, document 01's piece: length bytes from the address on, under the key.
 pub struct Sge {
@@ -26,6 +27,14 @@ pub struct QueueHead {
     pub places: u8,
     pub first: u8,
     pub count: u8,
+}
+
+// A completion queue: its ring of entries, the place of the oldest, how many are unread, and its places.
+pub struct CompletionQueue {
+    pub ring: [Completion; 16],
+    pub first: usize,
+    pub count: usize,
+    pub places: usize,
 }
 
 // A queue pair: scq and rcq are its send and its receive completion queue; dest 8 is no destination.
