@@ -14,3 +14,4 @@ pub mod KeptNamed
 pub mod Queue
 pub mod QueueLaws
 pub mod WaitingLaws
+pub mod Reset

@@ -4,6 +4,7 @@ pub mod find;
 pub mod image;
 pub mod limits;
 pub mod queue;
+pub mod reset;
 
 // A scatter/gather entry, document 01's piece: length bytes from the address on, under the key.
 pub struct Sge {
