@@ -10,7 +10,7 @@ use native.Mathlib.Decide.{decLe}
 use lib.Dec.{T, eqb, ltb, leb}
 use lib.ListN.{length, getD, take, drop, List·getD-eq-default}
 use borrow.Author.Tests.{eq-eqb, ne-eqb, le-leb, lt-leb, lt-ltb, le-ltb}
-use Rattle.wire.specs.Checks.{_if_, refusal, has, only}
+use Rattle.wire.specs.Checks.{_if_, refusal, only}
 use Rattle.wire.specs.Codec.{Codec}
 use Rattle.wire.specs.Fields.{Field, fieldsAt, putFields, Fit, within, clear, apart, both, fieldsAt-stored, putFields-outside}
 use Rattle.wire.specs.Le.{leAt, putLe, leAt-below, leAt-split}
@@ -35,16 +35,16 @@ use Rattle.tables.specs.declared.Sge.{Sge}
 -- ---- command data, from byte 2 of the command on: wrong where the command does not have its exact length
 
 abbrev pub numberRead : List ℕ → NumberRead
-numberRead k = cond (eqb (length k) (2 + 4)) (number.Value (numberCodec .read k 2)) number.Wrong
+numberRead k = cond (eqb (length k) (2 + numberCodec .size)) (number.Value (numberCodec .read k 2)) number.Wrong
 
 abbrev pub registerRead : List ℕ → RegisterRead
-registerRead k = cond (eqb (length k) (2 + 32)) (register.Value (registerCodec .read k 2)) register.Wrong
+registerRead k = cond (eqb (length k) (2 + registerCodec .size)) (register.Value (registerCodec .read k 2)) register.Wrong
 
 abbrev pub createQpRead : List ℕ → CreateQpRead
-createQpRead k = cond (eqb (length k) (2 + 16)) (create.Value (createQpCodec .read k 2)) create.Wrong
+createQpRead k = cond (eqb (length k) (2 + createQpCodec .size)) (create.Value (createQpCodec .read k 2)) create.Wrong
 
 abbrev pub modifyQpRead : List ℕ → ModifyQpRead
-modifyQpRead k = cond (eqb (length k) (2 + 16)) (modify.Value (modifyQpCodec .read k 2)) modify.Wrong
+modifyQpRead k = cond (eqb (length k) (2 + modifyQpCodec .size)) (modify.Value (modifyQpCodec .read k 2)) modify.Wrong
 
 -- the values of an ack: the ack byte, then its numbers
 abbrev pub ackValues : Ack → List ℕ

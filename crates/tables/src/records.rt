@@ -107,7 +107,7 @@ pub fn inline_bytes(request: &[u8], n: usize) -> &[u8]
     if all < from {
         return &request[all..all];
     }
-    if all - from < n {
+    if all - from <= n {
         return &request[from..all];
     }
     let end = from + n;

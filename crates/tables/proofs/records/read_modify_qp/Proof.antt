@@ -12,6 +12,7 @@ use Rattle.wire.proofs.get32.Reads as get32-reads
 use Rattle.wire.proofs.get8.Reads as get8-reads
 
 returns : tie.Need-returns
+unfolding modifyQpCodec
 returns c = rw (ne-eqb (length (now (c .before .before .args .command))) 18 (c .if1 .taken))
 
 get32-requires : tie.Need-get32-requires

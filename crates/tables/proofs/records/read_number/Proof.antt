@@ -11,6 +11,7 @@ use Rattle.tables.proofs.records.read_number.Lts as lts
 use Rattle.wire.proofs.get32.Reads as get32-reads
 
 returns : tie.Need-returns
+unfolding numberCodec
 returns c = rw (ne-eqb (length (now (c .before .before .args .command))) 6 (c .if1 .taken))
 
 get32-requires : tie.Need-get32-requires

@@ -12,6 +12,7 @@ use Rattle.wire.proofs.get32.Reads as get32-reads
 use Rattle.wire.proofs.get64.Reads as get64-reads
 
 returns : tie.Need-returns
+unfolding registerCodec
 returns c = rw (ne-eqb (length (now (c .before .before .args .command))) 34 (c .if1 .taken))
 
 get32-requires : tie.Need-get32-requires
