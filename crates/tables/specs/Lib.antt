@@ -1,6 +1,7 @@
 pub mod Limits
 pub mod Card
 pub mod Records
+pub mod Reading
 pub mod Layout
 pub mod Image
 pub mod Accept

@@ -4,6 +4,7 @@ pub mod find;
 pub mod image;
 pub mod limits;
 pub mod queue;
+pub mod records;
 pub mod reset;
 
 // A scatter/gather entry, document 01's piece: length bytes from the address on, under the key.
@@ -127,4 +128,33 @@ pub struct ModifyQp {
     pub pad1: u8,
     pub pad2: u8,
     pub dest: u32,
+}
+
+// What the data of a command reads as, where it has its length: one number of 32 bits.
+pub enum NumberRead {
+    Value(u32),
+    Wrong,
+}
+
+pub enum RegisterRead {
+    Value(Registration),
+    Wrong,
+}
+
+pub enum CreateQpRead {
+    Value(CreateQp),
+    Wrong,
+}
+
+pub enum ModifyQpRead {
+    Value(ModifyQp),
+    Wrong,
+}
+
+// What an ack says: error; OK; OK and a number; OK, a region's number, and its key as lkey and as rkey.
+pub enum Ack {
+    Error,
+    Done,
+    Number(u32),
+    Keys(u32, u32),
 }

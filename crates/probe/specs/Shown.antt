@@ -1,0 +1,202 @@
+-- What the exports answer and write: the readings of the lower part as numbers. Assumes nothing.
+use mathlib.Core.Path.{_≡_, refl, sym, ap, _∙_}
+use mathlib.Core.Bool.{Bool, true, false, cond, _||_}
+use mathlib.Core.List.{List, [], _∷_, _++_}
+use Prim.Native.Nat.{ℕ, zero, suc, _+_, _*_, _≤_, _<_}
+use native.Mathlib.Numerals.{add-one}
+use native.Mathlib.Omega.{arith}
+use lib.Dec.{eqb, ltb}
+use lib.ListN.{length, getD, set, take, drop, drop-of-length-le}
+use lib.Seq.{take-all, take-length, drop-length}
+use borrow.Author.Tests.{eq-eqb, ne-eqb, lt-ltb, le-ltb}
+use Rattle.wire.specs.Fields.{Field, field, putFields}
+use Rattle.wire.specs.Le.{leAt}
+use Rattle.wire.specs.Rows.{rows}
+use Rattle.tables.specs.Limits.{mostSges}
+use Rattle.tables.specs.Records.{controlClass, inlineLength, sgeCodec, sendSge}
+use Rattle.tables.specs.Reading.{numberRead, registerRead, createQpRead, modifyQpRead}
+use Rattle.tables.specs.declared.CreateQpRead.{CreateQpRead}
+use Rattle.tables.specs.declared.CreateQpRead.the-variants as create
+use Rattle.tables.specs.declared.ModifyQpRead.{ModifyQpRead}
+use Rattle.tables.specs.declared.ModifyQpRead.the-variants as modify
+use Rattle.tables.specs.declared.NumberRead.{NumberRead}
+use Rattle.tables.specs.declared.NumberRead.the-variants as number
+use Rattle.tables.specs.declared.ReceiveRecord.{ReceiveRecord}
+use Rattle.tables.specs.declared.ReceiveRead.{ReceiveRead}
+use Rattle.tables.specs.declared.ReceiveRead.the-variants as receive
+use Rattle.tables.specs.declared.RegisterRead.{RegisterRead}
+use Rattle.tables.specs.declared.RegisterRead.the-variants as register
+use Rattle.tables.specs.declared.SendRecord.{SendRecord}
+use Rattle.tables.specs.declared.SendRead.{SendRead}
+use Rattle.tables.specs.declared.SendRead.the-variants as send
+use Rattle.tables.specs.declared.Sge.{Sge}
+
+-- scatter/gather entries, one after the other from `at` on
+unfoldable pub putSges : List ℕ → ℕ → List Sge → List ℕ
+putSges o at [] = o
+putSges o at (p ∷ ps) = putSges (sgeCodec .put o at p) (at + 16) ps
+
+-- ---- a send record
+
+abbrev pub sendFields : List Field
+sendFields = field 0 8 ∷ field 8 1 ∷ field 9 1 ∷ field 10 2 ∷ field 12 4 ∷ field 16 8 ∷ field 24 4 ∷ field 28 4 ∷ []
+
+abbrev pub sendValues : SendRecord → List ℕ
+sendValues s = s .wr ∷ s .opcode ∷ s .flags ∷ 0 ∷ s .imm ∷ s .address ∷ s .key ∷ s .count ∷ []
+
+abbrev pub sendAnswer : SendRead → ℕ
+sendAnswer (send.Record s) = 0
+sendAnswer (send.Refused n) = n
+
+-- x is the record, o what the buffer held
+abbrev pub sendOut : SendRead → List ℕ → List ℕ → List ℕ
+sendOut (send.Record s) x o = cond (ltb (length o) 96) o (putSges (putFields sendFields o 0 (sendValues s)) 32 (rows mostSges (sendSge x)))
+sendOut (send.Refused n) x o = o
+
+-- the inline part: as long as the number at 560 says, where the record has it
+abbrev pub inlinePart : List ℕ → List ℕ
+inlinePart x = take (cond (ltb (length x) 562) 0 (inlineLength x)) (drop 48 x)
+
+-- the part p over the buffer's first bytes, as much as it holds
+abbrev pub laid : List ℕ → List ℕ → List ℕ
+laid p o = take (length o) p ++ drop (length p) o
+
+-- ---- a receive record
+
+abbrev pub receiveFields : List Field
+receiveFields = field 0 8 ∷ field 8 4 ∷ field 12 4 ∷ []
+
+abbrev pub receiveAnswer : ReceiveRead → ℕ
+receiveAnswer (receive.Record r) = 0
+receiveAnswer (receive.Refused n) = n
+
+abbrev pub bothSges : ReceiveRecord → List Sge
+bothSges r =
+    record { address = r .address0; length = r .length0; key = r .key0 }
+    ∷ record { address = r .address1; length = r .length1; key = r .key1 } ∷ []
+
+abbrev pub receiveOut : ReceiveRead → List ℕ → List ℕ
+receiveOut (receive.Record r) o = cond (ltb (length o) 48) o (putSges (putFields receiveFields o 0 (r .wr ∷ r .count ∷ 0 ∷ [])) 16 (bothSges r))
+receiveOut (receive.Refused n) o = o
+
+-- ---- a command
+
+-- what a command reads as: the answer of its refusal, or its number and its data as words
+pub data Told : Type 0 where
+  refused : ℕ → Told
+  words : List ℕ → Told
+
+abbrev pub toldAnswer : Told → ℕ
+toldAnswer (refused n) = n
+toldAnswer (words vs) = 0
+
+abbrev pub wordFields : List Field
+wordFields = field 0 8 ∷ field 8 8 ∷ field 16 8 ∷ field 24 8 ∷ field 32 8 ∷ field 40 8 ∷ []
+
+abbrev pub toldOut : Told → List ℕ → List ℕ
+toldOut (refused n) o = o
+toldOut (words vs) o = cond (ltb (length o) 48) o (putFields wordFields o 0 vs)
+
+abbrev pub numberTold : ℕ → NumberRead → Told
+numberTold n (number.Value v) = words (n ∷ v ∷ [])
+numberTold n number.Wrong = refused 1
+
+abbrev pub createPdTold : List ℕ → Told
+createPdTold k = cond (eqb (length k) 2) (words (4 ∷ [])) (refused 1)
+
+abbrev pub registerTold : RegisterRead → Told
+registerTold (register.Value r) = words (7 ∷ r .pd ∷ r .access ∷ r .start ∷ r .length ∷ r .virt ∷ [])
+registerTold register.Wrong = refused 1
+
+abbrev pub createQpTold : CreateQpRead → Told
+createQpTold (create.Value r) = words (9 ∷ r .pd ∷ r .kind ∷ r .signal ∷ r .scq ∷ r .rcq ∷ [])
+createQpTold create.Wrong = refused 1
+
+abbrev pub modifyQpTold : ModifyQpRead → Told
+modifyQpTold (modify.Value r) = words (10 ∷ r .qpn ∷ r .mask ∷ r .state ∷ (r .pad0 + 256 * r .pad1 + 65536 * r .pad2) ∷ r .dest ∷ [])
+modifyQpTold modify.Wrong = refused 1
+
+-- the commands of one number
+abbrev pub isNumber : ℕ → Bool
+isNumber n = eqb n 2 || eqb n 3 || eqb n 5 || eqb n 8 || eqb n 12
+
+unfoldable pub dataTold : ℕ → List ℕ → Told
+dataTold n k =
+    cond (isNumber n) (numberTold n (numberRead k))
+    (cond (eqb n 4) (createPdTold k)
+    (cond (eqb n 7) (registerTold (registerRead k))
+    (cond (eqb n 9) (createQpTold (createQpRead k))
+    (cond (eqb n 10) (modifyQpTold (modifyQpRead k)) (refused 13)))))
+
+unfoldable pub commandTold : List ℕ → Told
+commandTold k =
+    cond (ltb (length k) 2) (refused 1) (cond (eqb (leAt 1 k 0) controlClass) (dataTold (leAt 1 k 1) k) (refused 13))
+
+-- ---- laws
+
+-- one byte more is copied
+pub copied-more : (p o : List ℕ) (i : ℕ) → i < length p → i < length o
+    → set (take i p ++ drop i o) i (getD p i 0) ≡ take (i + 1) p ++ drop (i + 1) o
+copied-more p o i a b = rw add-one (go p o i a b)
+  where
+    go : (p o : List ℕ) (i : ℕ) → i < length p → i < length o → set (take i p ++ drop i o) i (getD p i 0) ≡ take (suc i) p ++ drop (suc i) o
+    go [] o i a b = absurd (omega arith)
+    go (x ∷ xs) [] i a b = absurd (omega arith)
+    go (x ∷ xs) (y ∷ ys) zero a b = refl
+    go (x ∷ xs) (y ∷ ys) (suc i) a b = ap (λ (l : List ℕ). x ∷ l) (go xs ys i (omega arith) (omega arith))
+
+module _ (p o : List ℕ) where
+  pub laid-all : length p ≤ length o → take (length p) p ++ drop (length p) o ≡ laid p o
+  laid-all h = ap (λ (l : List ℕ). l ++ drop (length p) o) (take-length p ∙ sym (take-all (length o) p h))
+
+  pub laid-part : length o < length p → take (length o) p ++ drop (length o) o ≡ laid p o
+  laid-part h = ap (λ (l : List ℕ). take (length o) p ++ l) (drop-length o ∙ sym (drop-of-length-le o {i = length p} (omega arith)))
+
+-- four entries, one by one
+pub four : (ps : List Sge) (d : Sge) → length ps ≡ 4 → getD ps 0 d ∷ getD ps 1 d ∷ getD ps 2 d ∷ getD ps 3 d ∷ [] ≡ ps
+four [] d h = absurd (omega arith)
+four (a ∷ []) d h = absurd (omega arith)
+four (a ∷ b ∷ []) d h = absurd (omega arith)
+four (a ∷ b ∷ c ∷ []) d h = absurd (omega arith)
+four (a ∷ b ∷ c ∷ e ∷ []) d h = refl
+four (a ∷ b ∷ c ∷ e ∷ f ∷ ps) d h = absurd (omega arith)
+
+-- ---- the ways in which a command's reading ends
+
+module _ (n : ℕ) (k : List ℕ) where
+  pub told-number : isNumber n ≡ true → dataTold n k ≡ numberTold n (numberRead k)
+  unfolding dataTold
+  told-number e = rw e
+
+  pub told-create-pd : n ≡ 4 → dataTold n k ≡ createPdTold k
+  unfolding dataTold
+  told-create-pd e = rw e
+
+  pub told-register : n ≡ 7 → dataTold n k ≡ registerTold (registerRead k)
+  unfolding dataTold
+  told-register e = rw e
+
+  pub told-create-qp : n ≡ 9 → dataTold n k ≡ createQpTold (createQpRead k)
+  unfolding dataTold
+  told-create-qp e = rw e
+
+  pub told-modify-qp : n ≡ 10 → dataTold n k ≡ modifyQpTold (modifyQpRead k)
+  unfolding dataTold
+  told-modify-qp e = rw e
+
+  pub told-unknown : isNumber n ≡ false → (n ≡ 4 → ⊥) → (n ≡ 7 → ⊥) → (n ≡ 9 → ⊥) → (n ≡ 10 → ⊥) → dataTold n k ≡ refused 13
+  unfolding dataTold
+  told-unknown e a b c d = rw (e, ne-eqb n 4 a, ne-eqb n 7 b, ne-eqb n 9 c, ne-eqb n 10 d)
+
+module _ (k : List ℕ) where
+  pub told-short : length k < 2 → commandTold k ≡ refused 1
+  unfolding commandTold
+  told-short h = rw (lt-ltb (length k) 2 h)
+
+  pub told-class : 2 ≤ length k → (leAt 1 k 0 ≡ controlClass → ⊥) → commandTold k ≡ refused 13
+  unfolding commandTold
+  told-class h e = rw (le-ltb (length k) 2 h, ne-eqb (leAt 1 k 0) controlClass e)
+
+  pub told-data : 2 ≤ length k → leAt 1 k 0 ≡ controlClass → commandTold k ≡ dataTold (leAt 1 k 1) k
+  unfolding commandTold
+  told-data h e = rw (le-ltb (length k) 2 h, eq-eqb (leAt 1 k 0) controlClass e)

@@ -1,0 +1,55 @@
+use Rattle.wire.specs.Fields.{fieldsAt}
+use Rattle.tables.specs.Records.{modifyQpCodec}
+use denote.Ref.{now}
+use borrow.Author.Tests.{eq-eqb, ne-eqb}
+use lib.ListN.{length}
+use borrow.Author.Needs.{needs}
+use Rattle.tables.proofs.records.read_modify_qp.Statement.{statement}
+use Rattle.tables.proofs.records.read_modify_qp.Tie as tie
+use Rattle.tables.proofs.records.read_modify_qp.Reads as reads
+use Rattle.tables.proofs.records.read_modify_qp.Lts as lts
+use Rattle.wire.proofs.get32.Reads as get32-reads
+use Rattle.wire.proofs.get8.Reads as get8-reads
+
+returns : tie.Need-returns
+unfolding modifyQpCodec
+returns c = rw (ne-eqb (length (now (c .before .before .args .command))) 18 (c .if1 .taken))
+
+get32-requires : tie.Need-get32-requires
+get32-requires c κs = search needs
+
+get32-requires-2 : tie.Need-get32-requires-2
+get32-requires-2 c κs = search needs
+
+get8-requires : tie.Need-get8-requires
+get8-requires c κs = search needs
+
+get8-requires-2 : tie.Need-get8-requires-2
+get8-requires-2 c κs = search needs
+
+get8-requires-3 : tie.Need-get8-requires-3
+get8-requires-3 c κs = search needs
+
+get8-requires-4 : tie.Need-get8-requires-4
+get8-requires-4 c κs = search needs
+
+get32-requires-3 : tie.Need-get32-requires-3
+get32-requires-3 c κs = search needs
+
+returns-2 : tie.Need-returns-2
+unfolding modifyQpCodec fieldsAt
+returns-2 c = let e = eq-eqb (length (now (c .before .before .before .before .before .before .before .before .before .args .command))) 18 (c .before .before .before .before .before .before .before .if1 .left) in rw e (cc)
+
+pub read-modify-qp-spec : {M : Type 1} → statement M
+read-modify-qp-spec =
+    tie.close
+    (tie.spec
+    returns
+    get32-requires
+    get32-requires-2
+    get8-requires
+    get8-requires-2
+    get8-requires-3
+    get8-requires-4
+    get32-requires-3
+    returns-2)
