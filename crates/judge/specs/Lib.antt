@@ -1,0 +1,3 @@
+pub mod Log
+pub mod Judge
+pub mod Demand3
