@@ -86,7 +86,7 @@ module _ (c : Card) (l : Log) (a : Agree c l) (b : List ℕ) (wide : ackLeast �
   command (Command.destroyQp q) p =
       record { keys = a .keys; pairs = split q _ (rw same (λ e. absurd (false≢true e))) (λ j e. rw e (a .pairs j)) }
 
-start : (n : ℕ) → Agree (fresh n) []
+pub start : (n : ℕ) → Agree (fresh n) []
 unfolding standing domain peer accepted taken
 start n =
     record {

@@ -3,3 +3,5 @@ pub mod Acks
 pub mod Keys
 pub mod Pairs
 pub mod Agree
+pub mod Demand3
+pub mod Run

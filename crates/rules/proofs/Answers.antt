@@ -1,0 +1,138 @@
+-- Demand 1: every answer is a number of the table, and what an answer other than 0 leaves. Assumes nothing.
+use mathlib.Core.Path.{_≡_, refl, sym, ap, _∙_}
+use mathlib.Core.Bool.{Bool, true, false, cond, not, _&&_, _||_, true≢false, false≢true}
+use mathlib.Core.List.{List, [], _∷_, _++_}
+use mathlib.Core.Option.{Option, none, some}
+use Prim.Native.Nat.{ℕ, _≤_}
+use native.Mathlib.Omega.{arith}
+use lib.Dec.{eqb, leb}
+use lib.ListN.{set}
+use borrow.Author.Tests.{leb-true, le-leb, ne-eqb, eqb-true}
+use Rattle.wire.specs.Checks.{Check, _if_, refusal}
+use Rattle.wire.specs.Fields.{putFields}
+use Rattle.wire.specs.Le.{putLe}
+use Rattle.wire.specs.Scan.{and-left, and-right, both-true}
+use Rattle.tables.specs.Card.{Card}
+use Rattle.tables.specs.Records.{Command, commandOf, sendChecks, receiveChecks, ackFields}
+use Rattle.rules.specs.Lists.{all}
+use Rattle.rules.specs.declared.Cause.the-variants.{Peer, Place}
+use Rattle.rules.specs.declared.Answer.the-variants.{Done, Held, Refused}
+use Rattle.rules.specs.Answer.{number, answered, isDone, listed}
+use Rattle.rules.specs.Control.{commandChecks}
+use Rattle.rules.specs.Touch.{requestOf}
+use Rattle.rules.specs.Send.{deliveryChecks}
+use Rattle.rules.specs.Queues.{joinChecks, flushChecks, pollChecks}
+use Rattle.rules.specs.Call.{Call, memoryOf, bufferOf}
+use Rattle.rules.specs.Calls.{checks, resetChecks, controlChecks, bufferChecks, settled, step, owed, usable, bufferRefused, Result}
+
+-- the tests' numbers stand in the table below 14
+abbrev fine : Check → Bool
+fine k = leb (k .no) 13
+
+all-append : (xs ys : List Check) → all fine xs ≡ true → all fine ys ≡ true → all fine (xs ++ ys) ≡ true
+unfolding all
+all-append [] ys p e = e
+all-append (x ∷ xs) ys p e =
+    rw (and-left (fine x) (all fine xs) p) (all-append xs ys (and-right (fine x) (all fine xs) p) e)
+
+first-fine : (cs : List Check) (n : ℕ) → all fine cs ≡ true → refusal cs ≡ some n → n ≤ 13
+unfolding all
+first-fine [] n p e = let z : _≡_ {A = ℕ} 0 1 = cc in absurd (omega arith)
+first-fine (c ∷ cs) n p e = go (c .bad) (first-fine cs n (and-right (fine c) (all fine cs) p)) e
+  where
+    go : (b : Bool) → (refusal cs ≡ some n → n ≤ 13) → cond b (some (c .no)) (refusal cs) ≡ some n → n ≤ 13
+    go true ih e = let s : c .no ≡ n = cc in let h : c .no ≤ 13 = leb-true (c .no) 13 (and-left (fine c) (all fine cs) p) in omega arith
+    go false ih e = ih e
+
+command-fine : (c : Card) (k : Command) → all fine (commandChecks c k) ≡ true
+unfolding all commandChecks
+command-fine c (Command.createCq n) = refl
+command-fine c (Command.destroyCq n) = refl
+command-fine c Command.createPd = refl
+command-fine c (Command.destroyPd n) = refl
+command-fine c (Command.register g) = refl
+command-fine c (Command.deregister n) = refl
+command-fine c (Command.createQp r) = refl
+command-fine c (Command.modifyQp r) = refl
+command-fine c (Command.destroyQp q) = refl
+
+checks-fine : (c : Card) (k : Call) → all fine (checks c k) ≡ true
+unfolding all checks resetChecks controlChecks bufferChecks sendChecks receiveChecks deliveryChecks joinChecks flushChecks pollChecks
+checks-fine c (Call.reset n) = refl
+checks-fine c (Call.control k a) = all-append (controlChecks k a) (commandChecks c (commandOf k)) refl (command-fine c (commandOf k))
+checks-fine c (Call.send q x m) = refl
+checks-fine c (Call.receive q x) = refl
+checks-fine c (Call.flush q) = refl
+checks-fine c (Call.poll n b) = refl
+
+pub refusal-fine : (c : Card) (k : Call) (n : ℕ) → refusal (checks c k) ≡ some n → n ≤ 13
+refusal-fine c k n e = first-fine (checks c k) n (checks-fine c k) e
+
+-- the number of an answer is that of the test
+pub answered-number : (n : ℕ) → number (answered 0 (some n)) ≡ n
+answered-number n = go (eqb n 5) refl (eqb n 6) refl
+  where
+    go : (a : Bool) → eqb n 5 ≡ a → (b : Bool) → eqb n 6 ≡ b → number (answered 0 (some n)) ≡ n
+    go true p b q = rw p (sym (eqb-true n 5 p))
+    go false p true q = rw (p, q) (sym (eqb-true n 6 q))
+    go false p false q = rw (p, q)
+
+pub answered-not-done : (n : ℕ) → isDone (answered 0 (some n)) ≡ false
+answered-not-done n = go (eqb n 5) (eqb n 6)
+  where
+    go : (a b : Bool) → isDone (cond a (Held Peer) (cond b (Held Place) (Refused n))) ≡ false
+    go true b = refl
+    go false true = refl
+    go false false = refl
+
+-- the answer of one call on a card is a number of the table below 14
+pub step-below : (c : Card) (k : Call) → number (step c k .answer) ≤ 13
+unfolding step
+step-below c k = go (refusal (checks c k)) refl
+  where
+    go : (o : Option ℕ) → refusal (checks c k) ≡ o → number (settled o c k .answer) ≤ 13
+    go none e = omega arith
+    go (some n) e = rw (answered-number n) (refusal-fine c k n e)
+
+-- an answer other than 0 leaves the card and the memory; of the answer buffer it leaves all but the ack byte of a refused command
+pub record Unchanged (c : Card) (k : Call) (r : Result) : Type 0 where
+  pub card : r .card ≡ c
+  pub memory : r .memory ≡ memoryOf k
+  pub buffer : r .buffer ≡ bufferRefused (number (r .answer)) k
+
+settled-unchanged : (c : Card) (k : Call) (n : ℕ) → Unchanged c k (settled (some n) c k)
+settled-unchanged c k n = record { card = refl; memory = refl; buffer = rw (answered-number n) }
+
+pub step-unchanged : (c : Card) (k : Call) → isDone (step c k .answer) ≡ false → Unchanged c k (step c k)
+unfolding step
+step-unchanged c k = go (refusal (checks c k))
+  where
+    go : (o : Option ℕ) → isDone (settled o c k .answer) ≡ false → Unchanged c k (settled o c k)
+    go none e = absurd (true≢false e)
+    go (some n) e = settled-unchanged c k n
+
+-- the ack byte 1 of a refused command: the first byte, and no other
+pub error-ack : (a : List ℕ) → putFields ackFields a 0 (1 ∷ []) ≡ set a 0 1
+unfolding putFields putLe
+error-ack a = refl
+
+module _ (cardOf : List ℕ → Card) (accepts : List ℕ → Bool) where
+  -- demand 1: every answer is a number of the table
+  pub owed-listed : (l : List ℕ) (k : Call) → listed (number (owed cardOf accepts l k .answer)) ≡ true
+  owed-listed l k = go (usable cardOf accepts l k)
+    where
+      go : (b : Bool) → listed (number (cond b (step (cardOf l) k) (settled (some 15) (cardOf l) k) .answer)) ≡ true
+      go true =
+          let h = step-below (cardOf l) k in
+          both-true _ _ (le-leb (number (step (cardOf l) k .answer)) 15 (omega arith))
+          (ap not (ne-eqb (number (step (cardOf l) k .answer)) 14 (omega arith)))
+      go false = refl
+
+  -- demand 1: a refused or held call changes no memory, no table and no lent byte, but for the one ack byte of a refused command
+  pub owed-unchanged : (l : List ℕ) (k : Call) → isDone (owed cardOf accepts l k .answer) ≡ false → Unchanged (cardOf l) k (owed cardOf accepts l k)
+  owed-unchanged l k = go (usable cardOf accepts l k)
+    where
+      go : (b : Bool) → isDone (cond b (step (cardOf l) k) (settled (some 15) (cardOf l) k) .answer) ≡ false →
+          Unchanged (cardOf l) k (cond b (step (cardOf l) k) (settled (some 15) (cardOf l) k))
+      go true e = step-unchanged (cardOf l) k e
+      go false e = settled-unchanged (cardOf l) k 15
