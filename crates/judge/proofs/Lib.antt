@@ -5,3 +5,4 @@ pub mod Pairs
 pub mod Agree
 pub mod Demand3
 pub mod Run
+pub mod Bytes
