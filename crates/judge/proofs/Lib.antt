@@ -6,3 +6,4 @@ pub mod Agree
 pub mod Demand3
 pub mod Run
 pub mod Bytes
+pub mod Example
