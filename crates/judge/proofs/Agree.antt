@@ -24,12 +24,13 @@ use Rattle.rules.specs.Queues.{joinChecks, joined, flushChecks, flushed, polled
 use Rattle.rules.specs.Call.{Call}
 use Rattle.rules.specs.Calls.{checks, controlChecks, effect, statusOf, bufferAfter}
 use Rattle.rules.specs.declared.Answer.the-variants.{Done}
+use Rattle.rules.proofs.Variants.{next-small}
 use Rattle.rules.proofs.Tests.{passed-before, passed-after}
 use Rattle.judge.specs.Log.{Log, Note, noteCommand, ackData, fed}
 use Rattle.judge.specs.Judge.{Standing, standing, standingBy, domain, domainBy, peer, peerBy, accepted, acceptedBy, taken, takenBy}
 use Rattle.judge.proofs.Acks.{one-number, three-numbers}
 use Rattle.judge.proofs.Keys
-use Rattle.judge.proofs.Keys.{Keys, next-small}
+use Rattle.judge.proofs.Keys.{Keys}
 use Rattle.judge.proofs.Pairs
 use Rattle.judge.proofs.Pairs.{Pair, Said, said, took}
 

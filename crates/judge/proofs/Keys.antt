@@ -13,6 +13,7 @@ use Rattle.tables.specs.declared.Registration.{Registration}
 use Rattle.rules.specs.Touch.{byteOf}
 use Rattle.rules.specs.Permit.{keyOf, found, lookup, covers, placeIn, Use}
 use Rattle.rules.specs.Control.{nextVariant}
+use Rattle.rules.proofs.Variants.{next-small, slot}
 use Rattle.judge.specs.Judge.{Standing, Right, grants, unless, passesBy, placeBy}
 use Rattle.judge.proofs.Rights.{needs-right, same-right}
 
@@ -33,16 +34,6 @@ pub record Keys (n : ℕ) (mr : ℕ → Mr) (st : ℕ → Option Standing) : Typ
   pub finds : (k : ℕ) → heldAt (mr (k / 256)) (k / 256) k ≡ st k
   pub inside : (i : ℕ) → mr i .live ≡ true → Inside n (mr i .reg)
   pub small : (i : ℕ) → mr i .variant ≤ 255
-
-pub next-small : (v : ℕ) → nextVariant v ≤ 255
-next-small v = go (leb 255 v) refl
-  where
-    go : (b : Bool) → leb 255 v ≡ b → cond b 1 (v + 1) ≤ 255
-    go true e = omega arith
-    go false e = omega (arith, leb-false 255 v e)
-
-slot : (i v : ℕ) → v ≤ 255 → keyOf i v / 256 ≡ i
-slot i v h = omega arith
 
 -- a key of another slot is another key
 other-key : (i v k : ℕ) → v ≤ 255 → eqb i (k / 256) ≡ false → eqb (keyOf i v) k ≡ false

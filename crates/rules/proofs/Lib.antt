@@ -2,3 +2,5 @@ pub mod Tests
 pub mod Answers
 pub mod Stored
 pub mod Marks
+pub mod Variants
+pub mod Dropped

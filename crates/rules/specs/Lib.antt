@@ -8,3 +8,4 @@ pub mod Queues
 pub mod Call
 pub mod Calls
 pub mod Marks
+pub mod Dropped
