@@ -7,3 +7,4 @@ pub mod Demand3
 pub mod Run
 pub mod Bytes
 pub mod Example
+pub mod Count

@@ -27,23 +27,27 @@ use Rattle.judge.proofs.Demand3.{Claim, correct, each-send, agrees-afte
 not-refused : (n : ℕ) → answered 0 (some n) ≡ Done 0 → ⊥
 not-refused n e = true≢false (sym (ap isDone e) ∙ answered-not-done n)
 
-reset-done : (c : Card) (n : ℕ) → step c (Call.reset n) .answer ≡ Done 0 → Agree (step c (Call.reset n) .card) []
+reset-done : (c : Card) (n : ℕ) → step c (Call.reset n) .answer ≡ Done 0 → step c (Call.reset n) .card ≡ fresh n
 unfolding step effect
 reset-done c n = go (refusal (checks c (Call.reset n)))
   where
-    go : (o : Option ℕ) → settled o c (Call.reset n) .answer ≡ Done 0 → Agree (settled o c (Call.reset n) .card) []
-    go none e = start n
+    go : (o : Option ℕ) → settled o c (Call.reset n) .answer ≡ Done 0 → settled o c (Call.reset n) .card ≡ fresh n
+    go none e = refl
     go (some k) e = absurd (not-refused k e)
 
 module _ (cardOf : List ℕ → Card) (accepts : List ℕ → Bool) where
   module _ (st : List ℕ) (n : ℕ) (x : Seen) (is-reset : x .call ≡ Call.reset n) (met : Met cardOf accepts st x) (done : x .answer ≡ Done 0) where
-    begun : Agree (cardOf (x .state)) []
-    begun = rw (met .card, is-reset) (go (eqb (length st) image) (rw is-reset at (sym (met .answer) ∙ done)))
+    -- whatever the state held
+    pub fresh-card : cardOf (x .state) ≡ fresh n
+    fresh-card = rw (met .card, is-reset) (go (eqb (length st) image) (rw is-reset at (sym (met .answer) ∙ done)))
       where
         go : (b : Bool) → cond b (step (cardOf st) (Call.reset n)) (settled (some 15) (cardOf st) (Call.reset n)) .answer ≡ Done 0 →
-            Agree (cond b (step (cardOf st) (Call.reset n)) (settled (some 15) (cardOf st) (Call.reset n)) .card) []
+            cond b (step (cardOf st) (Call.reset n)) (settled (some 15) (cardOf st) (Call.reset n)) .card ≡ fresh n
         go true e = reset-done (cardOf st) n e
         go false e = absurd (not-refused 15 e)
+
+    begun : Agree (cardOf (x .state)) []
+    begun = rw fresh-card (start n)
 
     -- any claim of the work requests of a list
     pub every : (P : Sent) → Claim P → (xs : List Seen) → Linked cardOf accepts (x .state) xs → EachSend P [] xs

@@ -1,3 +1,4 @@
 pub mod Log
 pub mod Judge
 pub mod Demand3
+pub mod Count
