@@ -4,3 +4,4 @@ pub mod Stored
 pub mod Marks
 pub mod Variants
 pub mod Dropped
+pub mod Pinned
