@@ -12,7 +12,7 @@ use Rattle.wire.specs.Checks.{Check, refusal, Passed}
 use Rattle.wire.specs.Fields.{putFields}
 use Rattle.wire.specs.Scan.{lowest-passes, and-left, and-right}
 use Rattle.wire.specs.Slots.{upd, split, same}
-use Rattle.tables.specs.Limits.{mrCount, qpCount}
+use Rattle.tables.specs.Limits.{mrCount, qpCount, mostAddress}
 use Rattle.tables.specs.Card.{Card, Mr, Qp, fresh}
 use Rattle.tables.specs.Records.{Command, commandOf, ackFields, ackLeast, sendChecks}
 use Rattle.rules.specs.Lists.{isSome, isEmpty, names, orElse}
@@ -67,7 +67,7 @@ module _ (c : Card) (l : Log) (a : Agree c l) (b : List ℕ) (wide : ackLeast �
         keys = rw (three-numbers b wide (freeMrn c) (keyOf (freeMrn c) (newVariant c)) (keyOf (freeMrn c) (newVariant c)) (omega arith) (omega arith) (omega arith))
             (Keys.registers (c .memory) (c .mr) (standing l) (a .keys) (freeMrn c) g
             (not-true (c .mr (freeMrn c) .live) (lowest-passes mrCount (λ i. not (c .mr i .live)) i))
-            (Keys.flat-inside (c .memory) g (ltb-false (c .memory) (g .start + g .length) (p .1 .1 .1 .0))));
+            (Keys.flat-inside (c .memory) g (ltb-false (c .memory) (g .start + g .length) (p .1 .1 .1 .0)) (ltb-false mostAddress (g .virt + g .length) (p .1 .1 .1 .1 .0))));
         pairs = a .pairs;
       }
   command (Command.deregister n) p =

@@ -3,7 +3,7 @@ use mathlib.Core.Path.{_≡_, refl, sym, ap, _∙_}
 use mathlib.Core.Logic.{_≢_}
 use mathlib.Core.Bool.{Bool, true, false, cond, not, _&&_, _||_, true≢false, false≢true}
 use mathlib.Core.List.{List, [], _∷_, map}
-use Prim.Native.Nat.{ℕ, zero, suc, _+_, _≤_, _<_}
+use Prim.Native.Nat.{ℕ, zero, suc, _+_, _^_, _≤_, _<_}
 use native.Mathlib.Omega.{arith}
 use lib.Dec.{eqb, leb}
 use lib.ListN.{length, getD, take}
@@ -91,7 +91,7 @@ module _ (l : Log) (q : ℕ) (r : Request) (ok : judge l q r ≡ true) (small : 
       go true = far-length
       go false = own-length r h
 
-  module _ (m : List ℕ) (inside : (x : ℕ) (u : Right) (b : Byte) → passes l x u b ≡ true → placed l b < length m) where
+  module _ (m : List ℕ) (inside : (x : ℕ) (u : Right) (b : Byte) → passes l x u b ≡ true → (placed l b < length m) × (b .address < 2 ^ 64)) where
     abbrev places : List ℕ
     places = map (placed l) (targetBytes r w)
 
@@ -126,9 +126,9 @@ module _ (l : Log) (q : ℕ) (r : Request) (ok : judge l q r ≡ true) (small : 
       where
         go : (b : Bool) → reads (r .opcode) ≡ b → length (cond b (ownBytes r) (farBytes r w)) ≡ total r →
             placed l (getD (cond b (ownBytes r) (farBytes r w)) i noByte) < length m
-        go true e n = inside q (ownRight (r .opcode)) _ (all-at (passes l q (ownRight (r .opcode))) (ownBytes r) i noByte (omega arith) own-passes)
+        go true e n = inside q (ownRight (r .opcode)) _ (all-at (passes l q (ownRight (r .opcode))) (ownBytes r) i noByte (omega arith) own-passes) .0
         go false e n =
-            inside (peerNo l q) (farRight (r .opcode)) _ (all-at (passes l (peerNo l q) (farRight (r .opcode))) (farBytes r w) i noByte (omega arith) far-passes)
+            inside (peerNo l q) (farRight (r .opcode)) _ (all-at (passes l (peerNo l q) (farRight (r .opcode))) (farBytes r w) i noByte (omega arith) far-passes) .0
 
     written : (i : ℕ) → i < total r → ((j : ℕ) → i < j → j < total r → target l q r j ≢ target l q r i) →
         getD (stored m places values) (target l q r i) 0 ≡ source l q r m i

@@ -2,12 +2,13 @@
 use mathlib.Core.Path.{_≡_, refl, sym, ap, subst, _∙_}
 use mathlib.Core.Bool.{Bool, true, false, cond, not, _&&_, _||_, false≢true}
 use mathlib.Core.Option.{Option, none, some}
-use Prim.Native.Nat.{ℕ, zero, suc, _+_, _*_, _/_, _≤_, _<_}
+use Prim.Native.Nat.{ℕ, _+_, _*_, _/_, _^_, _≤_, _<_}
 use native.Mathlib.Omega.{arith}
 use lib.Dec.{eqb, leb, ltb}
 use borrow.Author.Tests.{eq-eqb, ne-eqb, eqb-true, eqb-false, leb-false, leb-true, ltb-true}
 use Rattle.wire.specs.Slots.{upd, split, same}
 use Rattle.wire.specs.Scan.{and-left, and-right}
+use Rattle.tables.specs.Limits.{mostAddress}
 use Rattle.tables.specs.Card.{Mr, freeMr}
 use Rattle.tables.specs.declared.Registration.{Registration}
 use Rattle.rules.specs.Touch.{byteOf}
@@ -17,13 +18,16 @@ use Rattle.rules.proofs.Variants.{next-small, slot}
 use Rattle.judge.specs.Judge.{Standing, Right, grants, unless, passesBy, placeBy}
 use Rattle.judge.proofs.Rights.{needs-right, same-right}
 
--- every address of the region means a byte of a memory of length n
-abbrev pub Inside : ℕ → Registration → Type 0
-Inside n g = (a : ℕ) → g .virt ≤ a → a < g .virt + g .length → byteOf g a < n
+-- every address of the region means a byte of a memory of length n, and is below 2^64
+abbrev pub Sits : (n : ℕ) → Registration → (a : ℕ) → Type 0
+Sits n g a = (byteOf g a < n) × (a < 2 ^ 64)
 
-pub flat-inside : (n : ℕ) (g : Registration) → g .start + g .length ≤ n → Inside n g
+abbrev pub Inside : ℕ → Registration → Type 0
+Inside n g = (a : ℕ) → g .virt ≤ a → a < g .virt + g .length → Sits n g a
+
+pub flat-inside : (n : ℕ) (g : Registration) → g .start + g .length ≤ n → g .virt + g .length ≤ mostAddress → Inside n g
 unfolding byteOf
-flat-inside n g h a v w = omega arith
+flat-inside n g h b a v w = (omega arith, omega arith)
 
 -- the region of the slot i, with its number, where it has the key k
 abbrev pub heldAt : Mr → (i k : ℕ) → Option Standing
@@ -128,7 +132,7 @@ module _ (n : ℕ) (mr : ℕ → Mr) (st : ℕ → Option Standing) (agree : Key
 -- ---- a byte that passes lies in the memory
 
 placed-inside : (n : ℕ) (h : Standing) (o : Option ℕ) (u : Right) (a : ℕ) → Inside n (h .reg) → passesBy (some h) o u a ≡ true →
-    placeBy (some h) a < n
+    (placeBy (some h) a < n) × (a < 2 ^ 64)
 placed-inside n h none u a f e = absurd (false≢true e)
 placed-inside n h (some p) u a f e =
     let t : Bool = eqb (h .reg .pd) p && grants (h .reg .access) u in
@@ -137,16 +141,16 @@ placed-inside n h (some p) u a f e =
     f a (leb-true (h .reg .virt) a (and-right t v (and-left (t && v) w e))) (ltb-true a (h .reg .virt + h .reg .length) (and-right (t && v) w e))
 
 found-inside : (n : ℕ) (s : Mr) (i k : ℕ) (o : Option ℕ) (u : Right) (a : ℕ) → (s .live ≡ true → Inside n (s .reg)) →
-    passesBy (heldAt s i k) o u a ≡ true → placeBy (heldAt s i k) a < n
+    passesBy (heldAt s i k) o u a ≡ true → (placeBy (heldAt s i k) a < n) × (a < 2 ^ 64)
 found-inside n s i k o u a f = go (s .live && eqb (keyOf i (s .variant)) k) refl
   where
     held : Standing
     held = record { mrn = i; reg = s .reg }
 
-    go : (b : Bool) → s .live && eqb (keyOf i (s .variant)) k ≡ b → passesBy (cond b (some held) none) o u a ≡ true → placeBy (cond b (some held) none) a < n
+    go : (b : Bool) → s .live && eqb (keyOf i (s .variant)) k ≡ b → passesBy (cond b (some held) none) o u a ≡ true → (placeBy (cond b (some held) none) a < n) × (a < 2 ^ 64)
     go true e = placed-inside n held o u a (f (and-left (s .live) (eqb (keyOf i (s .variant)) k) e))
     go false e = λ h. absurd (false≢true h)
 
 pub all-inside : (n : ℕ) (mr : ℕ → Mr) (st : ℕ → Option Standing) → Keys n mr st →
-    (k : ℕ) (o : Option ℕ) (u : Right) (a : ℕ) → passesBy (st k) o u a ≡ true → placeBy (st k) a < n
+    (k : ℕ) (o : Option ℕ) (u : Right) (a : ℕ) → passesBy (st k) o u a ≡ true → (placeBy (st k) a < n) × (a < 2 ^ 64)
 all-inside n mr st agree k o u a = rw (← agree .finds k) (found-inside n (mr (k / 256)) (k / 256) k o u a (agree .inside (k / 256)))

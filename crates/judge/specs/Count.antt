@@ -13,7 +13,7 @@ use Rattle.rules.specs.Touch.{requestOf}
 use Rattle.rules.specs.Send.{Put, sendPuts, sendStatus}
 use Rattle.rules.specs.Queues.{flushPut}
 use Rattle.rules.specs.Call.{Call}
-use Rattle.judge.specs.Log.{Note, noteCall, ackData, begins}
+use Rattle.judge.specs.Log.{Note, noteCall, ackOf, begins}
 use Rattle.judge.specs.Demand3.{Seen, stateAfter, Met, Linked}
 
 -- the completions that a call puts when it is done
@@ -54,7 +54,7 @@ tallyBy Note.other q w n t = t
 -- c is the card before the call, b the answer buffer after it
 unfoldable pub tallied : (c : Card) → Call → Answer → (b : List ℕ) → (ℕ → Tally) → ℕ → Tally
 tallied c k (Done s) b t q =
-    cond (begins k) none-yet (tallyBy (noteCall k s (ackData b)) q (length (c .qp q .waiting)) (receivePuts q (puts c k)) (t q))
+    cond (begins k) none-yet (tallyBy (noteCall k s (ackOf k b)) q (length (c .qp q .waiting)) (receivePuts q (puts c k)) (t q))
 tallied c k (Held e) b t q = t q
 tallied c k (Refused n) b t q = t q
 

@@ -4,7 +4,7 @@ use mathlib.Core.Path.{_≡_}
 use mathlib.Core.Logic.{_≢_}
 use mathlib.Core.Bool.{Bool, true, false, cond}
 use mathlib.Core.List.{List, [], _∷_}
-use Prim.Native.Nat.{ℕ, _<_}
+use Prim.Native.Nat.{ℕ, _^_, _<_}
 use lib.Dec.{eqb}
 use lib.ListN.{length, getD}
 use Rattle.tables.specs.Card.{Card}
@@ -27,8 +27,8 @@ pub record Correct (l : Log) (q : ℕ) (r : Request) (s : ℕ) (m m′ : List �
   pub verdict : eqb s 0 ≡ judge l q r
   -- on success the message bytes are written in turn, with the values before the call; on failure none is
   pub memory : m′ ≡ judgedMemory l q r m
-  -- a byte that passes lies in the memory
-  pub inside : (x : ℕ) (u : Right) (b : Byte) → passes l x u b ≡ true → placed l b < length m
+  -- a byte that passes lies in the memory, and its address is below 2^64
+  pub inside : (x : ℕ) (u : Right) (b : Byte) → passes l x u b ≡ true → (placed l b < length m) × (b .address < 2 ^ 64)
 
 -- ---- the same, one byte at a time
 

@@ -28,6 +28,15 @@ Log = List Entry
 unfoldable pub ackData : List ℕ → List ℕ
 ackData b = drop 1 (fieldsAt ackFields b 0)
 
+-- what the judge is fed of it: control commands have ack data, other calls have none
+abbrev pub ackOf : Call → (b : List ℕ) → List ℕ
+ackOf (Call.reset n) b = []
+ackOf (Call.control k a) b = ackData b
+ackOf (Call.send q x m) b = []
+ackOf (Call.receive q x) b = []
+ackOf (Call.flush q) b = []
+ackOf (Call.poll n a) b = []
+
 -- a reset answered 0 begins a new log
 abbrev pub begins : Call → Bool
 begins (Call.reset n) = true
@@ -39,7 +48,7 @@ begins (Call.poll n b) = false
 
 -- "It keeps the calls answered 0, in order, and no tables; any other call adds nothing." b is the answer buffer after the call.
 unfoldable pub fed : Call → Answer → (b : List ℕ) → Log → Log
-fed k (Done s) b l = cond (begins k) [] (record { call = k; status = s; ack = ackData b } ∷ l)
+fed k (Done s) b l = cond (begins k) [] (record { call = k; status = s; ack = ackOf k b } ∷ l)
 fed k (Held c) b l = l
 fed k (Refused n) b l = l
 
