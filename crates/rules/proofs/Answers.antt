@@ -1,5 +1,5 @@
 -- Demand 1: every answer is a number of the table, and what an answer other than 0 leaves. Assumes nothing.
-use mathlib.Core.Path.{_≡_, refl, sym, ap, _∙_}
+use mathlib.Core.Path.{_≡_, refl, sym, ap, subst, _∙_}
 use mathlib.Core.Bool.{Bool, true, false, cond, not, _&&_, _||_, true≢false, false≢true}
 use mathlib.Core.List.{List, [], _∷_, _++_}
 use mathlib.Core.Option.{Option, none, some}
@@ -17,32 +17,29 @@ use Rattle.tables.specs.Records.{Command, commandOf, sendChecks, receiveChecks,
 use Rattle.rules.specs.Lists.{all}
 use Rattle.rules.specs.declared.Cause.the-variants.{Peer, Place}
 use Rattle.rules.specs.declared.Answer.the-variants.{Done, Held, Refused}
-use Rattle.rules.specs.Answer.{number, answered, isDone, listed}
+use Rattle.rules.specs.Answer.{number, answered, isDone, isHeld, listed}
 use Rattle.rules.specs.Control.{commandChecks}
 use Rattle.rules.specs.Touch.{requestOf}
 use Rattle.rules.specs.Send.{deliveryChecks}
 use Rattle.rules.specs.Queues.{joinChecks, flushChecks, pollChecks}
 use Rattle.rules.specs.Call.{Call, memoryOf, bufferOf}
+use Rattle.rules.proofs.Ranges.{all-append}
 use Rattle.rules.specs.Calls.{checks, resetChecks, controlChecks, bufferChecks, settled, step, owed, usable, bufferRefused, Result}
+
+-- ---- a fact of every test's number is one of the refusal's
+
+first-with : (f : ℕ → Bool) (cs : List Check) (n : ℕ) → all (λ c. f (c .no)) cs ≡ true → refusal cs ≡ some n → f n ≡ true
+unfolding all
+first-with f [] n p e = let z : _≡_ {A = ℕ} 0 1 = cc in absurd (omega arith)
+first-with f (c ∷ cs) n p e = go (c .bad) (first-with f cs n (and-right (f (c .no)) (all (λ x. f (x .no)) cs) p)) e
+  where
+    go : (b : Bool) → (refusal cs ≡ some n → f n ≡ true) → cond b (some (c .no)) (refusal cs) ≡ some n → f n ≡ true
+    go true ih e = let s : c .no ≡ n = cc in subst (λ x. f x ≡ true) s (and-left (f (c .no)) (all (λ x. f (x .no)) cs) p)
+    go false ih e = ih e
 
 -- the tests' numbers stand in the table below 14
 abbrev fine : Check → Bool
 fine k = leb (k .no) 13
-
-all-append : (xs ys : List Check) → all fine xs ≡ true → all fine ys ≡ true → all fine (xs ++ ys) ≡ true
-unfolding all
-all-append [] ys p e = e
-all-append (x ∷ xs) ys p e =
-    rw (and-left (fine x) (all fine xs) p) (all-append xs ys (and-right (fine x) (all fine xs) p) e)
-
-first-fine : (cs : List Check) (n : ℕ) → all fine cs ≡ true → refusal cs ≡ some n → n ≤ 13
-unfolding all
-first-fine [] n p e = let z : _≡_ {A = ℕ} 0 1 = cc in absurd (omega arith)
-first-fine (c ∷ cs) n p e = go (c .bad) (first-fine cs n (and-right (fine c) (all fine cs) p)) e
-  where
-    go : (b : Bool) → (refusal cs ≡ some n → n ≤ 13) → cond b (some (c .no)) (refusal cs) ≡ some n → n ≤ 13
-    go true ih e = let s : c .no ≡ n = cc in let h : c .no ≤ 13 = leb-true (c .no) 13 (and-left (fine c) (all fine cs) p) in omega arith
-    go false ih e = ih e
 
 command-fine : (c : Card) (k : Command) → all fine (commandChecks c k) ≡ true
 unfolding all commandChecks
@@ -59,14 +56,14 @@ command-fine c (Command.destroyQp q) = refl
 checks-fine : (c : Card) (k : Call) → all fine (checks c k) ≡ true
 unfolding all checks resetChecks controlChecks bufferChecks sendChecks receiveChecks deliveryChecks joinChecks flushChecks pollChecks
 checks-fine c (Call.reset n) = refl
-checks-fine c (Call.control k a) = all-append (controlChecks k a) (commandChecks c (commandOf k)) refl (command-fine c (commandOf k))
+checks-fine c (Call.control k a) = rw (all-append fine (controlChecks k a) (commandChecks c (commandOf k)), command-fine c (commandOf k))
 checks-fine c (Call.send q x m) = refl
 checks-fine c (Call.receive q x) = refl
 checks-fine c (Call.flush q) = refl
 checks-fine c (Call.poll n b) = refl
 
 pub refusal-fine : (c : Card) (k : Call) (n : ℕ) → refusal (checks c k) ≡ some n → n ≤ 13
-refusal-fine c k n e = first-fine (checks c k) n (checks-fine c k) e
+refusal-fine c k n e = leb-true n 13 (first-with (λ x. leb x 13) (checks c k) n (checks-fine c k) e)
 
 -- the number of an answer is that of the test
 pub answered-number : (n : ℕ) → number (answered 0 (some n)) ≡ n
@@ -93,6 +90,58 @@ step-below c k = go (refusal (checks c k)) refl
     go : (o : Option ℕ) → refusal (checks c k) ≡ o → number (settled o c k .answer) ≤ 13
     go none e = omega arith
     go (some n) e = rw (answered-number n) (refusal-fine c k n e)
+
+-- ---- holds: steps 1 and 2 of a post send, and a flush without a place, are the only ones
+
+abbrev pub mayHold : Call → Bool
+mayHold (Call.reset n) = false
+mayHold (Call.control k a) = false
+mayHold (Call.send q x m) = true
+mayHold (Call.receive q x) = false
+mayHold (Call.flush q) = true
+mayHold (Call.poll n b) = false
+
+abbrev plain : ℕ → Bool
+plain n = not (eqb n 5) && not (eqb n 6)
+
+command-plain : (c : Card) (k : Command) → all (λ t. plain (t .no)) (commandChecks c k) ≡ true
+unfolding all commandChecks
+command-plain c (Command.createCq n) = refl
+command-plain c (Command.destroyCq n) = refl
+command-plain c Command.createPd = refl
+command-plain c (Command.destroyPd n) = refl
+command-plain c (Command.register g) = refl
+command-plain c (Command.deregister n) = refl
+command-plain c (Command.createQp r) = refl
+command-plain c (Command.modifyQp r) = refl
+command-plain c (Command.destroyQp q) = refl
+
+checks-plain : (c : Card) (k : Call) → mayHold k ≡ false → all (λ t. plain (t .no)) (checks c k) ≡ true
+unfolding all checks resetChecks controlChecks bufferChecks receiveChecks joinChecks pollChecks
+checks-plain c (Call.reset n) e = refl
+checks-plain c (Call.control k a) e = rw (all-append (λ t. plain (t .no)) (controlChecks k a) (commandChecks c (commandOf k)), command-plain c (commandOf k))
+checks-plain c (Call.send q x m) e = absurd (true≢false e)
+checks-plain c (Call.receive q x) e = refl
+checks-plain c (Call.flush q) e = absurd (true≢false e)
+checks-plain c (Call.poll n b) e = refl
+
+plain-refused : (n : ℕ) → plain n ≡ true → isHeld (answered 0 (some n)) ≡ false
+plain-refused n = go (eqb n 5) (eqb n 6)
+  where
+    go : (a b : Bool) → (not a && not b) ≡ true → isHeld (cond a (Held Peer) (cond b (Held Place) (Refused n))) ≡ false
+    go true b e = absurd (false≢true e)
+    go false true e = absurd (false≢true e)
+    go false false e = refl
+
+pub only-holds : (c : Card) (k : Call) → mayHold k ≡ false → isHeld (step c k .answer) ≡ false
+unfolding step
+only-holds c k h = go (refusal (checks c k)) refl
+  where
+    go : (o : Option ℕ) → refusal (checks c k) ≡ o → isHeld (settled o c k .answer) ≡ false
+    go none e = refl
+    go (some n) e = plain-refused n (first-with plain (checks c k) n (checks-plain c k h) e)
+
+-- ---- what an answer other than 0 leaves
 
 -- an answer other than 0 leaves the card and the memory; of the answer buffer it leaves all but the ack byte of a refused command
 pub record Unchanged (c : Card) (k : Call) (r : Result) : Type 0 where

@@ -1,7 +1,9 @@
 pub mod Tests
-pub mod Answers
 pub mod Stored
-pub mod Marks
+pub mod Ranges
+pub mod Free
 pub mod Variants
+pub mod Answers
+pub mod Marks
 pub mod Dropped
 pub mod Pinned

@@ -40,6 +40,12 @@ isDone (Done s) = true
 isDone (Held c) = false
 isDone (Refused n) = false
 
+-- it was held
+abbrev pub isHeld : Answer → Bool
+isHeld (Done s) = false
+isHeld (Held c) = true
+isHeld (Refused n) = false
+
 -- a number of the table that a call can answer; 14 is the program's alone
 abbrev pub listed : ℕ → Bool
 listed n = leb n 15 && not (eqb n 14)
