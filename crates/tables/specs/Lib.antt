@@ -2,3 +2,12 @@ pub mod Limits
 pub mod Card
 pub mod Records
 pub mod Layout
+pub mod Image
+pub mod Accept
+pub mod Search
+pub mod Accepted
+pub mod Objects
+pub mod Tests
+pub mod Stores
+pub mod Kept
+pub mod KeptNamed

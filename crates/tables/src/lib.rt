@@ -1,4 +1,5 @@
 // The lower part: the records' layouts and the card's tables in the lent state.
+pub mod accept;
 pub mod image;
 pub mod limits;
 

@@ -4,6 +4,7 @@ use mathlib.Core.Bool.{Bool, true, false, cond, _&&_, _||_}
 use Prim.Native.Nat.{ℕ, zero, suc, _+_, _-_, _≤_, _<_}
 use native.Mathlib.Numerals.{add-one}
 use native.Mathlib.Decide.{ℕ-discrete, decLe}
+use mathlib.Core.List.{List, [], _∷_, _++_}
 use lib.Dec.{leb}
 use borrow.Author.Tests.{le-leb, lt-leb}
 use native.Mathlib.Omega.{arith}
@@ -81,6 +82,25 @@ all-at (suc n) p k h e =
       | yes q ↦ ap p q ∙ and-right (allBelow n p) (p n) e
       | no q ↦ all-at n p k (omega arith) (and-left (allBelow n p) (p n) e)
     ]
+
+-- every element of a list passes
+unfoldable pub all : {A : Type 0} → (A → Bool) → List A → Bool
+all p [] = true
+all p (x ∷ xs) = p x && all p xs
+
+pub all-nil : {A : Type 0} (p : A → Bool) → all p [] ≡ true
+unfolding all
+all-nil p = refl
+
+pub all-cons : {A : Type 0} (p : A → Bool) (x : A) (xs : List A) → all p (x ∷ xs) ≡ p x && all p xs
+unfolding all
+all-cons p x xs = refl
+
+pub all-append : {A : Type 0} (p : A → Bool) (xs : List A) (x : A) → all p xs ≡ true → p x ≡ true → all p (xs ++ (x ∷ [])) ≡ true
+unfolding all
+all-append p [] x a b = rw b
+all-append p (y ∷ xs) x a b =
+    both-true (p y) (all p (xs ++ (x ∷ []))) (and-left (p y) (all p xs) a) (all-append p xs x (and-right (p y) (all p xs) a) b)
 
 -- ---- the lowest number that passes
 

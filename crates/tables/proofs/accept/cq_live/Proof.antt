@@ -1,0 +1,19 @@
+use Rattle.tables.specs.Objects.{cq-live, cq-out}
+use borrow.Author.Needs.{needs}
+use Rattle.tables.proofs.accept.cq_live.Statement.{statement}
+use Rattle.tables.proofs.accept.cq_live.Tie as tie
+use Rattle.tables.proofs.accept.cq_live.Reads as reads
+use Rattle.tables.proofs.accept.cq_live.Lts as lts
+use Rattle.tables.proofs.image.load_cq.Reads as load-cq-reads
+
+load-cq-requires : tie.Need-load-cq-requires
+load-cq-requires c κs = search needs
+
+returns : tie.Need-returns
+returns c = rw (cq-live _ (c .before .before .before .before .args .n) (search needs)) (cc)
+
+returns-2 : tie.Need-returns-2
+returns-2 c = rw (cq-out _ (c .before .before .args .n) (search needs))
+
+pub cq-live-spec : {M : Type 1} → statement M
+cq-live-spec = tie.close (tie.spec load-cq-requires returns returns-2)

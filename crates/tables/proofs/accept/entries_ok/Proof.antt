@@ -1,0 +1,100 @@
+use Rattle.tables.specs.declared.Completion.{Completion}
+use mathlib.Core.List.{List}
+use lib.ListN.{getD}
+use native.Mathlib.Nat.{mod-lt}
+use borrow.Author.Needs.{needs}
+use denote.Ref.{now}
+use Prim.Native.Nat.{ℕ, _≤_, _<_, _-_, _+_, _*_, _%_}
+use mathlib.Core.Path.{_≡_, refl, sym, ap, _∙_}
+use mathlib.Core.Bool.{Bool, true, false}
+use native.Mathlib.Omega.{arith}
+use borrow.Author.Tests.{not-true, not-false}
+use Rattle.wire.specs.Scan.{allBelow, all, all-none, all-more, all-fails}
+use Rattle.wire.specs.Ring.{ringList, ring-passed, ring-fails, ring-goes}
+use Rattle.tables.specs.Limits.{mostPlaces, mostWaiting}
+use Rattle.tables.specs.Accept.{completionOk}
+use Rattle.tables.specs.Image.{entriesAt, noCompletion}
+use Rattle.tables.specs.Objects.{entry-at}
+use Rattle.tables.proofs.accept.entries_ok.Statement.{statement}
+use Rattle.tables.proofs.accept.entries_ok.Tie as tie
+use Rattle.tables.proofs.accept.entries_ok.Reads as reads
+use Rattle.tables.proofs.accept.entries_ok.Lts as lts
+use Rattle.tables.proofs.accept.completion_ok.Reads as completion-ok-reads
+use Rattle.tables.proofs.image.load_entry.Reads as load-entry-reads
+
+abbrev Inv-loop : tie.InvT-loop
+Inv-loop img n at₀ left₀ at left = (at < mostPlaces) × (all completionOk (ringList noCompletion mostPlaces (entriesAt img n) at left) ≡ all completionOk (ringList noCompletion mostPlaces (entriesAt img n) at₀ left₀))
+
+abbrev μ-loop : tie.MeasureT-loop
+μ-loop img n at₀ left₀ at left = left
+
+cast-at : tie.Need-cast-at Inv-loop μ-loop
+cast-at c = search needs
+
+loop-holds : tie.Need-loop-holds Inv-loop μ-loop
+loop-holds c = (search needs, refl)
+
+mul-load-entry : tie.Need-mul-load-entry Inv-loop μ-loop
+mul-load-entry c = search needs
+
+add-load-entry : tie.Need-add-load-entry Inv-loop μ-loop
+add-load-entry c = search needs
+
+load-entry-requires : tie.Need-load-entry-requires Inv-loop μ-loop
+load-entry-requires c κs = search needs
+
+completion-ok-requires : tie.Need-completion-ok-requires Inv-loop μ-loop
+completion-ok-requires c κs = search needs
+
+returns : tie.Need-returns Inv-loop μ-loop
+returns c =
+    let a = c .before .before .before .before .before .before .before .args in
+    let h = c .before .before .before .before .loop in
+    let es : List Completion = entriesAt (now (a .img)) (a .n) in
+    let g : getD es (h .at) noCompletion ≡ c .before .before .load-entry .result = entry-at (now (a .img)) (a .n) (h .at) (search needs) ∙ sym (c .before .before .load-entry .ensures) in
+    let e : completionOk (getD es (h .at) noCompletion) ≡ false = ap completionOk g ∙ sym (c .before .completion-ok .ensures) ∙ not-true _ (c .if1 .taken) in
+    sym (sym (h .inv .1) ∙ ring-fails noCompletion mostPlaces completionOk es (h .at) (h .left) (search needs) e)
+
+add-at : tie.Need-add-at Inv-loop μ-loop
+add-at c = search needs
+
+sub-left : tie.Need-sub-left Inv-loop μ-loop
+sub-left c = search needs
+
+loop-less : tie.Need-loop-less Inv-loop μ-loop
+loop-less c = search needs
+
+loop-again : tie.Need-loop-again Inv-loop μ-loop
+loop-again c =
+    let a = c .before .before .before .before .before .before .before .args in
+    let h = c .before .before .before .before .loop in
+    let es : List Completion = entriesAt (now (a .img)) (a .n) in
+    let g : getD es (h .at) noCompletion ≡ c .before .before .load-entry .result = entry-at (now (a .img)) (a .n) (h .at) (search needs) ∙ sym (c .before .before .load-entry .ensures) in
+    let e : completionOk (getD es (h .at) noCompletion) ≡ true = ap completionOk g ∙ sym (c .before .completion-ok .ensures) ∙ not-false _ (c .if1 .left) in
+    (mod-lt (h .at + 1) (omega arith), sym (ring-goes noCompletion mostPlaces completionOk es (h .at) (h .left) (search needs) e) ∙ h .inv .1)
+
+returns-2 : tie.Need-returns-2 Inv-loop μ-loop
+returns-2 c =
+    let a = c .before .before .before .before .args in
+    let h = c .before .loop in
+    let z : h .left ≡ 0 = omega arith in
+    sym (sym (h .inv .1) ∙ rw z (ring-passed noCompletion mostPlaces completionOk (entriesAt (now (a .img)) (a .n)) (h .at) 0))
+
+pub entries-ok-spec : {M : Type 1} → statement M
+entries-ok-spec =
+    tie.close
+    (tie.spec
+    Inv-loop
+    μ-loop
+    cast-at
+    loop-holds
+    mul-load-entry
+    add-load-entry
+    load-entry-requires
+    completion-ok-requires
+    returns
+    add-at
+    sub-left
+    loop-less
+    loop-again
+    returns-2)

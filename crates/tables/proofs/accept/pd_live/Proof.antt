@@ -1,0 +1,19 @@
+use Rattle.tables.specs.Objects.{pd-is, pd-out}
+use borrow.Author.Needs.{needs}
+use Rattle.tables.proofs.accept.pd_live.Statement.{statement}
+use Rattle.tables.proofs.accept.pd_live.Tie as tie
+use Rattle.tables.proofs.accept.pd_live.Reads as reads
+use Rattle.tables.proofs.accept.pd_live.Lts as lts
+use Rattle.tables.proofs.image.load_pd.Reads as load-pd-reads
+
+load-pd-requires : tie.Need-load-pd-requires
+load-pd-requires c κs = search needs
+
+returns : tie.Need-returns
+returns c = rw (pd-is _ (c .before .before .before .args .n) (search needs)) (cc)
+
+returns-2 : tie.Need-returns-2
+returns-2 c = rw (pd-out _ (c .before .before .args .n) (search needs))
+
+pub pd-live-spec : {M : Type 1} → statement M
+pd-live-spec = tie.close (tie.spec load-pd-requires returns returns-2)

@@ -1,0 +1,69 @@
+use lib.Dec.{leb}
+use borrow.Author.Needs.{needs}
+use denote.Ref.{now}
+use Prim.Native.Nat.{ℕ, _≤_, _<_, _-_, _+_, _*_, _%_}
+use mathlib.Core.Path.{_≡_, refl, sym, ap, _∙_}
+use mathlib.Core.Bool.{Bool, true, false}
+use native.Mathlib.Omega.{arith}
+use borrow.Author.Tests.{lt-leb, le-leb}
+use Rattle.wire.specs.Scan.{allBelow, all, all-none, all-more, all-fails}
+use Rattle.tables.specs.Accept.{pdOk}
+use Rattle.tables.specs.Limits.{pdCount}
+use Rattle.tables.proofs.accept.pds_ok.Statement.{statement}
+use Rattle.tables.proofs.accept.pds_ok.Tie as tie
+use Rattle.tables.proofs.accept.pds_ok.Reads as reads
+use Rattle.tables.proofs.accept.pds_ok.Lts as lts
+use Rattle.tables.proofs.image.load_pd.Reads as load-pd-reads
+
+abbrev Inv-loop : tie.InvT-loop
+Inv-loop img n₀ n = (n ≤ pdCount) × (allBelow n (pdOk img) ≡ true)
+
+abbrev μ-loop : tie.MeasureT-loop
+μ-loop img n₀ n = pdCount - n
+
+loop-holds : tie.Need-loop-holds Inv-loop μ-loop
+loop-holds c = (search needs, all-none _)
+
+load-pd-requires : tie.Need-load-pd-requires Inv-loop μ-loop
+load-pd-requires c κs = search needs
+
+returns : tie.Need-returns Inv-loop μ-loop
+unfolding pdOk
+returns c =
+    let a = c .before .before .before .before .before .args in
+    let h = c .before .before .before .loop in
+    let p : ℕ → Bool = pdOk (now (a .img)) in
+    let e : p (h .n) ≡ false = ap (λ (x : ℕ). leb x 1) (sym (c .before .load-pd .ensures)) ∙ lt-leb _ 1 (c .if1 .taken) in
+    sym (all-fails pdCount p (h .n) (search needs) e)
+
+add-n : tie.Need-add-n Inv-loop μ-loop
+add-n c = search needs
+
+loop-less : tie.Need-loop-less Inv-loop μ-loop
+loop-less c = search needs
+
+loop-again : tie.Need-loop-again Inv-loop μ-loop
+unfolding pdOk
+loop-again c =
+    let a = c .before .before .before .before .before .args in
+    let h = c .before .before .before .loop in
+    let p : ℕ → Bool = pdOk (now (a .img)) in
+    let e : p (h .n) ≡ true = ap (λ (x : ℕ). leb x 1) (sym (c .before .load-pd .ensures)) ∙ le-leb _ 1 (c .if1 .left) in
+    (search needs, all-more (h .n) p (h .inv .1) e)
+
+returns-2 : tie.Need-returns-2 Inv-loop μ-loop
+returns-2 c = let e : c .before .loop .n ≡ pdCount = omega arith in (cc)
+
+pub pds-ok-spec : {M : Type 1} → statement M
+pds-ok-spec =
+    tie.close
+    (tie.spec
+    Inv-loop
+    μ-loop
+    loop-holds
+    load-pd-requires
+    returns
+    add-n
+    loop-less
+    loop-again
+    returns-2)

@@ -1,0 +1,18 @@
+use borrow.Author.Needs.{needs}
+use Rattle.tables.proofs.accept.region_ok.Statement.{statement}
+use Rattle.tables.proofs.accept.region_ok.Tie as tie
+use Rattle.tables.proofs.accept.region_ok.Reads as reads
+use Rattle.tables.proofs.accept.region_ok.Lts as lts
+use Rattle.tables.proofs.accept.sum_within.Reads as sum-within-reads
+
+sum-within-requires : tie.Need-sum-within-requires
+sum-within-requires c κs = search needs
+
+sum-within-requires-2 : tie.Need-sum-within-requires-2
+sum-within-requires-2 c κs = search needs
+
+returns : tie.Need-returns
+returns c = (cc)
+
+pub region-ok-spec : {M : Type 1} → statement M
+region-ok-spec = tie.close (tie.spec sum-within-requires sum-within-requires-2 returns)

@@ -1,0 +1,98 @@
+-- The state test, document 01: "15 exactly if its length is wrong, a stored number, count, QP state, access or region range is outside
+-- this paper's limits (so is a QP that names itself as destination), or a live object names a PD or CQ that isn't live."
+-- What is not live is not looked at. Executable. Assumes nothing.
+use mathlib.Core.Bool.{Bool, not, _&&_, _||_}
+use mathlib.Core.List.{List}
+use Prim.Native.Nat.{ℕ, _+_}
+use lib.ListN.{length}
+use lib.Dec.{eqb, ltb, leb}
+use Rattle.wire.specs.Scan.{all, allBelow}
+use Rattle.wire.specs.Table.{rowAt}
+use Rattle.tables.specs.Card.{Card}
+use Rattle.tables.specs.Image.{card, entriesAt, receivesAt, unread, posted}
+use Rattle.tables.specs.Layout.{image, memoryT, pdT, mrLiveT, mrT, cqT, qpT, waitingT}
+use Rattle.tables.specs.Limits.{pdCount, cqCount, mrCount, qpCount, mostPlaces, mostWaiting, mostMemory, mostAddress, mostAccess, mostMessage, mostReceiveSges}
+use Rattle.tables.specs.declared.Completion.{Completion}
+use Rattle.tables.specs.declared.QueueHead.{QueueHead}
+use Rattle.tables.specs.declared.QueuePair.{QueuePair}
+use Rattle.tables.specs.declared.ReceiveRecord.{ReceiveRecord}
+use Rattle.tables.specs.declared.Region.{Region}
+use Rattle.tables.specs.declared.WaitingHead.{WaitingHead}
+
+-- a completion queue is live where it has places
+abbrev pub cqLive : Card → ℕ → Bool
+cqLive c n = ltb 0 (c .cq n .places)
+
+-- "1 to 1,048,576"
+abbrev pub memoryOk : ℕ → Bool
+memoryOk n = leb 1 n && leb n mostMemory
+
+abbrev pub flagOk : ℕ → Bool
+flagOk f = leb f 1
+
+-- "Statuses: 0 success, 1 local length, 3 local protection, 4 flushed, 7 remote invalid request, 8 remote access."
+abbrev pub isStatus : ℕ → Bool
+isStatus s = leb s 1 || eqb s 3 || eqb s 4 || eqb s 7 || eqb s 8
+
+-- "States 0 reset, 1 init, 2 ready to receive (RTR), 3 ready to send (RTS), 6 error."
+abbrev pub isState : ℕ → Bool
+isState s = leb s 3 || eqb s 6
+
+-- an unread completion
+abbrev pub completionOk : Completion → Bool
+completionOk e = isStatus (e .status) && leb (e .opcode) 4 && leb (e .length) mostMessage && ltb (e .owner) qpCount
+
+-- a live completion queue: "of 1 to 16 places"
+abbrev pub queueOk : QueueHead → Bool
+queueOk h = leb (h .places) mostPlaces && ltb (h .first) mostPlaces && leb (h .count) (h .places)
+
+-- a live region: its access, its range in the memory and in the addresses, its domain
+abbrev pub regionOk : ℕ → Region → Bool
+regionOk memory r =
+    leb (r .access) mostAccess && leb 1 (r .variant) && leb 1 (r .length) && leb (r .start + r .length) memory && leb (r .virt + r .length) mostAddress
+
+-- a live queue pair n: "each with up to 4 waiting receives"
+abbrev pub pairOk : ℕ → QueuePair → Bool
+pairOk n p = leb (p .signal) 1 && isState (p .state) && leb (p .dest) qpCount && not (eqb (p .dest) n)
+
+abbrev pub waitingOk : WaitingHead → Bool
+waitingOk h = ltb (h .first) mostWaiting && leb (h .count) mostWaiting
+
+abbrev pub receiveOk : ReceiveRecord → Bool
+receiveOk r = leb (r .count) mostReceiveSges
+
+-- ---- the object numbered n of each table: free, or within its limits and naming live objects only
+
+unfoldable pub pdOk : List ℕ → ℕ → Bool
+pdOk l n = flagOk (rowAt pdT l n)
+
+-- a completion queue with its ring
+abbrev pub cqSound : QueueHead → List Completion → Bool
+cqSound h es = eqb (h .places) 0 || (queueOk h && all completionOk (unread h es))
+
+unfoldable pub cqOk : List ℕ → ℕ → Bool
+cqOk l n = cqSound (rowAt cqT l n) (entriesAt l n)
+
+-- a region slot with its flag, where pd tells the live domains
+abbrev pub mrSound : (pd : ℕ → Bool) → ℕ → ℕ → Region → Bool
+mrSound pd memory flag r = eqb flag 0 || (eqb flag 1 && pd (r .pd) && regionOk memory r)
+
+unfoldable pub mrOk : List ℕ → ℕ → Bool
+mrOk l n = mrSound (card l .pd) (rowAt memoryT l 0) (rowAt mrLiveT l n) (rowAt mrT l n)
+
+-- a queue pair with its receives, where pd and cq tell the live domains and completion queues
+abbrev pub qpSound : (pd cq : ℕ → Bool) → ℕ → QueuePair → WaitingHead → List ReceiveRecord → Bool
+qpSound pd cq n p h ws =
+    eqb (p .live) 0
+    || (eqb (p .live) 1 && pd (p .pd) && cq (p .scq) && cq (p .rcq) && pairOk n p && waitingOk h && all receiveOk (posted h ws))
+
+unfoldable pub qpOk : List ℕ → ℕ → Bool
+qpOk l n = qpSound (card l .pd) (cqLive (card l)) n (rowAt qpT l n) (rowAt waitingT l n) (receivesAt l n)
+
+-- ---- the test
+
+unfoldable pub accepts : List ℕ → Bool
+accepts l =
+    eqb (length l) image
+    && (memoryOk (rowAt memoryT l 0) && allBelow pdCount (pdOk l) && allBelow cqCount (cqOk l) && allBelow mrCount (mrOk l)
+    && allBelow qpCount (qpOk l))

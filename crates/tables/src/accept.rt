@@ -1,0 +1,260 @@
+// The state test of answer 15: specs/Accept.antt.
+use crate::Completion;
+use crate::QueueHead;
+use crate::QueuePair;
+use crate::Region;
+use crate::WaitingHead;
+use crate::image;
+use crate::limits::CQ_COUNT;
+use crate::limits::MOST_ACCESS;
+use crate::limits::MOST_ADDRESS;
+use crate::limits::MOST_MEMORY;
+use crate::limits::MOST_MESSAGE;
+use crate::limits::MOST_PLACES;
+use crate::limits::MOST_RECEIVE_SGES;
+use crate::limits::MOST_WAITING;
+use crate::limits::MR_COUNT;
+use crate::limits::PD_COUNT;
+use crate::limits::QP_COUNT;
+ghost use mathlib.Core.Path.{_≡_};
+ghost use Prim.Native.Nat.{_<_, _≤_, _+_, _*_};
+ghost use lib.Dec.{leb};
+ghost use lib.ListN.{length};
+ghost use Rattle.wire.specs.Scan.{all, allBelow};
+ghost use Rattle.wire.specs.Table.{rowAt};
+ghost use Rattle.tables.specs.Accept.{accepts, cqLive, completionOk, receiveOk, regionOk, pairOk, pdOk, cqOk, mrOk, qpOk};
+ghost use Rattle.tables.specs.Image.{card, unread, posted, entriesAt, receivesAt};
+ghost use Rattle.tables.specs.Layout.{image, memoryT};
+ghost use Rattle.tables.specs.Limits.{pdCount, cqCount, mrCount, qpCount, mostPlaces, mostWaiting};
+
+// Whether protection domain n is live.
+pub fn pd_live(img: &[u8], n: u32) -> bool
+    requires { ⌜ length (now img) ≡ image ⌝ }
+    ensures { λ r. ⌜ r ≡ card (now (img .entry)) .pd n ⌝ }
+{
+    let i = n as usize;
+    if i < PD_COUNT {
+        return image::load_pd(img, i) == 1;
+    }
+    false
+}
+
+// Whether completion queue n is live.
+pub fn cq_live(img: &[u8], n: u32) -> bool
+    requires { ⌜ length (now img) ≡ image ⌝ }
+    ensures { λ r. ⌜ r ≡ cqLive (card (now (img .entry))) n ⌝ }
+{
+    let i = n as usize;
+    if i < CQ_COUNT {
+        return 0 < image::load_cq(img, i).places;
+    }
+    false
+}
+
+// a + b is at most the limit, as whole numbers.
+pub fn sum_within(a: u64, b: u64, limit: u64) -> bool
+    ensures { λ r. ⌜ r ≡ leb (a + b) limit ⌝ }
+{
+    if b <= limit { a <= limit - b } else { false }
+}
+
+fn completion_ok(e: Completion) -> bool
+    ensures { λ x. ⌜ x ≡ completionOk e ⌝ }
+{
+    let s = e.status;
+    let owner = e.owner as usize;
+    let status = (s <= 1) | (s == 3) | (s == 4) | (s == 7) | (s == 8);
+    status & (e.opcode <= 4) & (e.length <= MOST_MESSAGE) & (owner < QP_COUNT)
+}
+
+fn region_ok(memory: u64, r: Region) -> bool
+    ensures { λ x. ⌜ x ≡ regionOk memory r ⌝ }
+{
+    let in_memory = sum_within(r.start, r.length, memory);
+    let in_space = sum_within(r.virt, r.length, MOST_ADDRESS);
+    (r.access <= MOST_ACCESS) & (1 <= r.variant) & (1 <= r.length) & in_memory & in_space
+}
+
+fn pair_ok(n: usize, p: QueuePair) -> bool
+    ensures { λ x. ⌜ x ≡ pairOk n p ⌝ }
+{
+    let state = (p.state <= 3) | (p.state == 6);
+    let dest = p.dest as usize;
+    (p.signal <= 1) & state & (dest <= QP_COUNT) & !(dest == n)
+}
+
+// The unread completions of queue n, whose head is h.
+fn entries_ok(img: &[u8], n: usize, h: QueueHead) -> bool
+    requires { ⌜ (n < cqCount) × (h .first < mostPlaces) × (length (now img) ≡ image) ⌝ }
+    ensures { λ x. ⌜ x ≡ all completionOk (unread h (entriesAt (now (img .entry)) n)) ⌝ }
+{
+    let mut at = h.first as usize;
+    let mut left = h.count;
+    while 0 < left {
+        if !completion_ok(image::load_entry(img, MOST_PLACES * n + at)) {
+            return false;
+        }
+        at = (at + 1) % MOST_PLACES;
+        left -= 1;
+    }
+    true
+}
+
+// The waiting receives of queue pair n, whose head is h.
+fn receives_ok(img: &[u8], n: usize, h: WaitingHead) -> bool
+    requires { ⌜ (n < qpCount) × (h .first < mostWaiting) × (length (now img) ≡ image) ⌝ }
+    ensures { λ x. ⌜ x ≡ all receiveOk (posted h (receivesAt (now (img .entry)) n)) ⌝ }
+{
+    let mut at = h.first as usize;
+    let mut left = h.count;
+    while 0 < left {
+        let r = image::load_receive(img, MOST_WAITING * n + at);
+        if MOST_RECEIVE_SGES < r.count {
+            return false;
+        }
+        at = (at + 1) % MOST_WAITING;
+        left -= 1;
+    }
+    true
+}
+
+fn cq_ok(img: &[u8], n: usize) -> bool
+    requires { ⌜ (n < cqCount) × (length (now img) ≡ image) ⌝ }
+    ensures { λ x. ⌜ x ≡ cqOk (now (img .entry)) n ⌝ }
+{
+    let h = image::load_cq(img, n);
+    if h.places == 0 {
+        return true;
+    }
+    let first = h.first as usize;
+    if MOST_PLACES <= first {
+        return false;
+    }
+    let places = h.places as usize;
+    let entries = entries_ok(img, n, h);
+    (places <= MOST_PLACES) & (h.count <= h.places) & entries
+}
+
+fn mr_ok(img: &[u8], memory: u64, n: usize) -> bool
+    requires { ⌜ (n < mrCount) × (length (now img) ≡ image) × (memory ≡ rowAt memoryT (now img) 0) ⌝ }
+    ensures { λ x. ⌜ x ≡ mrOk (now (img .entry)) n ⌝ }
+{
+    let live = image::load_mr_live(img, n);
+    if live == 0 {
+        return true;
+    }
+    let r = image::load_mr(img, n);
+    let pd = pd_live(img, r.pd as u32);
+    (live == 1) & pd & region_ok(memory, r)
+}
+
+fn qp_ok(img: &[u8], n: usize) -> bool
+    requires { ⌜ (n < qpCount) × (length (now img) ≡ image) ⌝ }
+    ensures { λ x. ⌜ x ≡ qpOk (now (img .entry)) n ⌝ }
+{
+    let p = image::load_qp(img, n);
+    if p.live == 0 {
+        return true;
+    }
+    let h = image::load_waiting(img, n);
+    let first = h.first as usize;
+    if MOST_WAITING <= first {
+        return false;
+    }
+    let count = h.count as usize;
+    let pd = pd_live(img, p.pd as u32);
+    let scq = cq_live(img, p.scq as u32);
+    let rcq = cq_live(img, p.rcq as u32);
+    let pair = pair_ok(n, p);
+    let receives = receives_ok(img, n, h);
+    (p.live == 1) & pd & scq & rcq & pair & (count <= MOST_WAITING) & receives
+}
+
+fn pds_ok(img: &[u8]) -> bool
+    requires { ⌜ length (now img) ≡ image ⌝ }
+    ensures { λ x. ⌜ x ≡ allBelow pdCount (pdOk (now (img .entry))) ⌝ }
+{
+    let mut n = 0;
+    while n < PD_COUNT {
+        if 1 < image::load_pd(img, n) {
+            return false;
+        }
+        n += 1;
+    }
+    true
+}
+
+fn cqs_ok(img: &[u8]) -> bool
+    requires { ⌜ length (now img) ≡ image ⌝ }
+    ensures { λ x. ⌜ x ≡ allBelow cqCount (cqOk (now (img .entry))) ⌝ }
+{
+    let mut n = 0;
+    while n < CQ_COUNT {
+        if !cq_ok(img, n) {
+            return false;
+        }
+        n += 1;
+    }
+    true
+}
+
+// The eight region slots from 8 g on.
+fn eight_ok(img: &[u8], memory: u64, g: usize) -> bool
+    requires { ⌜ (8 * g + 8 ≤ mrCount) × (length (now img) ≡ image) × (memory ≡ rowAt memoryT (now img) 0) ⌝ }
+    ensures { λ x. ⌜ x ≡ allBelow 8 (λ i. mrOk (now (img .entry)) (8 * g + i)) ⌝ }
+{
+    let mut i = 0;
+    while i < 8 {
+        if !mr_ok(img, memory, 8 * g + i) {
+            return false;
+        }
+        i += 1;
+    }
+    true
+}
+
+// Eight free slots are passed at once: their flags are one zero word.
+fn mrs_ok(img: &[u8], memory: u64) -> bool
+    requires { ⌜ (length (now img) ≡ image) × (memory ≡ rowAt memoryT (now img) 0) ⌝ }
+    ensures { λ x. ⌜ x ≡ allBelow mrCount (mrOk (now (img .entry))) ⌝ }
+{
+    let mut g = 0;
+    while g < MR_COUNT / 8 {
+        if wire::get64(img, image::MR_LIVE + 8 * g) != 0 {
+            if !eight_ok(img, memory, g) {
+                return false;
+            }
+        }
+        g += 1;
+    }
+    true
+}
+
+fn qps_ok(img: &[u8]) -> bool
+    requires { ⌜ length (now img) ≡ image ⌝ }
+    ensures { λ x. ⌜ x ≡ allBelow qpCount (qpOk (now (img .entry))) ⌝ }
+{
+    let mut n = 0;
+    while n < QP_COUNT {
+        if !qp_ok(img, n) {
+            return false;
+        }
+        n += 1;
+    }
+    true
+}
+
+// Whether the lent state is acceptable: any bytes, of any length.
+pub fn accepted(img: &[u8]) -> bool
+    ensures { λ r. ⌜ r ≡ accepts (now (img .entry)) ⌝ }
+{
+    if img.len() != image::IMAGE {
+        return false;
+    }
+    let memory = image::load_memory(img);
+    let pds = pds_ok(img);
+    let cqs = cqs_ok(img);
+    let mrs = mrs_ok(img, memory);
+    let qps = qps_ok(img);
+    (1 <= memory) & (memory <= MOST_MEMORY) & pds & cqs & mrs & qps
+}
