@@ -9,10 +9,10 @@ use lib.Dec.{eqb, leb}
 use lib.ListN.{length, getD, take}
 use lib.Seq.{length-take-le}
 use borrow.Author.Tests.{eqb-true, leb-true}
-use Rattle.wire.specs.Scan.{and-left, and-right}
+use Rattle.wire.specs.Scan.{and-left, and-right, all}
 use Rattle.tables.specs.Limits.{mostMessage}
 use Rattle.tables.specs.Card.{Card, Receive}
-use Rattle.rules.specs.Lists.{all, stored}
+use Rattle.rules.specs.Lists.{stored}
 use Rattle.rules.specs.Touch.{Request, Byte, fills, reads, total, sgeTotal, sgeBytes, range, ownBytes, farBytes, sourceBytes, targetBytes, message, delivered}
 use Rattle.rules.specs.Send.{sendStatus, sendMemory}
 use Rattle.rules.proofs.Stored.{stored-length, stored-other, stored-last, map-length, map-at, range-length, sge-length}

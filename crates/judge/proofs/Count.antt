@@ -16,7 +16,7 @@ use Rattle.tables.specs.Limits.{qpCount}
 use Rattle.tables.specs.Card.{Card, Qp, Receive, fresh}
 use Rattle.tables.specs.Records.{Command, commandOf, ackFields, ackLeast}
 use Rattle.rules.specs.Lists.{isEmpty, rest}
-use Rattle.rules.specs.Touch.{Request, requestOf, receiveOf, takes, fills, reads}
+use Rattle.rules.specs.Touch.{Request, requestOf, receiveIn, takes, fills, reads}
 use Rattle.rules.specs.Control.{commandChecks, commandAck, commandEffect, freeQpn}
 use Rattle.rules.specs.Send.{Put, peerOf, consumes, senderOpcode, receiverOpcode, senderPut, receiverPut, errorIf, consumeIf, sendStatus, sendPuts, putAll, sendQps, sendEffect}
 use Rattle.rules.specs.Queues.{flushPut, flushChecks, flushed, joined, polled}
@@ -180,7 +180,7 @@ counts-call c (Call.send q x m) t p a =
     (sent-waiting c q r s (λ y. o .has-receive (and-left _ _ y)) j) (a j) (sym (sent-live c q r s j) ∙ e))
 counts-call c (Call.receive q x) t p a =
     split q _
-    (rw same (joins-one (c .qp q) (t q) (receiveOf x) (a q)))
+    (rw same (joins-one (c .qp q) (t q) (receiveIn x) (a q)))
     (λ j e. rw e (a j))
 counts-call c (Call.flush q) t p a =
     split q _

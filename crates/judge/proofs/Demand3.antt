@@ -7,10 +7,11 @@ use Prim.Native.Nat.{ℕ}
 use native.Mathlib.Omega.{arith}
 use lib.Dec.{eqb, leb}
 use lib.ListN.{length, getD}
+use Rattle.wire.specs.Scan.{all}
 use Rattle.wire.specs.Checks.{Check, refusal, Passed, passed}
 use Rattle.tables.specs.Limits.{mostMessage, qpCount}
 use Rattle.tables.specs.Card.{Card}
-use Rattle.rules.specs.Lists.{all, orElse}
+use Rattle.rules.specs.Lists.{orElse}
 use Rattle.rules.specs.Touch.{Request, Byte, requestOf, fills, total, sgeTotal, ownBytes, farBytes, delivered}
 use Rattle.rules.specs.Permit.{Use, permits, permitsAll, place}
 use Rattle.rules.specs.Send.{peerOf, oldest, takenBy, ownUse, farUse, statusBy, sendStatus, sendMemory}

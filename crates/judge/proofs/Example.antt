@@ -8,8 +8,9 @@ use lib.ListN.{replicate, drop, length, getD}
 use Rattle.wire.specs.Fields.{fieldsAt, putFields}
 use Rattle.wire.specs.Le.{leAt, putLe}
 use Rattle.wire.specs.Rows.{rows, rowsFrom}
-use Rattle.wire.specs.Scan.{lowest, lowestFrom, anyBelow}
+use Rattle.wire.specs.Scan.{lowest, lowestFrom, anyBelow, all}
 use Rattle.tables.specs.Card.{Card, fresh}
+use Rattle.tables.specs.Image.{receiveOf}
 use Rattle.tables.specs.Records.{commandOf, dataSize, numberCodec, registerCodec, createQpCodec, modifyQpCodec, sendCodec, sgeCodec, receiveCodec, sendChecks, receiveChecks, receiveSges, sendSge, inlineBytes, inlineLength}
 use Rattle.tables.specs.declared.CreateQp.{CreateQp}
 use Rattle.tables.specs.declared.ModifyQp.{ModifyQp}
@@ -20,8 +21,8 @@ use Rattle.tables.specs.declared.Sge.{Sge}
 use Rattle.rules.specs.declared.Answer.{Answer}
 use Rattle.rules.specs.declared.Cause.the-variants.{Peer, Place}
 use Rattle.rules.specs.declared.Answer.the-variants.{Done, Held, Refused}
-use Rattle.rules.specs.Lists.{all, stored}
-use Rattle.rules.specs.Touch.{requestOf, receiveOf, range, sgeBytes, sgeTotal, total, ownBytes, farBytes, byteOf, message, delivered}
+use Rattle.rules.specs.Lists.{stored}
+use Rattle.rules.specs.Touch.{requestOf, receiveIn, range, sgeBytes, sgeTotal, total, ownBytes, farBytes, byteOf, message, delivered}
 use Rattle.rules.specs.Permit.{permits, permitsAll, place, lookup, covers}
 use Rattle.rules.specs.Control.{commandChecks, commandAck, commandEffect}
 use Rattle.rules.specs.Send.{deliveryChecks, sendStatus, sendPuts, putAll, sendQps, sendEffect, sendMemory}
@@ -103,5 +104,5 @@ pub works : drop 11 (run (fresh 8) [] (setup ++ (posted 0 257 ∷ posted 2 0 ∷
     ∷ (Done 0, (1 ∷ 5 ∷ 6 ∷ 4 ∷ 5 ∷ 6 ∷ 7 ∷ 8 ∷ [], true))
     ∷ (Done 8, (1 ∷ 2 ∷ 3 ∷ 4 ∷ 5 ∷ 6 ∷ 7 ∷ 8 ∷ [], false))
     ∷ []
-unfolding run fieldsAt putFields leAt putLe rows rowsFrom lowest lowestFrom anyBelow commandOf dataSize numberCodec registerCodec createQpCodec modifyQpCodec sendCodec sgeCodec sendChecks receiveChecks receiveSges sendSge inlineBytes inlineLength all stored requestOf receiveOf range sgeBytes sgeTotal total ownBytes farBytes byteOf message delivered permits permitsAll place lookup covers commandChecks commandAck commandEffect deliveryChecks sendStatus sendPuts putAll sendQps sendEffect sendMemory joinChecks joined flushChecks flushed pollChecks polled checks resetChecks controlChecks bufferChecks statusOf effect memoryAfter bufferAfter step fed ackData judge passes placed peerNo oldestAt waiting standing domain peer accepted taken
+unfolding run fieldsAt putFields leAt putLe rows rowsFrom lowest lowestFrom anyBelow commandOf dataSize numberCodec registerCodec createQpCodec modifyQpCodec sendCodec sgeCodec sendChecks receiveChecks receiveSges sendSge inlineBytes inlineLength all stored requestOf receiveIn receiveOf range sgeBytes sgeTotal total ownBytes farBytes byteOf message delivered permits permitsAll place lookup covers commandChecks commandAck commandEffect deliveryChecks sendStatus sendPuts putAll sendQps sendEffect sendMemory joinChecks joined flushChecks flushed pollChecks polled checks resetChecks controlChecks bufferChecks statusOf effect memoryAfter bufferAfter step fed ackData judge passes placed peerNo oldestAt waiting standing domain peer accepted taken
 works = refl

@@ -8,3 +8,4 @@ pub mod Run
 pub mod Bytes
 pub mod Example
 pub mod Count
+pub mod Whole

@@ -6,10 +6,11 @@ use mathlib.Core.Option.{Option, none, some}
 use Prim.Native.Nat.{ℕ, zero, suc, _+_, _/_, _%_}
 use lib.ListN.{getD, drop}
 use lib.Dec.{eqb, ltb, leb}
+use Rattle.wire.specs.Scan.{all}
 use Rattle.tables.specs.Limits.{mostMessage}
 use Rattle.tables.specs.Card.{Receive, noReceive}
 use Rattle.tables.specs.declared.Registration.{Registration}
-use Rattle.rules.specs.Lists.{all, names, orElse}
+use Rattle.rules.specs.Lists.{names, orElse}
 use Rattle.rules.specs.Touch.{Request, Byte, total, sgeTotal, ownBytes, farBytes, byteOf, delivered}
 use Rattle.judge.specs.Log.{Log, Entry, Note, note}
 

@@ -2,3 +2,4 @@ pub mod Log
 pub mod Judge
 pub mod Demand3
 pub mod Count
+pub mod Whole

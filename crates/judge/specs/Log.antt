@@ -12,7 +12,7 @@ use Rattle.tables.specs.declared.Registration.{Registration}
 use Rattle.rules.specs.declared.Answer.{Answer}
 use Rattle.rules.specs.declared.Answer.the-variants.{Done, Held, Refused}
 use Rattle.rules.specs.Call.{Call}
-use Rattle.rules.specs.Touch.{requestOf, receiveOf}
+use Rattle.rules.specs.Touch.{requestOf, receiveIn}
 
 -- a call answered 0, its status, and the numbers of its ack after the ack byte
 pub record Entry : Type 0 where
@@ -79,7 +79,7 @@ abbrev pub noteCall : Call → (status : ℕ) → (ack : List ℕ) → Note
 noteCall (Call.reset n) s a = other
 noteCall (Call.control k b) s a = noteCommand (commandOf k) a
 noteCall (Call.send q x m) s a = sent q (requestOf x .opcode) s
-noteCall (Call.receive q x) s a = cond (eqb s 0) (received q (receiveOf x)) other
+noteCall (Call.receive q x) s a = cond (eqb s 0) (received q (receiveIn x)) other
 noteCall (Call.flush q) s a = flushed q
 noteCall (Call.poll n b) s a = other
 

@@ -11,10 +11,9 @@ use borrow.Author.Tests.{leb-true, le-leb, ne-eqb, eqb-true}
 use Rattle.wire.specs.Checks.{Check, _if_, refusal}
 use Rattle.wire.specs.Fields.{putFields}
 use Rattle.wire.specs.Le.{putLe}
-use Rattle.wire.specs.Scan.{and-left, and-right, both-true}
+use Rattle.wire.specs.Scan.{and-left, and-right, both-true, all}
 use Rattle.tables.specs.Card.{Card}
 use Rattle.tables.specs.Records.{Command, commandOf, sendChecks, receiveChecks, ackFields}
-use Rattle.rules.specs.Lists.{all}
 use Rattle.rules.specs.declared.Cause.the-variants.{Peer, Place}
 use Rattle.rules.specs.declared.Answer.the-variants.{Done, Held, Refused}
 use Rattle.rules.specs.Answer.{number, answered, isDone, isHeld, listed}
@@ -23,7 +22,7 @@ use Rattle.rules.specs.Touch.{requestOf}
 use Rattle.rules.specs.Send.{deliveryChecks}
 use Rattle.rules.specs.Queues.{joinChecks, flushChecks, pollChecks}
 use Rattle.rules.specs.Call.{Call, memoryOf, bufferOf}
-use Rattle.rules.proofs.Ranges.{all-append}
+use Rattle.rules.proofs.Ranges.{all-split}
 use Rattle.rules.specs.Calls.{checks, resetChecks, controlChecks, bufferChecks, settled, step, owed, usable, bufferRefused, Result}
 
 -- ---- a fact of every test's number is one of the refusal's
@@ -56,7 +55,7 @@ command-fine c (Command.destroyQp q) = refl
 checks-fine : (c : Card) (k : Call) → all fine (checks c k) ≡ true
 unfolding all checks resetChecks controlChecks bufferChecks sendChecks receiveChecks deliveryChecks joinChecks flushChecks pollChecks
 checks-fine c (Call.reset n) = refl
-checks-fine c (Call.control k a) = rw (all-append fine (controlChecks k a) (commandChecks c (commandOf k)), command-fine c (commandOf k))
+checks-fine c (Call.control k a) = rw (all-split fine (controlChecks k a) (commandChecks c (commandOf k)), command-fine c (commandOf k))
 checks-fine c (Call.send q x m) = refl
 checks-fine c (Call.receive q x) = refl
 checks-fine c (Call.flush q) = refl
@@ -119,7 +118,7 @@ command-plain c (Command.destroyQp q) = refl
 checks-plain : (c : Card) (k : Call) → mayHold k ≡ false → all (λ t. plain (t .no)) (checks c k) ≡ true
 unfolding all checks resetChecks controlChecks bufferChecks receiveChecks joinChecks pollChecks
 checks-plain c (Call.reset n) e = refl
-checks-plain c (Call.control k a) e = rw (all-append (λ t. plain (t .no)) (controlChecks k a) (commandChecks c (commandOf k)), command-plain c (commandOf k))
+checks-plain c (Call.control k a) e = rw (all-split (λ t. plain (t .no)) (controlChecks k a) (commandChecks c (commandOf k)), command-plain c (commandOf k))
 checks-plain c (Call.send q x m) e = absurd (true≢false e)
 checks-plain c (Call.receive q x) e = refl
 checks-plain c (Call.flush q) e = absurd (true≢false e)

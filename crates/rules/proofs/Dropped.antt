@@ -8,11 +8,11 @@ use native.Mathlib.Omega.{arith}
 use lib.Dec.{eqb, leb}
 use lib.ListN.{length, getD}
 use borrow.Author.Tests.{ne-eqb, eqb-true, leb-true, leb-false, le-leb}
-use Rattle.wire.specs.Scan.{and-left, and-right, both-true}
+use Rattle.wire.specs.Scan.{and-left, and-right, both-true, all}
 use Rattle.wire.specs.Slots.{upd, same, split}
 use Rattle.tables.specs.Card.{Card, Qp}
 use Rattle.tables.specs.Records.{Command}
-use Rattle.rules.specs.Lists.{all, rest}
+use Rattle.rules.specs.Lists.{rest}
 use Rattle.rules.specs.Touch.{Request, Byte, fills, takes, total, farBytes}
 use Rattle.rules.specs.Permit.{keyOf, lookup, found, covers, permits, permitsAll}
 use Rattle.rules.specs.Control.{commandEffect, freeMrn, newVariant, nextVariant}

@@ -1,7 +1,7 @@
 -- P1 to P11 hold. Assumes nothing.
 use mathlib.Core.Path.{refl}
-use Rattle.wire.specs.Scan.{lowest, lowestFrom, anyBelow}
-use Rattle.rules.specs.Lists.{all, All}
+use Rattle.wire.specs.Scan.{lowest, lowestFrom, anyBelow, all}
+use Rattle.rules.specs.Lists.{All}
 use Rattle.rules.specs.Touch.{range, byteOf}
 use Rattle.rules.specs.Permit.{permits, permitsAll, place, lookup, covers}
 use Rattle.rules.specs.Control.{commandChecks, commandAck, commandEffect}

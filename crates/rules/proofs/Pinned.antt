@@ -5,12 +5,12 @@ use mathlib.Core.List.{List, [], _∷_, map}
 use Prim.Native.Nat.{ℕ, _+_, _^_, _-_}
 use Rattle.tables.specs.Card.{Receive, noReceive}
 use Rattle.tables.specs.declared.Sge.{Sge}
-use Rattle.rules.specs.Lists.{stored, all}
+use Rattle.rules.specs.Lists.{stored}
 use Rattle.rules.specs.Touch.{Request, Byte, range, sgeBytes, sgeTotal, total, ownBytes, farBytes, targetBytes, message, delivered, byteOf}
 use Rattle.rules.specs.Permit.{Use, granted, permitsAll, permits, lookup, covers}
 use Rattle.rules.specs.Control.{commandChecks, commandEffect}
 use Rattle.rules.specs.Marks.{platform, after, uses, region}
-use Rattle.wire.specs.Scan.{lowest, lowestFrom, anyBelow}
+use Rattle.wire.specs.Scan.{lowest, lowestFrom, anyBelow, all}
 use Rattle.tables.specs.Records.{Command}
 use Rattle.tables.specs.declared.CreateQp.{CreateQp}
 

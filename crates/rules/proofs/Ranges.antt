@@ -11,19 +11,18 @@ use lib.Dec.{eqb, leb, ltb}
 use lib.ListN.{length, take, drop}
 use lib.Seq.{take-append-le, take-append-add, take-nil}
 use borrow.Author.Tests.{le-leb, leb-true, leb-false, ne-eqb}
-use Rattle.wire.specs.Scan.{and-left, and-right, both-true}
+use Rattle.wire.specs.Scan.{and-left, and-right, both-true, all}
 use Rattle.tables.specs.Card.{Card}
 use Rattle.tables.specs.declared.Registration.{Registration}
 use Rattle.tables.specs.declared.Sge.{Sge}
-use Rattle.rules.specs.Lists.{all}
 use Rattle.rules.specs.Touch.{Byte, range, sgeBytes, sgeTotal}
 use Rattle.rules.specs.Permit.{Use, granted, lookup, covers, permits, permitsAll}
 use Rattle.rules.proofs.Stored.{range-length}
 
-pub all-append : {A : Type 0} (p : A → Bool) (xs ys : List A) → all p (xs ++ ys) ≡ (all p xs && all p ys)
+pub all-split : {A : Type 0} (p : A → Bool) (xs ys : List A) → all p (xs ++ ys) ≡ (all p xs && all p ys)
 unfolding all
-all-append p [] ys = refl
-all-append p (x ∷ xs) ys = rw (all-append p xs ys) (and-assoc (p x) (all p xs) (all p ys))
+all-split p [] ys = refl
+all-split p (x ∷ xs) ys = rw (all-split p xs ys) (and-assoc (p x) (all p xs) (all p ys))
   where
     and-assoc : (a b c : Bool) → (a && (b && c)) ≡ (a && b && c)
     and-assoc true b c = refl
@@ -99,7 +98,7 @@ module _ (c : Card) (q : ℕ) (u : Use) (k : ℕ) where
 pub sges-permitted : (c : Card) (q : ℕ) (u : Use) (p : Sge) (ps : List Sge) →
     permitsAll c q u (sgeBytes (p ∷ ps)) ≡ (permitsAll c q u (range (p .address) (p .key) (p .length)) && permitsAll c q u (sgeBytes ps))
 unfolding permitsAll sgeBytes
-sges-permitted c q u p ps = all-append (permits c q u) (range (p .address) (p .key) (p .length)) (sgeBytes ps)
+sges-permitted c q u p ps = all-split (permits c q u) (range (p .address) (p .key) (p .length)) (sgeBytes ps)
 
 -- the first n bytes of a range
 pub range-take : (n a k m : ℕ) → n ≤ m → take n (range a k m) ≡ range a k n

@@ -10,7 +10,7 @@ use lib.ListN.{length}
 use Rattle.wire.specs.Checks.{Check, _if_, refusal}
 use Rattle.wire.specs.Fields.{putFields}
 use Rattle.wire.specs.Le.{leAt}
-use Rattle.tables.specs.Limits.{mostMemory}
+use Rattle.tables.specs.Accept.{memoryOk}
 use Rattle.tables.specs.Layout.{image}
 use Rattle.tables.specs.Card.{Card, fresh}
 use Rattle.tables.specs.Records.{controlClass, dataSize, commandOf, ackFields, ackLeast, sendChecks, receiveChecks, completionCodec}
@@ -18,7 +18,7 @@ use Rattle.rules.specs.Lists.{isSome, orElse}
 use Rattle.rules.specs.declared.Answer.{Answer}
 use Rattle.rules.specs.declared.Answer.the-variants.{Refused}
 use Rattle.rules.specs.Answer.{answered, isDone}
-use Rattle.rules.specs.Touch.{requestOf, receiveOf}
+use Rattle.rules.specs.Touch.{requestOf, receiveIn}
 use Rattle.rules.specs.Control.{commandChecks, commandAck, commandEffect}
 use Rattle.rules.specs.Send.{deliveryChecks, sendStatus, sendEffect, sendMemory}
 use Rattle.rules.specs.Queues.{joinChecks, joined, flushChecks, flushed, pollChecks, polled, oldestEntry}
@@ -28,7 +28,7 @@ use Rattle.rules.specs.Call.{Call, memoryOf, bufferOf}
 
 -- "Reset takes the memory length, 1 to 1,048,576, else answer 11"
 unfoldable pub resetChecks : ℕ → List Check
-resetChecks n = 11 if not (leb 1 n && leb n mostMemory) ∷ []
+resetChecks n = 11 if not (memoryOk n) ∷ []
 
 -- "Check order: 12; fewer than two bytes 1; 13; data length 1"
 unfoldable pub controlChecks : (k a : List ℕ) → List Check
@@ -67,7 +67,7 @@ unfoldable pub effect : Card → Call → Card
 effect c (Call.reset n) = fresh n
 effect c (Call.control k a) = commandEffect c (commandOf k)
 effect c (Call.send q x m) = sendEffect c q (requestOf x)
-effect c (Call.receive q x) = joined c q (receiveOf x)
+effect c (Call.receive q x) = joined c q (receiveIn x)
 effect c (Call.flush q) = flushed c q
 effect c (Call.poll n b) = polled c n
 

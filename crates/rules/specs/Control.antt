@@ -9,14 +9,11 @@ use Rattle.wire.specs.Scan.{lowest, anyBelow}
 use Rattle.wire.specs.Slots.{upd}
 use Rattle.tables.specs.Limits.{pdCount, cqCount, mrCount, qpCount, mostPlaces, mostAddress, mostAccess}
 use Rattle.tables.specs.Card.{Card, Qp, withPd, withCq, withMr, withQp, freeCq, freeMr, freeQp}
+use Rattle.tables.specs.Accept.{cqLive, isState}
 use Rattle.tables.specs.Records.{Command}
 use Rattle.rules.specs.Permit.{keyOf}
 
 -- ---- numbers that are live, free or in use
-
--- a completion queue is live where it has places
-abbrev pub cqLive : Card → ℕ → Bool
-cqLive c n = ltb 0 (c .cq n .places)
 
 -- "Creation takes the lowest free number"; the table's count where none is free
 abbrev pub freePdn : Card → ℕ
@@ -47,10 +44,6 @@ abbrev pub newVariant : Card → ℕ
 newVariant c = nextVariant (c .mr (freeMrn c) .variant)
 
 -- ---- queue pair states
-
--- "States 0 reset, 1 init, 2 ready to receive (RTR), 3 ready to send (RTS), 6 error"
-abbrev pub isState : ℕ → Bool
-isState t = leb t 3 || eqb t 6
 
 -- "Moves: 0 to 1, 1 to 2, 2 to 3, any to 0, any to 6"
 abbrev pub isMove : (from to : ℕ) → Bool

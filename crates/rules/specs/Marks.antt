@@ -6,12 +6,13 @@ use mathlib.Core.Option.{Option, none, some}
 use Prim.Native.Nat.{ℕ, _-_, _^_}
 use lib.Dec.{eqb}
 use lib.ListN.{getD}
+use Rattle.wire.specs.Scan.{all}
 use Rattle.wire.specs.Checks.{refusal}
 use Rattle.tables.specs.Card.{Card, Mr, fresh, freeMr, withMr}
 use Rattle.tables.specs.Records.{Command}
 use Rattle.tables.specs.declared.CreateQp.{CreateQp}
 use Rattle.tables.specs.declared.Registration.{Registration}
-use Rattle.rules.specs.Lists.{all, All}
+use Rattle.rules.specs.Lists.{All}
 use Rattle.rules.specs.Touch.{Byte, range}
 use Rattle.rules.specs.Permit.{Use, permitsAll, place}
 use Rattle.rules.specs.Control.{commandChecks, commandAck, commandEffect}

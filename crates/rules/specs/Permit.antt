@@ -4,10 +4,10 @@ use mathlib.Core.List.{List}
 use mathlib.Core.Option.{Option, none, some}
 use Prim.Native.Nat.{ℕ, _+_, _*_, _/_}
 use lib.Dec.{eqb, ltb, leb}
+use Rattle.wire.specs.Scan.{all}
 use Rattle.wire.specs.Checks.{has}
 use Rattle.tables.specs.Card.{Card, Mr}
 use Rattle.tables.specs.declared.Registration.{Registration}
-use Rattle.rules.specs.Lists.{all}
 use Rattle.rules.specs.Touch.{Byte, byteOf}
 
 -- "the use's right: local reading none, local writing bit 1, remote write 2, remote read 4"

@@ -8,9 +8,10 @@ use Rattle.wire.specs.Checks.{Check, _if_}
 use Rattle.wire.specs.Slots.{upd}
 use Rattle.tables.specs.Limits.{mostWaiting}
 use Rattle.tables.specs.Card.{Card, Receive, withCq, withQp}
+use Rattle.tables.specs.Accept.{cqLive}
+use Rattle.tables.specs.Image.{noCompletion}
 use Rattle.tables.specs.declared.Completion.{Completion}
 use Rattle.rules.specs.Lists.{isEmpty, rest}
-use Rattle.rules.specs.Control.{cqLive}
 use Rattle.rules.specs.Send.{Put, putAll, room, oldest, withWaiting, consumeIf}
 
 -- "2; state 0 or 6 gives 3; full 8. Keys aren't looked at."
@@ -53,8 +54,5 @@ unfoldable pub polled : Card → (n : ℕ) → Card
 polled c n = withCq c (upd (c .cq) n (record { places = c .cq n .places; entries = rest (c .cq n .entries) }))
 
 -- it is what the poll gives back; nothing where the queue is empty, which is refused
-abbrev pub noCompletion : Completion
-noCompletion = record { wr = 0; status = 0; opcode = 0; length = 0; imm = 0; owner = 0 }
-
 abbrev pub oldestEntry : Card → (n : ℕ) → Completion
 oldestEntry c n = getD (c .cq n .entries) 0 noCompletion

@@ -8,7 +8,8 @@ use lib.Dec.{eqb, leb}
 use lib.ListN.{length, getD, take}
 use Rattle.wire.specs.Rows.{rows}
 use Rattle.tables.specs.Card.{Receive}
-use Rattle.tables.specs.Records.{sendCodec, isSignaled, isInline, inlineBytes, sendSge, receiveCodec, receiveSges}
+use Rattle.tables.specs.Image.{receiveOf}
+use Rattle.tables.specs.Records.{sendCodec, isSignaled, isInline, inlineBytes, sendSge, receiveCodec}
 use Rattle.tables.specs.declared.Registration.{Registration}
 use Rattle.tables.specs.declared.Sge.{Sge}
 use Rattle.rules.specs.Lists.{stored}
@@ -44,8 +45,8 @@ requestOf x =
     }
 
 -- the receive that the bytes of a receive record are
-unfoldable pub receiveOf : List ℕ → Receive
-receiveOf x = record { wr = receiveCodec .read x 0 .wr; sges = receiveSges (receiveCodec .read x 0) }
+unfoldable pub receiveIn : List ℕ → Receive
+receiveIn x = receiveOf (receiveCodec .read x 0)
 
 -- "Opcodes: 0 write, 1 write with immediate, 2 send, 3 send with immediate, 4 read"; 1, 2, 3 take a receive of the peer, 2 and 3 fill it
 abbrev pub takes : ℕ → Bool
