@@ -5,8 +5,9 @@ use mathlib.Core.List.{List}
 use Prim.Native.Nat.{ℕ}
 use lib.Dec.{eqb}
 use lib.ListN.{length}
-use Rattle.wire.specs.Scan.{and-left}
+use borrow.Author.Tests.{eq-eqb}
 use Rattle.tables.specs.Accept.{accepts}
+use Rattle.tables.specs.Accepted.{accepted}
 use Rattle.tables.specs.Image.{card}
 use Rattle.tables.specs.Layout.{image}
 use Rattle.judge.specs.Whole.{Whole}
@@ -15,8 +16,7 @@ use Rattle.judge.proofs.Bytes.{demand3-bytes}
 use Rattle.judge.proofs.Count.{counted}
 
 accepted-length : (l : List ℕ) → accepts l ≡ true → eqb (length l) image ≡ true
-unfolding accepts
-accepted-length l e = and-left (eqb (length l) image) _ e
+accepted-length l e = eq-eqb (length l) image (accepted l e .sized)
 
 pub whole : Whole
 whole = record {

@@ -7,3 +7,4 @@ pub mod Answers
 pub mod Marks
 pub mod Dropped
 pub mod Pinned
+pub mod Runs
