@@ -24,6 +24,7 @@ use Rattle.rules.specs.Call.{Call, memoryOf}
 use Rattle.rules.specs.Calls.{checks, controlChecks, effect, statusOf, bufferAfter, settled, step, owed, usable, bufferRefused, Result}
 use Rattle.rules.specs.declared.Cause.the-variants.{Peer, Place}
 use Rattle.rules.specs.declared.Answer.the-variants.{Done, Held, Refused}
+use Rattle.rules.proofs.Answers.{owed-is}
 use Rattle.rules.proofs.Tests.{passed-before, passed-after}
 use Rattle.judge.specs.Log.{Note, noteCommand, ackData}
 use Rattle.judge.specs.Demand3.{Seen, stateAfter, Met, Linked}
@@ -212,7 +213,7 @@ counts-step c k t a = go (refusal (checks c k)) refl
 
 module _ (cardOf : List ℕ → Card) (accepts : List ℕ → Bool) where
   counts-on : (st : List ℕ) (k : Call) (t : ℕ → Tally) → Counts (cardOf st .qp) t → After k (cardOf st) t (owed cardOf accepts st k)
-  counts-on st k t a = go (usable cardOf accepts st k)
+  counts-on st k t a = rw (owed-is cardOf accepts st k) (go (usable cardOf accepts st k))
     where
       go : (b : Bool) → After k (cardOf st) t (cond b (step (cardOf st) k) (settled (some 15) (cardOf st) k))
       go true = counts-step (cardOf st) k t a

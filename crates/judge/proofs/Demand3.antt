@@ -20,6 +20,7 @@ use Rattle.rules.specs.Calls.{checks, effect, statusOf, memoryAfter, bufferAfte
 use Rattle.rules.specs.declared.Answer.{Answer}
 use Rattle.rules.specs.declared.Cause.the-variants.{Peer, Place}
 use Rattle.rules.specs.declared.Answer.the-variants.{Done, Held, Refused}
+use Rattle.rules.proofs.Answers.{owed-is}
 use Rattle.judge.specs.Log.{Log, fed}
 use Rattle.judge.specs.Judge.{Right, passes, placed, peerNo, waiting, oldestAt, ownRight, farRight, fitsReceive, judge, judgedMemory, domain, standing}
 use Rattle.judge.specs.Demand3.{Correct, Seen, Sent, OfCall, OfAnswer, EachSend, logAfter, stateAfter, Met, Linked, Demand3, Resumed}
@@ -125,7 +126,7 @@ module _ (P : Sent) (claim : Claim P) where
 
   module _ (cardOf : List ℕ → Card) (accepts : List ℕ → Bool) where
     kept-on : (st : List ℕ) (k : Call) (l : Log) → Agree (cardOf st) l → Kept l k (owed cardOf accepts st k)
-    kept-on st k l a = go (usable cardOf accepts st k)
+    kept-on st k l a = rw (owed-is cardOf accepts st k) (go (usable cardOf accepts st k))
       where
         go : (b : Bool) → Kept l k (cond b (step (cardOf st) k) (settled (some 15) (cardOf st) k))
         go true = kept (cardOf st) k l a

@@ -17,7 +17,7 @@ use Rattle.rules.specs.Call.{Call}
 use Rattle.rules.specs.Calls.{checks, effect, settled, step, owed, usable, Meets}
 use Rattle.rules.specs.declared.Answer.{Answer}
 use Rattle.rules.specs.declared.Answer.the-variants.{Done, Held, Refused}
-use Rattle.rules.proofs.Answers.{step-below, answered-not-done}
+use Rattle.rules.proofs.Answers.{owed-is, step-below, answered-not-done}
 use Rattle.judge.specs.Log.{Log, fed}
 use Rattle.judge.specs.Demand3.{Correct, Seen, Sent, EachSend, logAfter, stateAfter, Met, Linked, Demand3, Resumed, Steady}
 use Rattle.judge.proofs.Agree.{Agree, start}
@@ -39,7 +39,9 @@ module _ (cardOf : List ℕ → Card) (accepts : List ℕ → Bool) where
   module _ (st : List ℕ) (n : ℕ) (x : Seen) (is-reset : x .call ≡ Call.reset n) (met : Met cardOf accepts st x) (done : x .answer ≡ Done 0) where
     -- whatever the state held
     pub fresh-card : cardOf (x .state) ≡ fresh n
-    fresh-card = rw (met .card, is-reset) (go (eqb (length st) image) (rw is-reset at (sym (met .answer) ∙ done)))
+    fresh-card =
+        rw (met .card, is-reset, owed-is cardOf accepts st (Call.reset n))
+        (go (eqb (length st) image) (rw (is-reset, owed-is cardOf accepts st (Call.reset n)) at (sym (met .answer) ∙ done)))
       where
         go : (b : Bool) → cond b (step (cardOf st) (Call.reset n)) (settled (some 15) (cardOf st) (Call.reset n)) .answer ≡ Done 0 →
             cond b (step (cardOf st) (Call.reset n)) (settled (some 15) (cardOf st) (Call.reset n)) .card ≡ fresh n
@@ -76,7 +78,7 @@ module _ (cardOf : List ℕ → Card) (accepts : List ℕ → Bool) where
 
     not-15 : (l : List ℕ) (x : Seen) → Met cardOf accepts l x → accepts l ≡ true → eqb (number (x .answer)) 15 ≡ false
     not-15 l x h e =
-        rw (h .answer, usable-accepted l (x .call) e)
+        rw (h .answer, owed-is cardOf accepts l (x .call), usable-accepted l (x .call) e)
         (let b = step-below (cardOf l) (x .call) in ne-eqb (number (step (cardOf l) (x .call) .answer)) 15 (omega arith))
 
     still : (l : List ℕ) (x : Seen) → Met cardOf accepts l x → accepts l ≡ true → accepts (x .state) ≡ true

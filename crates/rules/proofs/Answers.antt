@@ -165,9 +165,19 @@ unfolding putFields putLe
 error-ack a = refl
 
 module _ (cardOf : List ℕ → Card) (accepts : List ℕ → Bool) where
+  -- on a state that it can use a call does what it does on the card
+  pub owed-is : (l : List ℕ) (k : Call) → owed cardOf accepts l k ≡ cond (usable cardOf accepts l k) (step (cardOf l) k) (settled (some 15) (cardOf l) k)
+  unfolding step
+  owed-is l k = go (usable cardOf accepts l k)
+    where
+      go : (b : Bool) → settled (cond (not b) (some 15) (refusal (checks (cardOf l) k))) (cardOf l) k
+          ≡ cond b (settled (refusal (checks (cardOf l) k)) (cardOf l) k) (settled (some 15) (cardOf l) k)
+      go true = refl
+      go false = refl
+
   -- demand 1: every answer is a number of the table
   pub owed-listed : (l : List ℕ) (k : Call) → listed (number (owed cardOf accepts l k .answer)) ≡ true
-  owed-listed l k = go (usable cardOf accepts l k)
+  owed-listed l k = rw (owed-is l k) (go (usable cardOf accepts l k))
     where
       go : (b : Bool) → listed (number (cond b (step (cardOf l) k) (settled (some 15) (cardOf l) k) .answer)) ≡ true
       go true =
@@ -178,7 +188,7 @@ module _ (cardOf : List ℕ → Card) (accepts : List ℕ → Bool) where
 
   -- demand 1: a refused or held call changes no memory, no table and no lent byte, but for the one ack byte of a refused command
   pub owed-unchanged : (l : List ℕ) (k : Call) → isDone (owed cardOf accepts l k .answer) ≡ false → Unchanged (cardOf l) k (owed cardOf accepts l k)
-  owed-unchanged l k = go (usable cardOf accepts l k)
+  owed-unchanged l k = rw (owed-is l k) (go (usable cardOf accepts l k))
     where
       go : (b : Bool) → isDone (cond b (step (cardOf l) k) (settled (some 15) (cardOf l) k) .answer) ≡ false →
           Unchanged (cardOf l) k (cond b (step (cardOf l) k) (settled (some 15) (cardOf l) k))

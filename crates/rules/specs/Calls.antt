@@ -126,9 +126,13 @@ module _ (cardOf : List ℕ → Card) (accepts : List ℕ → Bool) where
   usable l (Call.flush q) = accepts l
   usable l (Call.poll n b) = accepts l
 
+  -- the whole order of each call
+  abbrev pub owedChecks : List ℕ → Call → List Check
+  owedChecks l k = 15 if not (usable l k) ∷ checks (cardOf l) k
+
   -- what a call on the state l owes
   abbrev pub owed : List ℕ → Call → Result
-  owed l k = cond (usable l k) (step (cardOf l) k) (settled (some 15) (cardOf l) k)
+  owed l k = settled (refusal (owedChecks l k)) (cardOf l) k
 
   -- The contract of every call: k on the state l answers r and leaves the state l′, the memory m′ and the answer buffer b′.
   pub record Meets (l : List ℕ) (k : Call) (r : Answer) (l′ m′ b′ : List ℕ) : Type 0 where

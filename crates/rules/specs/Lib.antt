@@ -9,3 +9,4 @@ pub mod Call
 pub mod Calls
 pub mod Marks
 pub mod Dropped
+pub mod Contract
