@@ -8,3 +8,4 @@ pub mod Marks
 pub mod Dropped
 pub mod Pinned
 pub mod Runs
+pub mod Meeting
