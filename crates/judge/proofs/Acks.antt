@@ -1,10 +1,10 @@
 -- The ack data that the judge reads is what the card wrote: one layout, read and written. Assumes nothing.
-use mathlib.Core.Path.{_≡_, refl, ap}
+use mathlib.Core.Path.{_≡_, ap}
 use mathlib.Core.List.{List, [], _∷_}
-use Prim.Native.Nat.{ℕ, _+_, _^_, _≤_, _<_}
+use Prim.Native.Nat.{ℕ, _^_, _≤_, _<_}
 use native.Mathlib.Omega.{arith}
 use lib.ListN.{length, getD, drop}
-use Rattle.wire.specs.Fields.{Field, field, fieldsAt, putFields, Fit, within, clear, apart, fieldsAt-stored}
+use Rattle.wire.specs.Fields.{field, fieldsAt, putFields, Fit, within, clear, apart, fieldsAt-stored}
 use Rattle.tables.specs.Records.{ackFields, ackLeast}
 use Rattle.judge.specs.Log.{ackData}
 

@@ -1,17 +1,17 @@
 -- The card agrees with the log: what each accepted call does to both. Assumes nothing.
-use mathlib.Core.Path.{_≡_, refl, sym, ap, subst, _∙_, fun-ext}
-use mathlib.Core.Bool.{Bool, true, false, cond, not, _&&_, _||_, false≢true}
-use mathlib.Core.List.{List, [], _∷_, _++_}
+use mathlib.Core.Path.{_≡_, refl}
+use mathlib.Core.Bool.{Bool, true, false, not, _&&_, false≢true}
+use mathlib.Core.List.{List, [], _∷_}
 use mathlib.Core.Option.{Option, none, some}
-use Prim.Native.Nat.{ℕ, zero, suc, _+_, _*_, _^_, _≤_, _<_}
+use Prim.Native.Nat.{ℕ, _+_, _≤_, _<_}
 use native.Mathlib.Omega.{arith}
-use lib.Dec.{eqb, leb, ltb}
-use lib.ListN.{getD, length}
+use lib.Dec.{eqb}
+use lib.ListN.{length}
 use borrow.Author.Tests.{eqb-true, leb-false, ltb-false, not-true, not-false}
-use Rattle.wire.specs.Checks.{Check, refusal, Passed}
+use Rattle.wire.specs.Checks.{Passed}
 use Rattle.wire.specs.Fields.{putFields}
-use Rattle.wire.specs.Scan.{lowest-passes, and-left, and-right}
-use Rattle.wire.specs.Slots.{upd, split, same}
+use Rattle.wire.specs.Scan.{lowest-passes, and-left}
+use Rattle.wire.specs.Slots.{split, same}
 use Rattle.tables.specs.Limits.{mrCount, qpCount, mostAddress}
 use Rattle.tables.specs.Card.{Card, Mr, Qp, fresh}
 use Rattle.tables.specs.Records.{Command, commandOf, ackFields, ackLeast, sendChecks}
@@ -20,7 +20,7 @@ use Rattle.rules.specs.Permit.{keyOf}
 use Rattle.rules.specs.Touch.{Request, requestOf, takes}
 use Rattle.rules.specs.Control.{commandChecks, commandAck, commandEffect, freeMrn, freeQpn, newVariant}
 use Rattle.rules.specs.Send.{deliveryChecks, peerOf, ready, consumes, errorIf, consumeIf, sendStatus, sendQps, sendEffect}
-use Rattle.rules.specs.Queues.{joinChecks, joined, flushChecks, flushed, polled}
+use Rattle.rules.specs.Queues.{joined, flushChecks, flushed, polled}
 use Rattle.rules.specs.Call.{Call}
 use Rattle.rules.specs.Calls.{checks, controlChecks, effect, statusOf, bufferAfter}
 use Rattle.rules.specs.declared.Answer.the-variants.{Done}

@@ -11,27 +11,27 @@ use borrow.Author.Tests.{leb-false, ltb-false}
 use Rattle.wire.specs.Checks.{refusal, Passed, passed}
 use Rattle.wire.specs.Fields.{putFields}
 use Rattle.wire.specs.Scan.{and-left}
-use Rattle.wire.specs.Slots.{upd, split, same}
+use Rattle.wire.specs.Slots.{split, same}
 use Rattle.tables.specs.Limits.{qpCount}
-use Rattle.tables.specs.Card.{Card, Qp, Receive, fresh}
+use Rattle.tables.specs.Card.{Card, Qp, Receive}
 use Rattle.tables.specs.Records.{Command, commandOf, ackFields, ackLeast}
 use Rattle.rules.specs.Lists.{isEmpty, rest}
-use Rattle.rules.specs.Touch.{Request, requestOf, receiveIn, takes, fills, reads}
+use Rattle.rules.specs.Touch.{Request, requestOf, receiveIn, fills, reads}
 use Rattle.rules.specs.Control.{commandChecks, commandAck, commandEffect, freeQpn}
-use Rattle.rules.specs.Send.{Put, peerOf, consumes, senderOpcode, receiverOpcode, senderPut, receiverPut, errorIf, consumeIf, sendStatus, sendPuts, putAll, sendQps, sendEffect}
-use Rattle.rules.specs.Queues.{flushPut, flushChecks, flushed, joined, polled}
+use Rattle.rules.specs.Send.{peerOf, consumes, senderOpcode, receiverOpcode, senderPut, receiverPut, errorIf, consumeIf, sendStatus, sendPuts, putAll, sendQps, sendEffect}
+use Rattle.rules.specs.Queues.{flushChecks, flushed, joined, polled}
 use Rattle.rules.specs.Call.{Call, memoryOf}
 use Rattle.rules.specs.Calls.{checks, controlChecks, effect, statusOf, bufferAfter, settled, step, owed, usable, bufferRefused, Result}
 use Rattle.rules.specs.declared.Cause.the-variants.{Peer, Place}
 use Rattle.rules.specs.declared.Answer.the-variants.{Done, Held, Refused}
 use Rattle.rules.proofs.Answers.{owed-is}
 use Rattle.rules.proofs.Tests.{passed-before, passed-after}
-use Rattle.judge.specs.Log.{Note, noteCommand, ackData}
-use Rattle.judge.specs.Demand3.{Seen, stateAfter, Met, Linked}
+use Rattle.judge.specs.Log.{noteCommand, ackData}
+use Rattle.judge.specs.Demand3.{Seen, stateAfter, Linked}
 use Rattle.judge.specs.Count.{puts, receivePuts, Tally, none-yet, tallyBy, tallied, tallyAfter, Counted}
 use Rattle.judge.proofs.Acks.{one-number}
 use Rattle.judge.proofs.Pairs.{error-waiting}
-use Rattle.judge.proofs.Agree.{Sendable, sendable}
+use Rattle.judge.proofs.Agree.{sendable}
 use Rattle.judge.proofs.Run.{fresh-card}
 
 -- what is counted as put is what the card puts

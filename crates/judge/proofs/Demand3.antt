@@ -1,29 +1,25 @@
 -- Demand 3 holds. Assumes nothing.
-use mathlib.Core.Path.{_≡_, refl, sym, ap, _∙_, fun-ext}
-use mathlib.Core.Bool.{Bool, true, false, cond, not, _&&_, _||_, true≢false}
+use mathlib.Core.Path.{_≡_, refl, ap, fun-ext}
+use mathlib.Core.Bool.{Bool, true, false, cond, not, _&&_, _||_}
 use mathlib.Core.List.{List, [], _∷_}
 use mathlib.Core.Option.{Option, none, some}
 use Prim.Native.Nat.{ℕ}
-use native.Mathlib.Omega.{arith}
 use lib.Dec.{eqb, leb}
-use lib.ListN.{length, getD}
-use Rattle.wire.specs.Scan.{all}
-use Rattle.wire.specs.Checks.{Check, refusal, Passed, passed}
+use Rattle.wire.specs.Checks.{refusal, Passed, passed}
 use Rattle.tables.specs.Limits.{mostMessage, qpCount}
 use Rattle.tables.specs.Card.{Card}
 use Rattle.rules.specs.Lists.{orElse}
-use Rattle.rules.specs.Touch.{Request, Byte, requestOf, fills, total, sgeTotal, ownBytes, farBytes, delivered}
+use Rattle.rules.specs.Touch.{Request, requestOf, fills, total}
 use Rattle.rules.specs.Permit.{Use, permits, permitsAll, place}
-use Rattle.rules.specs.Send.{peerOf, oldest, takenBy, ownUse, farUse, statusBy, sendStatus, sendMemory}
+use Rattle.rules.specs.Send.{peerOf, takenBy, ownUse, farUse, statusBy, sendStatus, sendMemory}
 use Rattle.rules.specs.Call.{Call}
-use Rattle.rules.specs.Calls.{checks, effect, statusOf, memoryAfter, bufferAfter, settled, step, owed, usable, Result}
-use Rattle.rules.specs.declared.Answer.{Answer}
+use Rattle.rules.specs.Calls.{checks, statusOf, memoryAfter, settled, step, owed, usable, Result}
 use Rattle.rules.specs.declared.Cause.the-variants.{Peer, Place}
-use Rattle.rules.specs.declared.Answer.the-variants.{Done, Held, Refused}
+use Rattle.rules.specs.declared.Answer.the-variants.{Held, Refused}
 use Rattle.rules.proofs.Answers.{owed-is}
 use Rattle.judge.specs.Log.{Log, fed}
-use Rattle.judge.specs.Judge.{Right, passes, placed, peerNo, waiting, oldestAt, ownRight, farRight, fitsReceive, judge, judgedMemory, domain, standing}
-use Rattle.judge.specs.Demand3.{Correct, Seen, Sent, OfCall, OfAnswer, EachSend, logAfter, stateAfter, Met, Linked, Demand3, Resumed}
+use Rattle.judge.specs.Judge.{passes, placed, peerNo, waiting, oldestAt, judge, judgedMemory, domain, standing}
+use Rattle.judge.specs.Demand3.{Correct, Seen, Sent, OfCall, OfAnswer, EachSend, logAfter, stateAfter, Linked}
 use Rattle.judge.proofs.Rights.{needs-right, own-right, far-right, same-fills}
 use Rattle.judge.proofs.Keys
 use Rattle.judge.proofs.Agree.{Agree, Sendable, sendable, accepted-call}

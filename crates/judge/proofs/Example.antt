@@ -1,10 +1,10 @@
 -- A run, computed from the bytes of its calls: a write, a hold, a receive, a send, a read and a failed write, each with its answer, the
 -- memory after it, and the judge's verdict. Assumes nothing.
 use mathlib.Core.Path.{_≡_, refl}
-use mathlib.Core.Bool.{Bool, true, false, cond}
-use mathlib.Core.List.{List, [], _∷_, _++_, map}
-use Prim.Native.Nat.{ℕ, _+_, _*_}
-use lib.ListN.{replicate, drop, length, getD}
+use mathlib.Core.Bool.{Bool, true, false}
+use mathlib.Core.List.{List, [], _∷_, _++_}
+use Prim.Native.Nat.{ℕ, _+_}
+use lib.ListN.{replicate, drop, length}
 use Rattle.wire.specs.Fields.{fieldsAt, putFields}
 use Rattle.wire.specs.Le.{leAt, putLe}
 use Rattle.wire.specs.Rows.{rows, rowsFrom}
@@ -12,15 +12,9 @@ use Rattle.wire.specs.Scan.{lowest, lowestFrom, anyBelow, all}
 use Rattle.tables.specs.Card.{Card, fresh}
 use Rattle.tables.specs.Image.{receiveOf}
 use Rattle.tables.specs.Records.{commandOf, dataSize, numberCodec, registerCodec, createQpCodec, modifyQpCodec, sendCodec, sgeCodec, receiveCodec, sendChecks, receiveChecks, receiveSges, sendSge, inlineBytes, inlineLength}
-use Rattle.tables.specs.declared.CreateQp.{CreateQp}
-use Rattle.tables.specs.declared.ModifyQp.{ModifyQp}
-use Rattle.tables.specs.declared.ReceiveRecord.{ReceiveRecord}
-use Rattle.tables.specs.declared.Registration.{Registration}
-use Rattle.tables.specs.declared.SendRecord.{SendRecord}
-use Rattle.tables.specs.declared.Sge.{Sge}
 use Rattle.rules.specs.declared.Answer.{Answer}
-use Rattle.rules.specs.declared.Cause.the-variants.{Peer, Place}
-use Rattle.rules.specs.declared.Answer.the-variants.{Done, Held, Refused}
+use Rattle.rules.specs.declared.Cause.the-variants.{Peer}
+use Rattle.rules.specs.declared.Answer.the-variants.{Done, Held}
 use Rattle.rules.specs.Lists.{stored}
 use Rattle.rules.specs.Touch.{requestOf, receiveIn, range, sgeBytes, sgeTotal, total, ownBytes, farBytes, byteOf, message, delivered}
 use Rattle.rules.specs.Permit.{permits, permitsAll, place, lookup, covers}
@@ -28,7 +22,7 @@ use Rattle.rules.specs.Control.{commandChecks, commandAck, commandEffect}
 use Rattle.rules.specs.Send.{deliveryChecks, sendStatus, sendPuts, putAll, sendQps, sendEffect, sendMemory}
 use Rattle.rules.specs.Queues.{joinChecks, joined, flushChecks, flushed, pollChecks, polled}
 use Rattle.rules.specs.Call.{Call}
-use Rattle.rules.specs.Calls.{checks, resetChecks, controlChecks, bufferChecks, statusOf, effect, memoryAfter, bufferAfter, step, Result}
+use Rattle.rules.specs.Calls.{checks, resetChecks, controlChecks, bufferChecks, statusOf, effect, memoryAfter, bufferAfter, step}
 use Rattle.judge.specs.Log.{Log, fed, ackData}
 use Rattle.judge.specs.Judge.{judge, passes, placed, peerNo, oldestAt, waiting, standing, domain, peer, accepted, taken}
 

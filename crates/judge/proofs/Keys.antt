@@ -1,18 +1,18 @@
 -- The region table against the log: a key finds the same registration in both. Assumes nothing.
-use mathlib.Core.Path.{_≡_, refl, sym, ap, subst, _∙_}
-use mathlib.Core.Bool.{Bool, true, false, cond, not, _&&_, _||_, false≢true}
+use mathlib.Core.Path.{_≡_, refl, sym, subst, _∙_}
+use mathlib.Core.Bool.{Bool, true, false, cond, _&&_, _||_, false≢true}
 use mathlib.Core.Option.{Option, none, some}
-use Prim.Native.Nat.{ℕ, _+_, _*_, _/_, _^_, _≤_, _<_}
+use Prim.Native.Nat.{ℕ, _+_, _/_, _^_, _≤_, _<_}
 use native.Mathlib.Omega.{arith}
 use lib.Dec.{eqb, leb, ltb}
-use borrow.Author.Tests.{eq-eqb, ne-eqb, eqb-true, eqb-false, leb-false, leb-true, ltb-true}
+use borrow.Author.Tests.{ne-eqb, eqb-false, leb-true, ltb-true}
 use Rattle.wire.specs.Slots.{upd, split, same}
 use Rattle.wire.specs.Scan.{and-left, and-right}
 use Rattle.tables.specs.Limits.{mostAddress}
 use Rattle.tables.specs.Card.{Mr, freeMr}
 use Rattle.tables.specs.declared.Registration.{Registration}
 use Rattle.rules.specs.Touch.{byteOf}
-use Rattle.rules.specs.Permit.{keyOf, found, lookup, covers, placeIn, Use}
+use Rattle.rules.specs.Permit.{keyOf, lookup, covers, placeIn, Use}
 use Rattle.rules.specs.Control.{nextVariant}
 use Rattle.rules.proofs.Variants.{next-small, slot}
 use Rattle.judge.specs.Judge.{Standing, Right, grants, unless, passesBy, placeBy}

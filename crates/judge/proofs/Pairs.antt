@@ -8,7 +8,7 @@ use native.Mathlib.Omega.{arith}
 use lib.Dec.{eqb}
 use lib.ListN.{length, drop, length-append}
 use lib.Seq.{drop-append-le}
-use Rattle.wire.specs.Slots.{upd, split, same}
+use Rattle.wire.specs.Slots.{split, same}
 use Rattle.tables.specs.Card.{Qp, Receive}
 use Rattle.rules.specs.Lists.{isSome, rest, isEmpty}
 use Rattle.rules.specs.Send.{errorIf, consumeIf}

@@ -1,16 +1,15 @@
 -- The judge's rights are the masks of the rules. Assumes nothing.
 use mathlib.Core.Path.{_≡_, refl, sym, ap, _∙_}
-use mathlib.Core.Bool.{Bool, true, false, cond, not, _&&_, _||_}
+use mathlib.Core.Bool.{Bool, true, false, cond, not, _||_}
 use Prim.Native.Nat.{ℕ, zero, suc, _+_, _*_, _/_, _%_, _≤_, _<_}
 use native.Mathlib.Omega.{arith}
 use native.Mathlib.Nat.{div-div-eq-div-mul}
 use native.Mathlib.Decide.{ℕ-discrete}
 use lib.Bits.{bitAnd, and-mask, and-step}
-use lib.Dec.{eqb, leb}
+use lib.Dec.{eqb}
 use borrow.Author.Tests.{eq-eqb, ne-eqb}
-use Rattle.wire.specs.Checks.{has}
 use Rattle.rules.specs.Permit.{Use, granted}
-use Rattle.rules.specs.Touch.{fills, reads}
+use Rattle.rules.specs.Touch.{fills}
 use Rattle.rules.specs.Send.{ownUse, farUse}
 use Rattle.judge.specs.Judge.{Right, grants, ownRight, farRight}
 

@@ -3,7 +3,7 @@ use mathlib.Core.Path.{_≡_, refl, sym, ap, _∙_}
 use mathlib.Core.Bool.{Bool, true, false, cond, true≢false}
 use mathlib.Core.List.{List, [], _∷_}
 use mathlib.Core.Option.{Option, none, some}
-use Prim.Native.Nat.{ℕ, _≤_}
+use Prim.Native.Nat.{ℕ}
 use native.Mathlib.Omega.{arith}
 use lib.Dec.{eqb}
 use lib.ListN.{length}
@@ -14,12 +14,10 @@ use Rattle.tables.specs.Layout.{image}
 use Rattle.rules.specs.Lists.{All}
 use Rattle.rules.specs.Answer.{answered, number, isDone}
 use Rattle.rules.specs.Call.{Call}
-use Rattle.rules.specs.Calls.{checks, effect, settled, step, owed, usable, Meets}
-use Rattle.rules.specs.declared.Answer.{Answer}
-use Rattle.rules.specs.declared.Answer.the-variants.{Done, Held, Refused}
+use Rattle.rules.specs.Calls.{checks, effect, settled, step, usable}
+use Rattle.rules.specs.declared.Answer.the-variants.{Done}
 use Rattle.rules.proofs.Answers.{owed-is, step-below, answered-not-done}
-use Rattle.judge.specs.Log.{Log, fed}
-use Rattle.judge.specs.Demand3.{Correct, Seen, Sent, EachSend, logAfter, stateAfter, Met, Linked, Demand3, Resumed, Steady}
+use Rattle.judge.specs.Demand3.{Correct, Seen, Sent, EachSend, logAfter, Met, Linked, Demand3, Resumed, Steady}
 use Rattle.judge.proofs.Agree.{Agree, start}
 use Rattle.judge.proofs.Demand3.{Claim, correct, each-send, agrees-after}
 

@@ -1,7 +1,7 @@
 -- Document 01: "Since a QP's creation, accepted receives equal its receive completions put, plus those dropped (the ones waiting at
 -- each move to 0), plus those waiting." A statement along the list of calls; no table counts. Assumes nothing.
 use mathlib.Core.Path.{_≡_}
-use mathlib.Core.Bool.{Bool, true, false, cond, _&&_}
+use mathlib.Core.Bool.{Bool, true, cond, _&&_}
 use mathlib.Core.List.{List, [], _∷_}
 use Prim.Native.Nat.{ℕ, _+_}
 use lib.Dec.{eqb, leb}

@@ -3,7 +3,7 @@
 use mathlib.Core.Bool.{Bool, true, false, cond, not, _&&_, _||_}
 use mathlib.Core.List.{List, [], _∷_, _++_}
 use mathlib.Core.Option.{Option, none, some}
-use Prim.Native.Nat.{ℕ, zero, suc, _+_, _/_, _%_}
+use Prim.Native.Nat.{ℕ, suc, _+_, _/_, _%_}
 use lib.ListN.{getD, drop}
 use lib.Dec.{eqb, ltb, leb}
 use Rattle.wire.specs.Scan.{all}
@@ -12,7 +12,7 @@ use Rattle.tables.specs.Card.{Receive, noReceive}
 use Rattle.tables.specs.declared.Registration.{Registration}
 use Rattle.rules.specs.Lists.{names, orElse}
 use Rattle.rules.specs.Touch.{Request, Byte, total, sgeTotal, ownBytes, farBytes, byteOf, delivered}
-use Rattle.judge.specs.Log.{Log, Entry, Note, note}
+use Rattle.judge.specs.Log.{Log, Note, note}
 
 -- ---- "A key's registration, the latest that handed it out, stands unless a later deregister names its mrn."
 

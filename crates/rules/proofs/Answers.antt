@@ -1,7 +1,7 @@
 -- Demand 1: every answer is a number of the table, and what an answer other than 0 leaves. Assumes nothing.
-use mathlib.Core.Path.{_≡_, refl, sym, ap, subst, _∙_}
-use mathlib.Core.Bool.{Bool, true, false, cond, not, _&&_, _||_, true≢false, false≢true}
-use mathlib.Core.List.{List, [], _∷_, _++_}
+use mathlib.Core.Path.{_≡_, refl, sym, ap, subst}
+use mathlib.Core.Bool.{Bool, true, false, cond, not, _&&_, true≢false, false≢true}
+use mathlib.Core.List.{List, [], _∷_}
 use mathlib.Core.Option.{Option, none, some}
 use Prim.Native.Nat.{ℕ, _≤_}
 use native.Mathlib.Omega.{arith}
@@ -15,13 +15,12 @@ use Rattle.wire.specs.Scan.{and-left, and-right, both-true, all}
 use Rattle.tables.specs.Card.{Card}
 use Rattle.tables.specs.Records.{Command, commandOf, sendChecks, receiveChecks, ackFields}
 use Rattle.rules.specs.declared.Cause.the-variants.{Peer, Place}
-use Rattle.rules.specs.declared.Answer.the-variants.{Done, Held, Refused}
+use Rattle.rules.specs.declared.Answer.the-variants.{Held, Refused}
 use Rattle.rules.specs.Answer.{number, answered, isDone, isHeld, listed}
 use Rattle.rules.specs.Control.{commandChecks}
-use Rattle.rules.specs.Touch.{requestOf}
 use Rattle.rules.specs.Send.{deliveryChecks}
 use Rattle.rules.specs.Queues.{joinChecks, flushChecks, pollChecks}
-use Rattle.rules.specs.Call.{Call, memoryOf, bufferOf}
+use Rattle.rules.specs.Call.{Call, memoryOf}
 use Rattle.rules.proofs.Ranges.{all-split}
 use Rattle.rules.specs.Calls.{checks, resetChecks, controlChecks, bufferChecks, settled, step, owed, usable, bufferRefused, Result}
 

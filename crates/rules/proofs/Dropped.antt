@@ -1,24 +1,24 @@
 -- What a dropped region means for a receive that waits on it. Assumes nothing.
-use mathlib.Core.Path.{_≡_, refl, sym, ap, subst, _∙_}
-use mathlib.Core.Bool.{Bool, true, false, cond, not, _&&_, _||_, true≢false}
+use mathlib.Core.Path.{_≡_, refl, ap}
+use mathlib.Core.Bool.{Bool, true, false, _&&_}
 use mathlib.Core.List.{List, [], _∷_}
-use mathlib.Core.Option.{Option, none, some}
-use Prim.Native.Nat.{ℕ, zero, suc, _+_, _*_, _/_, _≤_, _<_}
+use mathlib.Core.Option.{none}
+use Prim.Native.Nat.{ℕ, zero, suc, _≤_, _<_}
 use native.Mathlib.Omega.{arith}
 use lib.Dec.{eqb, leb}
 use lib.ListN.{length, getD}
-use borrow.Author.Tests.{ne-eqb, eqb-true, leb-true, leb-false, le-leb}
+use borrow.Author.Tests.{ne-eqb, eqb-true, leb-true, le-leb}
 use Rattle.wire.specs.Scan.{and-left, and-right, both-true, all}
-use Rattle.wire.specs.Slots.{upd, same, split}
+use Rattle.wire.specs.Slots.{same}
 use Rattle.tables.specs.Card.{Card, Qp}
 use Rattle.tables.specs.Records.{Command}
 use Rattle.rules.specs.Lists.{rest}
-use Rattle.rules.specs.Touch.{Request, Byte, fills, takes, total, farBytes}
-use Rattle.rules.specs.Permit.{keyOf, lookup, found, covers, permits, permitsAll}
+use Rattle.rules.specs.Touch.{Request, fills, takes, farBytes}
+use Rattle.rules.specs.Permit.{keyOf, lookup, covers, permits, permitsAll}
 use Rattle.rules.specs.Control.{commandEffect, freeMrn, newVariant, nextVariant}
-use Rattle.rules.specs.Send.{peerOf, takenBy, farUse, consumes, errorIf, consumeIf, sendStatus, sendMemory, sendQps, sendEffect}
+use Rattle.rules.specs.Send.{peerOf, takenBy, farUse, errorIf, consumeIf, sendStatus, sendMemory, sendQps, sendEffect}
 use Rattle.rules.proofs.Variants.{next-differs, next-small, slot}
-use Rattle.rules.specs.Dropped.{Fails, Reaches, farKey, StaleFails, DroppedRegion, KeysDropped, OldKeyStale, NewKeyStands}
+use Rattle.rules.specs.Dropped.{Reaches, farKey, StaleFails, DroppedRegion, KeysDropped, OldKeyStale, NewKeyStands}
 
 all-fails : {A : Type 0} (p : A → Bool) (xs : List A) (i : ℕ) (d : A) → i < length xs → p (getD xs i d) ≡ false → all p xs ≡ false
 unfolding all

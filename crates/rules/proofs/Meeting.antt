@@ -1,13 +1,13 @@
 -- A call meets its contract: one that is refused or held by one law, one that is done by what is left to show of it. Assumes nothing.
-use mathlib.Core.Path.{_≡_, refl, sym, ap, _∙_}
-use mathlib.Core.Bool.{Bool, true, false, true≢false}
+use mathlib.Core.Path.{_≡_, refl, sym, _∙_}
+use mathlib.Core.Bool.{Bool, true, true≢false}
 use mathlib.Core.List.{List}
-use mathlib.Core.Option.{Option, none, some}
+use mathlib.Core.Option.{none, some}
 use Prim.Native.Nat.{ℕ}
 use Rattle.wire.specs.Checks.{refusal}
 use Rattle.tables.specs.Card.{Card}
 use Rattle.rules.specs.declared.Answer.the-variants.{Done}
-use Rattle.rules.specs.Answer.{answered, isDone}
+use Rattle.rules.specs.Answer.{answered}
 use Rattle.rules.specs.Call.{Call, memoryOf}
 use Rattle.rules.specs.Calls.{owedChecks, statusOf, effect, memoryAfter, bufferAfter, bufferRefused, Meets}
 use Rattle.rules.proofs.Answers.{answered-not-done}

@@ -1,18 +1,17 @@
 -- Computed examples that pin what the judge and the rules share, and the rights of each use. Assumes nothing.
 use mathlib.Core.Path.{_≡_, refl}
-use mathlib.Core.Bool.{Bool, true, false}
+use mathlib.Core.Bool.{true, false}
 use mathlib.Core.List.{List, [], _∷_, map}
-use Prim.Native.Nat.{ℕ, _+_, _^_, _-_}
+use Prim.Native.Nat.{ℕ}
 use Rattle.tables.specs.Card.{Receive, noReceive}
 use Rattle.tables.specs.declared.Sge.{Sge}
 use Rattle.rules.specs.Lists.{stored}
-use Rattle.rules.specs.Touch.{Request, Byte, range, sgeBytes, sgeTotal, total, ownBytes, farBytes, targetBytes, message, delivered, byteOf}
+use Rattle.rules.specs.Touch.{Request, range, sgeBytes, sgeTotal, total, ownBytes, farBytes, message, delivered}
 use Rattle.rules.specs.Permit.{Use, granted, permitsAll, permits, lookup, covers}
 use Rattle.rules.specs.Control.{commandChecks, commandEffect}
-use Rattle.rules.specs.Marks.{platform, after, uses, region}
+use Rattle.rules.specs.Marks.{platform, after, uses}
 use Rattle.wire.specs.Scan.{lowest, lowestFrom, anyBelow, all}
 use Rattle.tables.specs.Records.{Command}
-use Rattle.tables.specs.declared.CreateQp.{CreateQp}
 
 -- the accesses 0 to 7 that grant each use
 pub rights : map (λ u. map (granted u) (0 ∷ 1 ∷ 2 ∷ 3 ∷ 4 ∷ 5 ∷ 6 ∷ 7 ∷ [])) uses

@@ -1,21 +1,20 @@
 -- A range is permitted exactly if one test of its two ends passes, and a list of pieces if each of them is: what a program tests in
 -- place of every byte. Assumes nothing.
-use mathlib.Core.Path.{_≡_, refl, sym, ap, ap₂, _∙_}
-use mathlib.Core.Bool.{Bool, true, false, cond, _&&_, _||_}
+use mathlib.Core.Path.{_≡_, refl, sym, ap, _∙_}
+use mathlib.Core.Bool.{Bool, true, false, cond, _&&_}
 use mathlib.Core.List.{List, [], _∷_, _++_}
 use mathlib.Core.Option.{Option, none, some}
-use Prim.Native.Nat.{ℕ, zero, suc, _+_, _-_, _≤_, _<_}
+use Prim.Native.Nat.{ℕ, zero, suc, _+_, _-_, _≤_}
 use native.Mathlib.Omega.{arith}
-use native.Mathlib.Nat.{suc-add, add-zero}
 use lib.Dec.{eqb, leb, ltb}
-use lib.ListN.{length, take, drop}
-use lib.Seq.{take-append-le, take-append-add, take-nil}
-use borrow.Author.Tests.{le-leb, leb-true, leb-false, ne-eqb}
+use lib.ListN.{length, take}
+use lib.Seq.{take-append-le, take-append-add}
+use borrow.Author.Tests.{le-leb, leb-true, ne-eqb}
 use Rattle.wire.specs.Scan.{and-left, and-right, both-true, all}
 use Rattle.tables.specs.Card.{Card}
 use Rattle.tables.specs.declared.Registration.{Registration}
 use Rattle.tables.specs.declared.Sge.{Sge}
-use Rattle.rules.specs.Touch.{Byte, range, sgeBytes, sgeTotal}
+use Rattle.rules.specs.Touch.{Byte, range, sgeBytes}
 use Rattle.rules.specs.Permit.{Use, granted, lookup, covers, permits, permitsAll}
 use Rattle.rules.proofs.Stored.{range-length}
 

@@ -2,14 +2,14 @@
 -- Assumes nothing.
 use mathlib.Core.Path.{_≡_, refl, sym, ap, _∙_}
 use mathlib.Core.Logic.{_≢_}
-use mathlib.Core.List.{List, [], _∷_, _++_, map}
-use Prim.Native.Nat.{ℕ, zero, suc, _+_, _≤_, _<_}
+use mathlib.Core.List.{List, [], _∷_, map}
+use Prim.Native.Nat.{ℕ, zero, suc, _<_}
 use native.Mathlib.Omega.{arith}
 use lib.ListN.{length, getD, set, length-set, length-append}
 use lib.Seq.{getD-set-same, getD-set-other}
 use Rattle.tables.specs.declared.Sge.{Sge}
 use Rattle.rules.specs.Lists.{stored}
-use Rattle.rules.specs.Touch.{Byte, range, sgeBytes, sgeTotal}
+use Rattle.rules.specs.Touch.{range, sgeBytes, sgeTotal}
 
 pub stored-length : (m ps vs : List ℕ) → length (stored m ps vs) ≡ length m
 unfolding stored

@@ -23,12 +23,3 @@ memoryOf (send q x m) = m
 memoryOf (receive q x) = []
 memoryOf (flush q) = []
 memoryOf (poll n b) = []
-
--- the answer buffer lent to it
-abbrev pub bufferOf : Call → List ℕ
-bufferOf (reset n) = []
-bufferOf (control k a) = a
-bufferOf (send q x m) = []
-bufferOf (receive q x) = []
-bufferOf (flush q) = []
-bufferOf (poll n b) = b

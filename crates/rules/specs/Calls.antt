@@ -1,11 +1,11 @@
 -- What each call does, demand 2: its tests in document 01's order, its answer, and the card, the memory and the answer buffer after
 -- it. Assumes nothing.
 use mathlib.Core.Path.{_≡_}
-use mathlib.Core.Bool.{Bool, true, false, cond, not, _&&_, _||_}
+use mathlib.Core.Bool.{Bool, true, false, cond, not, _||_}
 use mathlib.Core.List.{List, [], _∷_, _++_}
 use mathlib.Core.Option.{Option, none, some}
 use Prim.Native.Nat.{ℕ, _+_}
-use lib.Dec.{eqb, ltb, leb}
+use lib.Dec.{eqb, ltb}
 use lib.ListN.{length}
 use Rattle.wire.specs.Checks.{Check, _if_, refusal}
 use Rattle.wire.specs.Fields.{putFields}
@@ -16,13 +16,12 @@ use Rattle.tables.specs.Card.{Card, fresh}
 use Rattle.tables.specs.Records.{controlClass, dataSize, commandOf, ackFields, ackLeast, sendChecks, receiveChecks, completionCodec}
 use Rattle.rules.specs.Lists.{isSome, orElse}
 use Rattle.rules.specs.declared.Answer.{Answer}
-use Rattle.rules.specs.declared.Answer.the-variants.{Refused}
 use Rattle.rules.specs.Answer.{answered, isDone}
 use Rattle.rules.specs.Touch.{requestOf, receiveIn}
 use Rattle.rules.specs.Control.{commandChecks, commandAck, commandEffect}
 use Rattle.rules.specs.Send.{deliveryChecks, sendStatus, sendEffect, sendMemory}
 use Rattle.rules.specs.Queues.{joinChecks, joined, flushChecks, flushed, pollChecks, polled, oldestEntry}
-use Rattle.rules.specs.Call.{Call, memoryOf, bufferOf}
+use Rattle.rules.specs.Call.{Call, memoryOf}
 
 -- ---- the tests
 

@@ -1,9 +1,9 @@
 -- A region that is dropped while a receive waits on it: the next send that fills the receive finds out. Assumes nothing.
 use mathlib.Core.Path.{_≡_}
-use mathlib.Core.Bool.{Bool, true, false}
-use mathlib.Core.List.{List, [], _∷_}
+use mathlib.Core.Bool.{true}
+use mathlib.Core.List.{List}
 use mathlib.Core.Option.{none, some}
-use Prim.Native.Nat.{ℕ, _+_, _/_, _≤_, _<_}
+use Prim.Native.Nat.{ℕ, _/_, _≤_, _<_}
 use lib.Dec.{leb}
 use lib.ListN.{length, getD}
 use Rattle.tables.specs.Limits.{mostMessage}
@@ -11,10 +11,10 @@ use Rattle.tables.specs.Card.{Card}
 use Rattle.tables.specs.Records.{Command}
 use Rattle.tables.specs.declared.Registration.{Registration}
 use Rattle.rules.specs.Lists.{rest}
-use Rattle.rules.specs.Touch.{Request, Byte, fills, total, sgeTotal, ownBytes, farBytes}
+use Rattle.rules.specs.Touch.{Request, fills, total, sgeTotal, ownBytes, farBytes}
 use Rattle.rules.specs.Permit.{keyOf, lookup, permitsAll}
 use Rattle.rules.specs.Control.{commandEffect, freeMrn, newVariant}
-use Rattle.rules.specs.Send.{peerOf, takenBy, ownUse, sendStatus, sendMemory, sendPuts, sendEffect, receiverPut}
+use Rattle.rules.specs.Send.{peerOf, takenBy, ownUse, sendStatus, sendMemory, sendEffect, receiverPut}
 
 -- "sender 7, receiver 3. The receive is consumed, both QPs go to error"; no byte is moved
 pub record Fails (c : Card) (q : ℕ) (r : Request) (m : List ℕ) : Type 0 where

@@ -1,6 +1,6 @@
 -- Document 01, "Marked platform positions": the table of marks, and how each question is asked of the rules. Assumes nothing.
 use mathlib.Core.Path.{_≡_}
-use mathlib.Core.Bool.{Bool, true, false, cond, not, _&&_}
+use mathlib.Core.Bool.{Bool, true, cond, not}
 use mathlib.Core.List.{List, [], _∷_, map}
 use mathlib.Core.Option.{Option, none, some}
 use Prim.Native.Nat.{ℕ, _-_, _^_}
@@ -8,9 +8,8 @@ use lib.Dec.{eqb}
 use lib.ListN.{getD}
 use Rattle.wire.specs.Scan.{all}
 use Rattle.wire.specs.Checks.{refusal}
-use Rattle.tables.specs.Card.{Card, Mr, fresh, freeMr, withMr}
+use Rattle.tables.specs.Card.{Card, fresh, freeMr, withMr}
 use Rattle.tables.specs.Records.{Command}
-use Rattle.tables.specs.declared.CreateQp.{CreateQp}
 use Rattle.tables.specs.declared.Registration.{Registration}
 use Rattle.rules.specs.Lists.{All}
 use Rattle.rules.specs.Touch.{Byte, range}

@@ -1,5 +1,5 @@
 -- Document 01: post receive, flush and poll, the tests after those of the lent bytes, and the card after each. Assumes nothing.
-use mathlib.Core.Bool.{Bool, true, not, _||_}
+use mathlib.Core.Bool.{true, not, _||_}
 use mathlib.Core.List.{List, [], _∷_, _++_}
 use Prim.Native.Nat.{ℕ}
 use lib.Dec.{eqb, leb}

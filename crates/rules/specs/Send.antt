@@ -1,10 +1,10 @@
 -- Document 01, "Posting and delivering": post send, its tests, its steps 1 to 6, the completions that it puts, and the queue pairs
 -- and the memory after it. Assumes nothing.
-use mathlib.Core.Bool.{Bool, true, false, cond, not, _&&_, _||_}
+use mathlib.Core.Bool.{Bool, false, cond, not, _&&_, _||_}
 use mathlib.Core.List.{List, [], _∷_, _++_}
 use mathlib.Core.Option.{Option, none, some}
 use Prim.Native.Nat.{ℕ, _+_}
-use lib.Dec.{eqb, ltb, leb}
+use lib.Dec.{eqb, leb}
 use lib.ListN.{length, getD}
 use Rattle.wire.specs.Checks.{Check, _if_}
 use Rattle.wire.specs.Slots.{upd}
@@ -12,7 +12,7 @@ use Rattle.tables.specs.Limits.{qpCount, mostMessage}
 use Rattle.tables.specs.Card.{Card, Cq, Qp, Receive, noReceive, withCq, withQp}
 use Rattle.tables.specs.declared.Completion.{Completion}
 use Rattle.rules.specs.Lists.{isEmpty, rest, names, orElse}
-use Rattle.rules.specs.Touch.{Request, Byte, takes, fills, reads, total, sgeTotal, ownBytes, farBytes, delivered}
+use Rattle.rules.specs.Touch.{Request, takes, fills, reads, total, sgeTotal, ownBytes, farBytes, delivered}
 use Rattle.rules.specs.Permit.{Use, permitsAll, place}
 
 -- ---- peers and completion places
