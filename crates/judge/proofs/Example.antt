@@ -1,0 +1,102 @@
+-- A run, computed from the bytes of its calls: a write, a hold, a receive, a send, a read and a failed write, each with its answer, the
+-- memory after it, and the judge's verdict. Assumes nothing.
+use mathlib.Core.Path.{_≡_, refl}
+use mathlib.Core.Bool.{Bool, true, false}
+use mathlib.Core.List.{List, [], _∷_, _++_}
+use Prim.Native.Nat.{ℕ, _+_}
+use lib.ListN.{replicate, drop, length}
+use Rattle.wire.specs.Fields.{fieldsAt, putFields}
+use Rattle.wire.specs.Le.{leAt, putLe}
+use Rattle.wire.specs.Rows.{rows, rowsFrom}
+use Rattle.wire.specs.Scan.{lowest, lowestFrom, anyBelow, all}
+use Rattle.tables.specs.Card.{Card, fresh}
+use Rattle.tables.specs.Image.{receiveOf}
+use Rattle.tables.specs.Records.{commandOf, dataSize, numberCodec, registerCodec, createQpCodec, modifyQpCodec, sendCodec, sgeCodec, receiveCodec, sendChecks, receiveChecks, receiveSges, sendSge, inlineBytes, inlineLength}
+use Rattle.rules.specs.declared.Answer.{Answer}
+use Rattle.rules.specs.declared.Cause.the-variants.{Peer}
+use Rattle.rules.specs.declared.Answer.the-variants.{Done, Held}
+use Rattle.rules.specs.Lists.{stored}
+use Rattle.rules.specs.Touch.{requestOf, receiveIn, range, sgeBytes, sgeTotal, total, ownBytes, farBytes, byteOf, message, delivered}
+use Rattle.rules.specs.Permit.{permits, permitsAll, place, lookup, covers}
+use Rattle.rules.specs.Control.{commandChecks, commandAck, commandEffect}
+use Rattle.rules.specs.Send.{deliveryChecks, sendStatus, sendPuts, putAll, sendQps, sendEffect, sendMemory}
+use Rattle.rules.specs.Queues.{joinChecks, joined, flushChecks, flushed, pollChecks, polled}
+use Rattle.rules.specs.Call.{Call}
+use Rattle.rules.specs.Calls.{checks, resetChecks, controlChecks, bufferChecks, statusOf, effect, memoryAfter, bufferAfter, step}
+use Rattle.judge.specs.Log.{Log, fed, ackData}
+use Rattle.judge.specs.Judge.{judge, passes, placed, peerNo, oldestAt, waiting, standing, domain, peer, accepted, taken}
+
+abbrev mem : List ℕ
+mem = 1 ∷ 2 ∷ 3 ∷ 4 ∷ 5 ∷ 6 ∷ 7 ∷ 8 ∷ []
+
+abbrev command : (number size : ℕ) → List ℕ
+command n size = 6 ∷ n ∷ replicate size 0
+
+abbrev control : List ℕ → Call
+control k = Call.control k (replicate 13 9)
+
+abbrev registered : (start virt : ℕ) → Call
+registered s v = control (registerCodec .put (command 7 32) 2 (record { pd = 0; access = 7; start = s; length = 4; virt = v }))
+
+abbrev modified : (q mask state dest : ℕ) → Call
+modified q k t d = control (modifyQpCodec .put (command 10 16) 2 (record { qpn = q; mask = k; state = t; pad0 = 0; pad1 = 0; pad2 = 0; dest = d }))
+
+abbrev created : Call
+created = control (createQpCodec .put (command 9 16) 2 (record { pd = 0; kind = 2; signal = 0; scq = 0; rcq = 0 }))
+
+-- one piece of 2 bytes at 101, which is memory byte 1
+abbrev posted : (opcode key : ℕ) → Call
+posted o k =
+    Call.send 0
+    (sgeCodec .put (sendCodec .put (replicate 592 0) 0 (record { wr = 7; opcode = o; flags = 0; imm = 0; address = 4096; key = k; count = 1 })) 576
+    (record { address = 101; length = 2; key = 1 }))
+    mem
+
+-- one piece of 3 bytes at 4097, which is memory byte 5
+abbrev waited : Call
+waited =
+    Call.receive 1
+    (receiveCodec .put (replicate 40 0) 0
+    (record { wr = 9; count = 1; address0 = 4097; length0 = 3; key0 = 257; address1 = 0; length1 = 0; key1 = 0 }))
+
+-- a domain, a completion queue, two regions of 4 bytes with the keys 1 and 257, and two queue pairs that are joined
+abbrev setup : List Call
+setup =
+    control (command 4 0) ∷
+    control (numberCodec .put (command 2 4) 2 8) ∷
+    registered 0 100 ∷
+    registered 4 4096 ∷
+    created ∷
+    created ∷
+    modified 0 1 1 0 ∷
+    modified 0 32769 2 1 ∷
+    modified 0 1 3 0 ∷
+    modified 1 1 1 0 ∷
+    modified 1 32769 2 0 ∷
+    []
+
+-- the judge's verdict on a work request
+abbrev says : Log → Call → Bool
+says l (Call.reset n) = true
+says l (Call.control k a) = true
+says l (Call.send q x m) = judge l q (requestOf x)
+says l (Call.receive q x) = true
+says l (Call.flush q) = true
+says l (Call.poll n b) = true
+
+unfoldable pub run : Card → Log → List Call → List (Answer × (List ℕ × Bool))
+run c l [] = []
+run c l (k ∷ ks) =
+    let r = step c k in
+    (r .answer, (r .memory, says l k)) ∷ run (r .card) (fed k (r .answer) (r .buffer) l) ks
+
+pub works : drop 11 (run (fresh 8) [] (setup ++ (posted 0 257 ∷ posted 2 0 ∷ waited ∷ posted 2 0 ∷ posted 4 257 ∷ posted 0 258 ∷ [])))
+    ≡ (Done 0, (1 ∷ 2 ∷ 3 ∷ 4 ∷ 2 ∷ 3 ∷ 7 ∷ 8 ∷ [], true))
+    ∷ (Held Peer, (1 ∷ 2 ∷ 3 ∷ 4 ∷ 5 ∷ 6 ∷ 7 ∷ 8 ∷ [], false))
+    ∷ (Done 0, ([], true))
+    ∷ (Done 0, (1 ∷ 2 ∷ 3 ∷ 4 ∷ 5 ∷ 2 ∷ 3 ∷ 8 ∷ [], true))
+    ∷ (Done 0, (1 ∷ 5 ∷ 6 ∷ 4 ∷ 5 ∷ 6 ∷ 7 ∷ 8 ∷ [], true))
+    ∷ (Done 8, (1 ∷ 2 ∷ 3 ∷ 4 ∷ 5 ∷ 6 ∷ 7 ∷ 8 ∷ [], false))
+    ∷ []
+unfolding run fieldsAt putFields leAt putLe rows rowsFrom lowest lowestFrom anyBelow commandOf dataSize numberCodec registerCodec createQpCodec modifyQpCodec sendCodec sgeCodec sendChecks receiveChecks receiveSges sendSge inlineBytes inlineLength all stored requestOf receiveIn receiveOf range sgeBytes sgeTotal total ownBytes farBytes byteOf message delivered permits permitsAll place lookup covers commandChecks commandAck commandEffect deliveryChecks sendStatus sendPuts putAll sendQps sendEffect sendMemory joinChecks joined flushChecks flushed pollChecks polled checks resetChecks controlChecks bufferChecks statusOf effect memoryAfter bufferAfter step fed ackData judge passes placed peerNo oldestAt waiting standing domain peer accepted taken
+works = refl

@@ -1,0 +1,28 @@
+-- Demand 3 over the lent state. Assumes nothing.
+use mathlib.Core.Path.{_≡_}
+use mathlib.Core.Bool.{true}
+use mathlib.Core.List.{List}
+use Prim.Native.Nat.{ℕ}
+use lib.Dec.{eqb}
+use lib.ListN.{length}
+use borrow.Author.Tests.{eq-eqb}
+use Rattle.tables.specs.Accept.{accepts}
+use Rattle.tables.specs.Accepted.{accepted}
+use Rattle.tables.specs.Image.{card}
+use Rattle.tables.specs.Layout.{image}
+use Rattle.judge.specs.Whole.{Whole}
+use Rattle.judge.proofs.Run.{demand3, resumed, steady}
+use Rattle.judge.proofs.Bytes.{demand3-bytes}
+use Rattle.judge.proofs.Count.{counted}
+
+accepted-length : (l : List ℕ) → accepts l ≡ true → eqb (length l) image ≡ true
+accepted-length l e = eq-eqb (length l) image (accepted l e .sized)
+
+pub whole : Whole
+whole = record {
+  judged = demand3 card accepts;
+  bytes = demand3-bytes card accepts;
+  resumed = resumed card accepts;
+  steady = steady card accepts accepted-length;
+  counted = counted card accepts;
+}

@@ -1,0 +1,5 @@
+pub mod Log
+pub mod Judge
+pub mod Demand3
+pub mod Count
+pub mod Whole

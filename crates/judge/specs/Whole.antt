@@ -1,0 +1,17 @@
+-- Demand 3 over the lent state of docs/STATE.md. Assumes nothing.
+use Rattle.tables.specs.Accept.{accepts}
+use Rattle.tables.specs.Image.{card}
+use Rattle.judge.specs.Demand3.{Demand3, Demand3Bytes, Resumed, Steady}
+use Rattle.judge.specs.Count.{Counted}
+
+pub record Whole : Type 0 where
+  -- each work request is judged right
+  pub judged : Demand3 card accepts
+  -- one byte at a time
+  pub bytes : Demand3Bytes card accepts
+  -- and so from a state that means a card that a list left
+  pub resumed : Resumed card accepts
+  -- no call of the list finds its state unacceptable
+  pub steady : Steady card accepts
+  -- receives add up
+  pub counted : Counted card accepts

@@ -1,0 +1,195 @@
+-- Demand 1: every answer is a number of the table, and what an answer other than 0 leaves. Assumes nothing.
+use mathlib.Core.Path.{_≡_, refl, sym, ap, subst}
+use mathlib.Core.Bool.{Bool, true, false, cond, not, _&&_, true≢false, false≢true}
+use mathlib.Core.List.{List, [], _∷_}
+use mathlib.Core.Option.{Option, none, some}
+use Prim.Native.Nat.{ℕ, _≤_}
+use native.Mathlib.Omega.{arith}
+use lib.Dec.{eqb, leb}
+use lib.ListN.{set}
+use borrow.Author.Tests.{leb-true, le-leb, ne-eqb, eqb-true}
+use Rattle.wire.specs.Checks.{Check, _if_, refusal}
+use Rattle.wire.specs.Fields.{putFields}
+use Rattle.wire.specs.Le.{putLe}
+use Rattle.wire.specs.Scan.{and-left, and-right, both-true, all}
+use Rattle.tables.specs.Card.{Card}
+use Rattle.tables.specs.Records.{Command, commandOf, sendChecks, receiveChecks, ackFields}
+use Rattle.rules.specs.declared.Cause.the-variants.{Peer, Place}
+use Rattle.rules.specs.declared.Answer.the-variants.{Held, Refused}
+use Rattle.rules.specs.Answer.{number, answered, isDone, isHeld, listed}
+use Rattle.rules.specs.Control.{commandChecks}
+use Rattle.rules.specs.Send.{deliveryChecks}
+use Rattle.rules.specs.Queues.{joinChecks, flushChecks, pollChecks}
+use Rattle.rules.specs.Call.{Call, memoryOf}
+use Rattle.rules.proofs.Ranges.{all-split}
+use Rattle.rules.specs.Calls.{checks, resetChecks, controlChecks, bufferChecks, settled, step, owed, usable, bufferRefused, Result}
+
+-- ---- a fact of every test's number is one of the refusal's
+
+first-with : (f : ℕ → Bool) (cs : List Check) (n : ℕ) → all (λ c. f (c .no)) cs ≡ true → refusal cs ≡ some n → f n ≡ true
+unfolding all
+first-with f [] n p e = let z : _≡_ {A = ℕ} 0 1 = cc in absurd (omega arith)
+first-with f (c ∷ cs) n p e = go (c .bad) (first-with f cs n (and-right (f (c .no)) (all (λ x. f (x .no)) cs) p)) e
+  where
+    go : (b : Bool) → (refusal cs ≡ some n → f n ≡ true) → cond b (some (c .no)) (refusal cs) ≡ some n → f n ≡ true
+    go true ih e = let s : c .no ≡ n = cc in subst (λ x. f x ≡ true) s (and-left (f (c .no)) (all (λ x. f (x .no)) cs) p)
+    go false ih e = ih e
+
+-- the tests' numbers stand in the table below 14
+abbrev fine : Check → Bool
+fine k = leb (k .no) 13
+
+command-fine : (c : Card) (k : Command) → all fine (commandChecks c k) ≡ true
+unfolding all commandChecks
+command-fine c (Command.createCq n) = refl
+command-fine c (Command.destroyCq n) = refl
+command-fine c Command.createPd = refl
+command-fine c (Command.destroyPd n) = refl
+command-fine c (Command.register g) = refl
+command-fine c (Command.deregister n) = refl
+command-fine c (Command.createQp r) = refl
+command-fine c (Command.modifyQp r) = refl
+command-fine c (Command.destroyQp q) = refl
+
+checks-fine : (c : Card) (k : Call) → all fine (checks c k) ≡ true
+unfolding all checks resetChecks controlChecks bufferChecks sendChecks receiveChecks deliveryChecks joinChecks flushChecks pollChecks
+checks-fine c (Call.reset n) = refl
+checks-fine c (Call.control k a) = rw (all-split fine (controlChecks k a) (commandChecks c (commandOf k)), command-fine c (commandOf k))
+checks-fine c (Call.send q x m) = refl
+checks-fine c (Call.receive q x) = refl
+checks-fine c (Call.flush q) = refl
+checks-fine c (Call.poll n b) = refl
+
+pub refusal-fine : (c : Card) (k : Call) (n : ℕ) → refusal (checks c k) ≡ some n → n ≤ 13
+refusal-fine c k n e = leb-true n 13 (first-with (λ x. leb x 13) (checks c k) n (checks-fine c k) e)
+
+-- the number of an answer is that of the test
+pub answered-number : (n : ℕ) → number (answered 0 (some n)) ≡ n
+answered-number n = go (eqb n 5) refl (eqb n 6) refl
+  where
+    go : (a : Bool) → eqb n 5 ≡ a → (b : Bool) → eqb n 6 ≡ b → number (answered 0 (some n)) ≡ n
+    go true p b q = rw p (sym (eqb-true n 5 p))
+    go false p true q = rw (p, q) (sym (eqb-true n 6 q))
+    go false p false q = rw (p, q)
+
+pub answered-not-done : (n : ℕ) → isDone (answered 0 (some n)) ≡ false
+answered-not-done n = go (eqb n 5) (eqb n 6)
+  where
+    go : (a b : Bool) → isDone (cond a (Held Peer) (cond b (Held Place) (Refused n))) ≡ false
+    go true b = refl
+    go false true = refl
+    go false false = refl
+
+-- the answer of one call on a card is a number of the table below 14
+pub step-below : (c : Card) (k : Call) → number (step c k .answer) ≤ 13
+unfolding step
+step-below c k = go (refusal (checks c k)) refl
+  where
+    go : (o : Option ℕ) → refusal (checks c k) ≡ o → number (settled o c k .answer) ≤ 13
+    go none e = omega arith
+    go (some n) e = rw (answered-number n) (refusal-fine c k n e)
+
+-- ---- holds: steps 1 and 2 of a post send, and a flush without a place, are the only ones
+
+abbrev pub mayHold : Call → Bool
+mayHold (Call.reset n) = false
+mayHold (Call.control k a) = false
+mayHold (Call.send q x m) = true
+mayHold (Call.receive q x) = false
+mayHold (Call.flush q) = true
+mayHold (Call.poll n b) = false
+
+abbrev plain : ℕ → Bool
+plain n = not (eqb n 5) && not (eqb n 6)
+
+command-plain : (c : Card) (k : Command) → all (λ t. plain (t .no)) (commandChecks c k) ≡ true
+unfolding all commandChecks
+command-plain c (Command.createCq n) = refl
+command-plain c (Command.destroyCq n) = refl
+command-plain c Command.createPd = refl
+command-plain c (Command.destroyPd n) = refl
+command-plain c (Command.register g) = refl
+command-plain c (Command.deregister n) = refl
+command-plain c (Command.createQp r) = refl
+command-plain c (Command.modifyQp r) = refl
+command-plain c (Command.destroyQp q) = refl
+
+checks-plain : (c : Card) (k : Call) → mayHold k ≡ false → all (λ t. plain (t .no)) (checks c k) ≡ true
+unfolding all checks resetChecks controlChecks bufferChecks receiveChecks joinChecks pollChecks
+checks-plain c (Call.reset n) e = refl
+checks-plain c (Call.control k a) e = rw (all-split (λ t. plain (t .no)) (controlChecks k a) (commandChecks c (commandOf k)), command-plain c (commandOf k))
+checks-plain c (Call.send q x m) e = absurd (true≢false e)
+checks-plain c (Call.receive q x) e = refl
+checks-plain c (Call.flush q) e = absurd (true≢false e)
+checks-plain c (Call.poll n b) e = refl
+
+plain-refused : (n : ℕ) → plain n ≡ true → isHeld (answered 0 (some n)) ≡ false
+plain-refused n = go (eqb n 5) (eqb n 6)
+  where
+    go : (a b : Bool) → (not a && not b) ≡ true → isHeld (cond a (Held Peer) (cond b (Held Place) (Refused n))) ≡ false
+    go true b e = absurd (false≢true e)
+    go false true e = absurd (false≢true e)
+    go false false e = refl
+
+pub only-holds : (c : Card) (k : Call) → mayHold k ≡ false → isHeld (step c k .answer) ≡ false
+unfolding step
+only-holds c k h = go (refusal (checks c k)) refl
+  where
+    go : (o : Option ℕ) → refusal (checks c k) ≡ o → isHeld (settled o c k .answer) ≡ false
+    go none e = refl
+    go (some n) e = plain-refused n (first-with plain (checks c k) n (checks-plain c k h) e)
+
+-- ---- what an answer other than 0 leaves
+
+-- an answer other than 0 leaves the card and the memory; of the answer buffer it leaves all but the ack byte of a refused command
+pub record Unchanged (c : Card) (k : Call) (r : Result) : Type 0 where
+  pub card : r .card ≡ c
+  pub memory : r .memory ≡ memoryOf k
+  pub buffer : r .buffer ≡ bufferRefused (number (r .answer)) k
+
+settled-unchanged : (c : Card) (k : Call) (n : ℕ) → Unchanged c k (settled (some n) c k)
+settled-unchanged c k n = record { card = refl; memory = refl; buffer = rw (answered-number n) }
+
+pub step-unchanged : (c : Card) (k : Call) → isDone (step c k .answer) ≡ false → Unchanged c k (step c k)
+unfolding step
+step-unchanged c k = go (refusal (checks c k))
+  where
+    go : (o : Option ℕ) → isDone (settled o c k .answer) ≡ false → Unchanged c k (settled o c k)
+    go none e = absurd (true≢false e)
+    go (some n) e = settled-unchanged c k n
+
+-- the ack byte 1 of a refused command: the first byte, and no other
+pub error-ack : (a : List ℕ) → putFields ackFields a 0 (1 ∷ []) ≡ set a 0 1
+unfolding putFields putLe
+error-ack a = refl
+
+module _ (cardOf : List ℕ → Card) (accepts : List ℕ → Bool) where
+  -- on a state that it can use a call does what it does on the card
+  pub owed-is : (l : List ℕ) (k : Call) → owed cardOf accepts l k ≡ cond (usable cardOf accepts l k) (step (cardOf l) k) (settled (some 15) (cardOf l) k)
+  unfolding step
+  owed-is l k = go (usable cardOf accepts l k)
+    where
+      go : (b : Bool) → settled (cond (not b) (some 15) (refusal (checks (cardOf l) k))) (cardOf l) k
+          ≡ cond b (settled (refusal (checks (cardOf l) k)) (cardOf l) k) (settled (some 15) (cardOf l) k)
+      go true = refl
+      go false = refl
+
+  -- demand 1: every answer is a number of the table
+  pub owed-listed : (l : List ℕ) (k : Call) → listed (number (owed cardOf accepts l k .answer)) ≡ true
+  owed-listed l k = rw (owed-is l k) (go (usable cardOf accepts l k))
+    where
+      go : (b : Bool) → listed (number (cond b (step (cardOf l) k) (settled (some 15) (cardOf l) k) .answer)) ≡ true
+      go true =
+          let h = step-below (cardOf l) k in
+          both-true _ _ (le-leb (number (step (cardOf l) k .answer)) 15 (omega arith))
+          (ap not (ne-eqb (number (step (cardOf l) k .answer)) 14 (omega arith)))
+      go false = refl
+
+  -- demand 1: a refused or held call changes no memory, no table and no lent byte, but for the one ack byte of a refused command
+  pub owed-unchanged : (l : List ℕ) (k : Call) → isDone (owed cardOf accepts l k .answer) ≡ false → Unchanged (cardOf l) k (owed cardOf accepts l k)
+  owed-unchanged l k = rw (owed-is l k) (go (usable cardOf accepts l k))
+    where
+      go : (b : Bool) → isDone (cond b (step (cardOf l) k) (settled (some 15) (cardOf l) k) .answer) ≡ false →
+          Unchanged (cardOf l) k (cond b (step (cardOf l) k) (settled (some 15) (cardOf l) k))
+      go true e = step-unchanged (cardOf l) k e
+      go false e = settled-unchanged (cardOf l) k 15

@@ -1,0 +1,11 @@
+pub mod Tests
+pub mod Stored
+pub mod Ranges
+pub mod Free
+pub mod Variants
+pub mod Answers
+pub mod Marks
+pub mod Dropped
+pub mod Pinned
+pub mod Runs
+pub mod Meeting

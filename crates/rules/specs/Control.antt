@@ -1,0 +1,138 @@
+-- Document 01, "Control commands": for each command its tests in order, its ack data, and the card after it. Assumes nothing.
+use mathlib.Core.Bool.{Bool, true, false, cond, not, _&&_, _||_}
+use mathlib.Core.List.{List, [], _∷_}
+use mathlib.Core.Option.{none, some}
+use Prim.Native.Nat.{ℕ, _+_}
+use lib.Dec.{eqb, ltb, leb}
+use Rattle.wire.specs.Checks.{Check, _if_, has, only}
+use Rattle.wire.specs.Scan.{lowest, anyBelow}
+use Rattle.wire.specs.Slots.{upd}
+use Rattle.tables.specs.Limits.{pdCount, cqCount, mrCount, qpCount, mostPlaces, mostAddress, mostAccess}
+use Rattle.tables.specs.Card.{Card, Qp, withPd, withCq, withMr, withQp, freeCq, freeMr, freeQp}
+use Rattle.tables.specs.Accept.{cqLive, isState}
+use Rattle.tables.specs.Records.{Command}
+use Rattle.rules.specs.Permit.{keyOf}
+
+-- ---- numbers that are live, free or in use
+
+-- "Creation takes the lowest free number"; the table's count where none is free
+abbrev pub freePdn : Card → ℕ
+freePdn c = lowest pdCount (λ i. not (c .pd i))
+
+abbrev pub freeCqn : Card → ℕ
+freeCqn c = lowest cqCount (λ i. not (cqLive c i))
+
+abbrev pub freeMrn : Card → ℕ
+freeMrn c = lowest mrCount (λ i. not (c .mr i .live))
+
+abbrev pub freeQpn : Card → ℕ
+freeQpn c = lowest qpCount (λ i. not (c .qp i .live))
+
+-- "In use (10): a PD with a live MR or QP; a CQ named by a live QP"
+abbrev pub pdInUse : Card → ℕ → Bool
+pdInUse c n =
+    anyBelow mrCount (λ i. c .mr i .live && eqb (c .mr i .reg .pd) n) || anyBelow qpCount (λ i. c .qp i .live && eqb (c .qp i .pd) n)
+
+abbrev pub cqInUse : Card → ℕ → Bool
+cqInUse c n = anyBelow qpCount (λ i. c .qp i .live && (eqb (c .qp i .scq) n || eqb (c .qp i .rcq) n))
+
+-- "A slot's first variant after reset is 1; each registration in it takes the next, and 1 follows 255"
+abbrev pub nextVariant : ℕ → ℕ
+nextVariant v = cond (leb 255 v) 1 (v + 1)
+
+abbrev pub newVariant : Card → ℕ
+newVariant c = nextVariant (c .mr (freeMrn c) .variant)
+
+-- ---- queue pair states
+
+-- "Moves: 0 to 1, 1 to 2, 2 to 3, any to 0, any to 6"
+abbrev pub isMove : (from to : ℕ) → Bool
+isMove s t = eqb t 0 || eqb t 6 || (eqb t (s + 1) && leb t 3)
+
+-- mask bits 0, the state, and 15, the destination
+abbrev pub stateBit : ℕ
+stateBit = 1
+
+abbrev pub destBit : ℕ
+destBit = 32768
+
+-- ---- the tests of each command, in the order 4, 2, 11, 3, 10, 8
+
+unfoldable pub commandChecks : Card → Command → List Check
+commandChecks c (Command.createCq n) = 4 if not (leb 1 n && leb n mostPlaces) ∷ 8 if leb cqCount (freeCqn c) ∷ []
+commandChecks c (Command.destroyCq n) = 2 if not (cqLive c n) ∷ 10 if cqInUse c n ∷ []
+commandChecks c Command.createPd = 8 if leb pdCount (freePdn c) ∷ []
+commandChecks c (Command.destroyPd n) = 2 if not (c .pd n) ∷ 10 if pdInUse c n ∷ []
+commandChecks c (Command.register g) =
+    4 if not (only mostAccess (g .access)) ∷
+    2 if not (c .pd (g .pd)) ∷
+    11 if eqb (g .length) 0 ∷
+    11 if ltb (c .memory) (g .start + g .length) ∷
+    11 if ltb mostAddress (g .virt + g .length) ∷
+    8 if leb mrCount (freeMrn c) ∷
+    []
+commandChecks c (Command.deregister n) = 2 if not (c .mr n .live) ∷ []
+commandChecks c (Command.createQp r) =
+    4 if not (eqb (r .kind) 2) ∷
+    4 if ltb 1 (r .signal) ∷
+    2 if not (c .pd (r .pd)) ∷
+    2 if not (cqLive c (r .scq)) ∷
+    2 if not (cqLive c (r .rcq)) ∷
+    8 if leb qpCount (freeQpn c) ∷
+    []
+commandChecks c (Command.modifyQp r) =
+    4 if not (only (stateBit + destBit) (r .mask)) ∷
+    4 if not (has stateBit (r .mask)) ∷
+    4 if not (isState (r .state)) ∷
+    4 if not (eqb (r .pad0) 0 && eqb (r .pad1) 0 && eqb (r .pad2) 0) ∷
+    4 if (has destBit (r .mask) && not (eqb (r .state) 2)) ∷
+    4 if (not (has destBit (r .mask)) && eqb (r .state) 2) ∷
+    4 if (has destBit (r .mask) && (leb qpCount (r .dest) || eqb (r .dest) (r .qpn))) ∷
+    2 if not (c .qp (r .qpn) .live) ∷
+    3 if not (isMove (c .qp (r .qpn) .state) (r .state)) ∷
+    []
+commandChecks c (Command.destroyQp q) = 2 if not (c .qp q .live) ∷ []
+
+-- ---- the ack data: the column of that name
+
+unfoldable pub commandAck : Card → Command → List ℕ
+commandAck c (Command.createCq n) = freeCqn c ∷ []
+commandAck c (Command.destroyCq n) = []
+commandAck c Command.createPd = freePdn c ∷ []
+commandAck c (Command.destroyPd n) = []
+commandAck c (Command.register g) = freeMrn c ∷ keyOf (freeMrn c) (newVariant c) ∷ keyOf (freeMrn c) (newVariant c) ∷ []
+commandAck c (Command.deregister n) = []
+commandAck c (Command.createQp r) = freeQpn c ∷ []
+commandAck c (Command.modifyQp r) = []
+commandAck c (Command.destroyQp q) = []
+
+-- ---- the card after it
+
+-- "Move to 0 drops waiting receives and the destination"; a move to 2 takes the destination that bit 15 names
+abbrev pub moved : Qp → (state dest : ℕ) → Qp
+moved s t d =
+    record {
+      live = s .live;
+      pd = s .pd;
+      signal = s .signal;
+      scq = s .scq;
+      rcq = s .rcq;
+      state = t;
+      dest = cond (eqb t 0) none (cond (eqb t 2) (some d) (s .dest));
+      waiting = cond (eqb t 0) [] (s .waiting);
+    }
+
+unfoldable pub commandEffect : Card → Command → Card
+commandEffect c (Command.createCq n) = withCq c (upd (c .cq) (freeCqn c) (record { places = n; entries = [] }))
+commandEffect c (Command.destroyCq n) = withCq c (upd (c .cq) n freeCq)
+commandEffect c Command.createPd = withPd c (upd (c .pd) (freePdn c) true)
+commandEffect c (Command.destroyPd n) = withPd c (upd (c .pd) n false)
+commandEffect c (Command.register g) =
+    withMr c (upd (c .mr) (freeMrn c) (record { live = true; variant = newVariant c; reg = g }))
+commandEffect c (Command.deregister n) = withMr c (upd (c .mr) n (freeMr (c .mr n .variant)))
+commandEffect c (Command.createQp r) =
+    withQp c
+    (upd (c .qp) (freeQpn c)
+    (record { live = true; pd = r .pd; signal = r .signal; scq = r .scq; rcq = r .rcq; state = 0; dest = none; waiting = [] }))
+commandEffect c (Command.modifyQp r) = withQp c (upd (c .qp) (r .qpn) (moved (c .qp (r .qpn)) (r .state) (r .dest)))
+commandEffect c (Command.destroyQp q) = withQp c (upd (c .qp) q freeQp)

@@ -1,0 +1,12 @@
+pub mod Answer
+pub mod Lists
+pub mod Touch
+pub mod Permit
+pub mod Control
+pub mod Send
+pub mod Queues
+pub mod Call
+pub mod Calls
+pub mod Marks
+pub mod Dropped
+pub mod Contract

@@ -1,0 +1,125 @@
+-- Document 01, "Marked platform positions": the table of marks, and how each question is asked of the rules. Assumes nothing.
+use mathlib.Core.Path.{_≡_}
+use mathlib.Core.Bool.{Bool, true, cond, not}
+use mathlib.Core.List.{List, [], _∷_, map}
+use mathlib.Core.Option.{Option, none, some}
+use Prim.Native.Nat.{ℕ, _-_, _^_}
+use lib.Dec.{eqb}
+use lib.ListN.{getD}
+use Rattle.wire.specs.Scan.{all}
+use Rattle.wire.specs.Checks.{refusal}
+use Rattle.tables.specs.Card.{Card, fresh, freeMr, withMr}
+use Rattle.tables.specs.Records.{Command}
+use Rattle.tables.specs.declared.Registration.{Registration}
+use Rattle.rules.specs.Lists.{All}
+use Rattle.rules.specs.Touch.{Byte, range}
+use Rattle.rules.specs.Permit.{Use, permitsAll, place}
+use Rattle.rules.specs.Control.{commandChecks, commandAck, commandEffect}
+
+-- ---- the platform
+
+-- control commands one after another; one that is refused changes nothing
+abbrev pub settledBy : Option ℕ → Card → Command → Card
+settledBy none c k = commandEffect c k
+settledBy (some n) c k = c
+
+unfoldable pub after : Card → List Command → Card
+after c [] = c
+after c (k ∷ ks) = after (settledBy (refusal (commandChecks c k)) c k) ks
+
+-- "region PD 0, start 256, length 100, virt 4096, access 7"
+abbrev pub region : (start virt : ℕ) → Registration
+region s v = record { pd = 0; access = 7; start = s; length = 100; virt = v }
+
+-- "Memory 4,096", the domain, a queue pair in it, and the region
+unfoldable pub platform : Card
+platform =
+    after (fresh 4096)
+    (Command.createPd ∷ Command.createCq 1 ∷ Command.createQp (record { pd = 0; kind = 2; signal = 0; scq = 0; rcq = 0 }) ∷
+    Command.register (region 256 4096) ∷ [])
+
+-- it, dropped and registered again
+unfoldable pub renewed : Card
+renewed = after platform (Command.deregister 0 ∷ Command.register (region 256 4096) ∷ [])
+
+-- all slots but 31 are taken, and 31 last had the variant 254
+unfoldable pub nearlyFull : Card
+nearlyFull =
+    withMr platform (λ i. cond (eqb i 31) (freeMr 254) (record { live = true; variant = 1; reg = region 256 4096 }))
+
+-- ---- questions and results
+
+pub data Question : Type 0 where
+  -- so many bytes from the address on, under the key
+  bytes : (address count key : ℕ) → Question
+  -- one byte, and where it is
+  byte : (address key : ℕ) → Question
+  -- does the key stand after the region was dropped and registered again
+  stands : (key : ℕ) → Question
+  -- the key of a registration in slot 31 at variant 255, and the next one there
+  wrapped : Question
+  registers : (start virt : ℕ) → Question
+
+pub data Result : Type 0 where
+  permitted : Result
+  at : (place : ℕ) → Result
+  no : Result
+  keys : (first next : ℕ) → Result
+  done : Result
+  refused : (number : ℕ) → Result
+  -- permitted for one use and not for another: the region has every right, so that this never happens
+  mixed : Result
+
+abbrev pub uses : List Use
+uses = Use.localRead ∷ Use.localWrite ∷ Use.remoteWrite ∷ Use.remoteRead ∷ []
+
+-- the range is permitted for every use, or for none
+abbrev pub verdict : Card → List Byte → Result → Result
+verdict c bs r =
+    let tests : List Bool = map (λ u. permitsAll c 0 u bs) uses in
+    cond (all (λ t. t) tests) r (cond (all not tests) no mixed)
+
+abbrev pub answer : Option ℕ → Result
+answer none = done
+answer (some n) = refused n
+
+abbrev pub ask : Question → Result
+ask (bytes a n k) = verdict platform (range a k n) permitted
+ask (byte a k) = verdict platform (range a k 1) (at (place platform (record { address = a; key = k })))
+ask (stands k) = verdict renewed (range 4096 k 1) permitted
+ask wrapped =
+    let k = Command.register (region 256 4096) in
+    keys (getD (commandAck nearlyFull k) 1 0) (getD (commandAck (after nearlyFull (k ∷ Command.deregister 31 ∷ [])) k) 1 0)
+ask (registers s v) = answer (refusal (commandChecks platform (Command.register (region s v))))
+
+-- ---- the table
+
+pub record Mark : Type 0 where
+  pub number : ℕ
+  pub question : Question
+  pub result : Result
+
+abbrev pub mark : ℕ → Question → Result → Mark
+mark n q r = record { number = n; question = q; result = r }
+
+unfoldable pub table : List Mark
+table =
+    mark 1 (bytes 4096 100 1) permitted ∷
+    mark 2 (bytes 4096 101 1) no ∷
+    mark 3 (byte 4195 1) (at 355) ∷
+    mark 4 (bytes 4196 1 1) no ∷
+    mark 5 (bytes 4096 0 9999) permitted ∷
+    mark 6 (bytes (2 ^ 64 - 1) 2 1) no ∷
+    mark 7 (bytes 4096 1 2) no ∷
+    mark 8 (stands 2) permitted ∷
+    mark 8 (stands 1) no ∷
+    mark 9 wrapped (keys 8191 7937) ∷
+    mark 10 (registers 3996 4096) done ∷
+    mark 10 (registers 3997 4096) (refused 11) ∷
+    mark 11 (registers 256 (2 ^ 64 - 101)) done ∷
+    mark 11 (registers 256 (2 ^ 64 - 100)) (refused 11) ∷
+    []
+
+-- P1 to P11 together: every question of the table has its result
+unfoldable pub Marks : Type 0
+Marks = All (λ m. ask (m .question) ≡ m .result) table

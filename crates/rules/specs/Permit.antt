@@ -1,0 +1,56 @@
+-- Document 01, "Permitted byte", by the card's tables. Assumes nothing.
+use mathlib.Core.Bool.{Bool, true, false, cond, _&&_}
+use mathlib.Core.List.{List}
+use mathlib.Core.Option.{Option, none, some}
+use Prim.Native.Nat.{ℕ, _+_, _*_, _/_}
+use lib.Dec.{eqb, ltb, leb}
+use Rattle.wire.specs.Scan.{all}
+use Rattle.wire.specs.Checks.{has}
+use Rattle.tables.specs.Card.{Card, Mr}
+use Rattle.tables.specs.declared.Registration.{Registration}
+use Rattle.rules.specs.Touch.{Byte, byteOf}
+
+-- "the use's right: local reading none, local writing bit 1, remote write 2, remote read 4"
+pub data Use : Type 0 where
+  localRead : Use
+  localWrite : Use
+  remoteWrite : Use
+  remoteRead : Use
+
+abbrev pub granted : Use → (access : ℕ) → Bool
+granted localRead a = true
+granted localWrite a = has 1 a
+granted remoteWrite a = has 2 a
+granted remoteRead a = has 4 a
+
+-- "Both keys are 256 × mrn + variant"; a variant is at most 255, so that only the slot k / 256 can have the key k
+abbrev pub keyOf : (mrn variant : ℕ) → ℕ
+keyOf n v = 256 * n + v
+
+abbrev pub found : Mr → (n k : ℕ) → Option Registration
+found s n k = cond (s .live && eqb (keyOf n (s .variant)) k) (some (s .reg)) none
+
+-- the live region that has this key
+unfoldable pub lookup : (ℕ → Mr) → (k : ℕ) → Option Registration
+lookup mr k = found (mr (k / 256)) (k / 256) k
+
+-- "has .. the QP's PD, virt ≤ address < virt + length, and its access has the use's right"; the sum is a whole number
+unfoldable pub covers : Option Registration → (pd : ℕ) → Use → (a : ℕ) → Bool
+covers none p u a = false
+covers (some g) p u a = eqb (g .pd) p && granted u (g .access) && leb (g .virt) a && ltb a (g .virt + g .length)
+
+-- the byte is permitted to the queue pair q for the use
+unfoldable pub permits : Card → (q : ℕ) → Use → Byte → Bool
+permits c q u b = covers (lookup (c .mr) (b .key)) (c .qp q .pd) u (b .address)
+
+-- "A range is permitted if all its bytes are; an empty one looks at no key"
+unfoldable pub permitsAll : Card → (q : ℕ) → Use → List Byte → Bool
+permitsAll c q u bs = all (permits c q u) bs
+
+abbrev pub placeIn : Option Registration → ℕ → ℕ
+placeIn none a = 0
+placeIn (some g) a = byteOf g a
+
+-- the memory byte that a permitted byte is
+unfoldable pub place : Card → Byte → ℕ
+place c b = placeIn (lookup (c .mr) (b .key)) (b .address)

@@ -1,0 +1,112 @@
+-- What a work request touches, document 01, "Posting and delivering": the request and the receive that a record is, the bytes that
+-- they name, the memory byte that an address means, and what a delivery writes. Nothing here says what is permitted: the rules and
+-- the judge each decide that for themselves, and share no more than this file and the records' layouts. Assumes nothing.
+use mathlib.Core.Bool.{Bool, cond, _&&_}
+use mathlib.Core.List.{List, [], _∷_, _++_, map}
+use Prim.Native.Nat.{ℕ, zero, suc, _+_, _-_}
+use lib.Dec.{eqb, leb}
+use lib.ListN.{length, getD, take}
+use Rattle.wire.specs.Rows.{rows}
+use Rattle.tables.specs.Card.{Receive}
+use Rattle.tables.specs.Image.{receiveOf}
+use Rattle.tables.specs.Records.{sendCodec, isSignaled, isInline, inlineBytes, sendSge, receiveCodec}
+use Rattle.tables.specs.declared.Registration.{Registration}
+use Rattle.tables.specs.declared.Sge.{Sge}
+use Rattle.rules.specs.Lists.{stored}
+
+-- ---- the records as requests
+
+-- a work request; inline is the flag, bytes are the inline bytes
+pub record Request : Type 0 where
+  pub wr : ℕ
+  pub opcode : ℕ
+  pub signaled : Bool
+  pub inline : Bool
+  pub bytes : List ℕ
+  pub imm : ℕ
+  pub address : ℕ
+  pub key : ℕ
+  pub sges : List Sge
+
+-- the request that the bytes of a send record are
+unfoldable pub requestOf : List ℕ → Request
+requestOf x =
+    let s = sendCodec .read x 0 in
+    record {
+      wr = s .wr;
+      opcode = s .opcode;
+      signaled = isSignaled s;
+      inline = isInline s;
+      bytes = inlineBytes x;
+      imm = s .imm;
+      address = s .address;
+      key = s .key;
+      sges = rows (s .count) (sendSge x);
+    }
+
+-- the receive that the bytes of a receive record are
+unfoldable pub receiveIn : List ℕ → Receive
+receiveIn x = receiveOf (receiveCodec .read x 0)
+
+-- "Opcodes: 0 write, 1 write with immediate, 2 send, 3 send with immediate, 4 read"; 1, 2, 3 take a receive of the peer, 2 and 3 fill it
+abbrev pub takes : ℕ → Bool
+takes o = leb 1 o && leb o 3
+
+abbrev pub fills : ℕ → Bool
+fills o = leb 2 o && leb o 3
+
+abbrev pub reads : ℕ → Bool
+reads o = eqb o 4
+
+-- ---- the bytes that a request touches
+
+-- one byte as a request names it
+pub record Byte : Type 0 where
+  pub address : ℕ
+  pub key : ℕ
+
+-- the n bytes from the address a on; an address may pass 2^64, and does not wrap
+unfoldable pub range : (a k n : ℕ) → List Byte
+range a k zero = []
+range a k (suc n) = record { address = a; key = k } ∷ range (suc a) k n
+
+unfoldable pub sgeBytes : List Sge → List Byte
+sgeBytes [] = []
+sgeBytes (p ∷ ps) = range (p .address) (p .key) (p .length) ++ sgeBytes ps
+
+unfoldable pub sgeTotal : List Sge → ℕ
+sgeTotal [] = 0
+sgeTotal (p ∷ ps) = p .length + sgeTotal ps
+
+-- "Total (the inline length, or the pieces' sum)"
+unfoldable pub total : Request → ℕ
+total r = cond (r .inline) (length (r .bytes)) (sgeTotal (r .sges))
+
+-- the sender's side: its pieces; "Inline bytes aren't judged"
+unfoldable pub ownBytes : Request → List Byte
+ownBytes r = cond (r .inline) [] (sgeBytes (r .sges))
+
+-- the peer's side: "remote range (total bytes from the remote address)", or "the first total bytes of that list" of the receive
+unfoldable pub farBytes : Request → Receive → List Byte
+farBytes r w = cond (fills (r .opcode)) (take (total r) (sgeBytes (w .sges))) (range (r .address) (r .key) (total r))
+
+-- ---- the bytes of the memory
+
+-- "The byte is memory start + (address − virt)"
+unfoldable pub byteOf : Registration → ℕ → ℕ
+byteOf g a = g .start + (a - g .virt)
+
+-- "sender's side to peer's (opcode 4: back)"
+abbrev pub sourceBytes : Request → Receive → List Byte
+sourceBytes r w = cond (reads (r .opcode)) (farBytes r w) (ownBytes r)
+
+abbrev pub targetBytes : Request → Receive → List Byte
+targetBytes r w = cond (reads (r .opcode)) (ownBytes r) (farBytes r w)
+
+-- the message: the inline bytes, or what the source bytes hold before the call; `at` is the place of a byte in the memory m
+unfoldable pub message : (at : Byte → ℕ) → Request → Receive → (m : List ℕ) → List ℕ
+message at r w m = cond (r .inline) (r .bytes) (map (λ b. getD m (at b) 0) (sourceBytes r w))
+
+-- "All source bytes are read before any is written; pieces fill in list order, a later one overwriting"
+unfoldable pub delivered : (at : Byte → ℕ) → Request → Receive → (m : List ℕ) → List ℕ
+delivered at r w m = stored m (map at (targetBytes r w)) (message at r w m)
