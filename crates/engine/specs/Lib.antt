@@ -1,0 +1,5 @@
+pub mod Touch
+pub mod Permit
+pub mod Ranges
+pub mod Find
+pub mod Inside
