@@ -2,4 +2,5 @@ pub mod Touch
 pub mod Permit
 pub mod Ranges
 pub mod Find
+pub mod Sges
 pub mod Inside

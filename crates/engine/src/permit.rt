@@ -5,7 +5,7 @@ use tables::accept;
 use tables::image;
 use tables::limits::MR_COUNT;
 ghost use mathlib.Core.Path.{_≡_};
-ghost use Prim.Native.Nat.{_≤_, _<_, _+_};
+ghost use Prim.Native.Nat.{_≤_, min};
 ghost use mathlib.Core.Bool.{_&&_};
 ghost use lib.Dec.{eqb};
 ghost use lib.ListN.{length, take};
@@ -15,6 +15,7 @@ ghost use Rattle.engine.specs.Touch.{range, sgeBytes, sgeTotal};
 ghost use Rattle.engine.specs.Permit.{granted, permittedAll};
 ghost use Rattle.engine.specs.Ranges.{spans};
 ghost use Rattle.engine.specs.Find.{found};
+ghost use Rattle.engine.specs.Sges.{cut};
 
 // The live region that has exactly a key, if there is one.
 pub enum Found {
@@ -69,4 +70,67 @@ pub fn range_permitted(state: &[u8], pd: u8, mask: u8, address: u64, n: u64, key
         Found::Live(r) => has_use(r, pd, mask) & holds_ends(r, address, n),
         Found::Nothing => false,
     }
+}
+
+// Whether each byte of the first count entries is permitted.
+pub fn sges_permitted(state: &[u8], pd: u8, mask: u8, sges: [Sge; 4], count: usize) -> bool
+    requires { ⌜ (count ≤ 4) × (length (now state) ≡ image) ⌝ }
+    ensures { λ b. ⌜ b ≡ permittedAll (card (now (state .entry))) pd mask (sgeBytes (take count sges)) ⌝ }
+{
+    let mut i = 0;
+    while i < count {
+        let s = sges[i];
+        if !range_permitted(state, pd, mask, s.address, s.length as u64, s.key) {
+            return false;
+        }
+        i += 1;
+    }
+    true
+}
+
+// The number of bytes of the first count entries.
+pub fn sges_total(sges: [Sge; 4], count: usize) -> u64
+    requires { ⌜ count ≤ 4 ⌝ }
+    ensures { λ r. ⌜ r ≡ sgeTotal (take count sges) ⌝ }
+{
+    let mut sum: u64 = 0;
+    let mut i = 0;
+    while i < count {
+        let s = sges[i];
+        sum += s.length as u64;
+        i += 1;
+    }
+    sum
+}
+
+// The smaller of two numbers.
+fn least(a: u32, b: u32) -> u32
+    ensures { λ r. ⌜ r ≡ min a b ⌝ }
+{
+    if a <= b {
+        return a;
+    }
+    b
+}
+
+// The first count entries, cut to n bytes in all.
+pub fn cut_to(sges: [Sge; 4], count: usize, n: u32) -> [Sge; 4]
+    requires { ⌜ count ≤ 4 ⌝ }
+    ensures { λ r. ⌜ take count r ≡ cut n (take count sges) ⌝ }
+{
+    let mut out = sges;
+    let mut left = n;
+    let mut i = 0;
+    while i < count {
+        let s = sges[i];
+        let k = least(left, s.length);
+        out[i] = Sge {
+            address: s.address,
+            length: k,
+            key: s.key,
+        };
+        left -= k;
+        i += 1;
+    }
+    out
 }
