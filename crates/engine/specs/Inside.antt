@@ -70,3 +70,59 @@ module _ (l : List ℕ) (ok : accepts l ≡ true) where
   -- a live region lies in the memory
   pub inside : (n : ℕ) → card l .mr n .live ≡ true → Lies (card l .memory) (card l .mr n .reg)
   inside n e = rw (mr-row l n (mr-below l n e) (row-live n e), memory-is l) (lies-row n (mr-below l n e) (row-live n e))
+
+  -- a byte that lies in a live region: its slot, its address and its place
+  pub record Placed (b : Byte) : Type 0 where
+    pub slot : b .key / 256 < mrCount
+    pub row : card l .mr (b .key / 256) .reg ≡ registrationOf (rowAt mrT l (b .key / 256))
+    pub lies : Lies (rowAt memoryT l 0) (lookup (card l .mr) (b .key) .reg)
+    pub covered : Covers (lookup (card l .mr) (b .key) .reg) (b .address)
+
+  pub placed : (b : Byte) → mapped (card l) b ≡ true → Placed b
+  unfolding mapped
+  placed b e =
+      let n : ℕ = b .key / 256 in
+      let live = and-left (card l .mr n .live) (covers (card l .mr n .reg) (b .address)) e in
+      record {
+        slot = mr-below l n live;
+        row = mr-row l n (mr-below l n live) (row-live n live);
+        lies = rw memory-is at (inside n live);
+        covered = covers-facts (card l .mr n .reg) (b .address) (and-right (card l .mr n .live) (covers (card l .mr n .reg) (b .address)) e);
+      }
+
+  -- the place of a mapped byte, and so of a permitted one, is below the memory's length
+  pub mapped-below : (b : Byte) → mapped (card l) b ≡ true → locate (card l) b < rowAt memoryT l 0
+  unfolding locate byteOf
+  mapped-below b e =
+      let p = placed b e in
+      let x = p .lies .room in
+      let y = p .covered .low in
+      let z = p .covered .high in
+      omega arith
+
+  pub permitted-below : (pd mask : ℕ) (b : Byte) → permits (card l) pd mask b ≡ true → locate (card l) b < rowAt memoryT l 0
+  permitted-below pd mask b e = mapped-below b (permitted-mapped (card l) pd mask b e)
+
+  -- "An address at or past 2^64 is never permitted."
+  pub permitted-word : (pd mask : ℕ) (b : Byte) → permits (card l) pd mask b ≡ true → b .address < 2 ^ 64
+  permitted-word pd mask b e =
+      let p = placed b (permitted-mapped (card l) pd mask b e) in
+      let x = p .lies .word in
+      let z = p .covered .high in
+      omega arith
+
+  -- the place of a mapped byte, from its region's row r
+  pub record Place (b : Byte) (r : Region) : Type 0 where
+    pub low : r .virt ≤ b .address
+    pub small : r .start + (b .address - r .virt) < mostMemory
+    pub is : r .start + (b .address - r .virt) ≡ locate (card l) b
+
+  pub place : (b : Byte) (r : Region) → mapped (card l) b ≡ true → r ≡ rowAt mrT l (b .key / 256) → Place b r
+  unfolding locate byteOf
+  place b r h e =
+      let p = placed b h in
+      let q : card l .mr (b .key / 256) .reg ≡ registrationOf r = p .row ∙ ap registrationOf (sym e) in
+      let is : r .start + (b .address - r .virt) ≡ byteOf (card l .mr (b .key / 256) .reg) (b .address) = rw q in
+      let x = mapped-below b h in
+      let y = memory-most in
+      record { low = rw q at (p .covered .low); small = omega arith; is = is }

@@ -4,3 +4,5 @@ pub mod Ranges
 pub mod Find
 pub mod Sges
 pub mod Inside
+pub mod Places
+pub mod Moves
