@@ -7,9 +7,10 @@ use native.Mathlib.Nat.{add-zero, zero-add}
 use native.Mathlib.Numerals.{add-one}
 use native.Mathlib.Omega.{arith}
 use lib.ListN.{length, getD, set, take, drop, length-drop}
-use lib.Seq.{paste, paste-suc, getD-drop, drop-drop, take-paste, take-length}
+use lib.Seq.{paste, paste-suc, getD-drop, drop-drop, take-paste, take-length, take-take, length-take-le}
 use Rattle.wire.specs.Scan.{all, and-left, and-right}
 use Rattle.tables.specs.Card.{Card}
+use Rattle.tables.specs.Limits.{mostMessage}
 use Rattle.tables.specs.declared.Sge.{Sge}
 use Rattle.engine.specs.Touch.{Byte, sgeBytes, sgeTotal, readBytes, writeBytes, delivered}
 use Rattle.engine.specs.Permit.{mapped, mappedAll, locate, places}
@@ -134,3 +135,79 @@ pub transferred : (c : Card) (m m′ st : List ℕ) (ss ts : List Sge) → sgeTo
     → m′ ≡ writeBytes m (places c ts) st → m′ ≡ delivered m (places c ss) (places c ts)
 unfolding delivered
 transferred c m m′ st ss ts k e w = staged c m m′ st (readBytes m (places c ss)) ts (sgeTotal ss) k e w
+
+-- what a transfer asks: the sources and the targets lie in live regions and are as many, no more than a message may have
+pub record Message (c : Card) (ss ts : List Sge) : Type 0 where
+  pub sources : mappedAll c (sgeBytes ss) ≡ true
+  pub targets : mappedAll c (sgeBytes ts) ≡ true
+  pub total : sgeTotal ts ≡ sgeTotal ss
+  pub most : sgeTotal ss ≤ mostMessage
+
+-- ---- a message of one entry to one entry
+
+pub record Single (c : Card) (s t : Sge) : Type 0 where
+  pub source : mappedAll c (bytesOf s) ≡ true
+  pub target : mappedAll c (bytesOf t) ≡ true
+  pub total : t .length ≡ s .length
+  pub most : s .length ≤ mostMessage
+
+module _ (c : Card) (ss : List Sge) (n : ℕ) (one : n ≡ 1) (some : 1 ≤ length ss) where
+  alone : take n ss ≡ getD ss 0 noSge ∷ []
+  alone =
+      ap (λ (k : ℕ). take k ss) one ∙ left-cons ss 1 0 some (omega arith)
+      ∙ ap (λ (l : List Sge). getD ss 0 noSge ∷ l) (left-none ss 1 (0 + 1) (omega arith))
+
+  alone-bytes : sgeBytes (take n ss) ≡ bytesOf (getD ss 0 noSge)
+  unfolding sgeBytes
+  alone-bytes = ap sgeBytes alone ∙ append-nil (bytesOf (getD ss 0 noSge))
+
+  alone-total : sgeTotal (take n ss) ≡ getD ss 0 noSge .length
+  unfolding sgeTotal
+  alone-total = ap sgeTotal alone ∙ add-zero (getD ss 0 noSge .length)
+
+module _ (c : Card) (ss ts : List Sge) (nf nt : ℕ) (f : nf ≡ 1) (t : nt ≡ 1) (hs : 1 ≤ length ss) (ht : 1 ≤ length ts) where
+  pub single : Message c (take nf ss) (take nt ts) → Single c (getD ss 0 noSge) (getD ts 0 noSge)
+  single m =
+      let a = alone-total c ss nf f hs in
+      let b = alone-total c ts nt t ht in
+      let x = m .total in
+      let y = m .most in
+      record {
+        source = rw (alone-bytes c ss nf f hs) at (m .sources);
+        target = rw (alone-bytes c ts nt t ht) at (m .targets);
+        total = omega arith;
+        most = omega arith;
+      }
+
+  pub single-done : (m m′ : List ℕ) → m′ ≡ delivered m (placesOf c (getD ss 0 noSge)) (placesOf c (getD ts 0 noSge))
+      → m′ ≡ delivered m (places c (take nf ss)) (places c (take nt ts))
+  single-done m m′ e = rw (alone-bytes c ss nf f hs, alone-bytes c ts nt t ht) e
+
+pub undelivered : (c : Card) (m : List ℕ) (s t : Sge) → t .length ≡ s .length → s .length ≡ 0 → m ≡ delivered m (placesOf c s) (placesOf c t)
+unfolding delivered
+undelivered c m s t k e = unwritten c m t 0 (readBytes m (placesOf c s)) (k ∙ e)
+
+pub delivered-run : (c : Card) (m m′ : List ℕ) (s t : Sge) (a b : ℕ) → Run c (length m) s → Run c (length m) t
+    → a ≡ locate c (byte (s .address) (s .key)) → b ≡ locate c (byte (t .address) (t .key)) → t .length ≡ s .length
+    → m′ ≡ paste m b (drop a m) (s .length) → m′ ≡ delivered m (placesOf c s) (placesOf c t)
+unfolding delivered
+delivered-run c m m′ s t a b rs rt ea eb k e =
+    let n : ℕ = s .length in
+    let ha : a + n ≤ length m = rw ea (rs .ends) in
+    let hb : b + n ≤ length m = rw (eb, ← k) (rt .ends) in
+    let vs : List ℕ = take n (drop a m) in
+    let hd : n ≤ length (drop a m) = simp length-drop (omega arith) in
+    let hv : n ≤ length vs = omega (arith, length-take-le n (drop a m) hd) in
+    let from : readBytes m (placesOf c s) ≡ vs =
+    ap (readBytes m) (rs .at) ∙ ap (λ (j : ℕ). readBytes m (run j n)) (sym ea) ∙ read-run m n a ha in
+    let to : placesOf c t ≡ run b n = rt .at ∙ ap (λ (j : ℕ). run j (t .length)) (sym eb) ∙ ap (run b) k in
+    e ∙ ap (λ (l : List ℕ). take b m ++ l ++ drop (b + n) m) (sym (take-take n n (drop a m) (omega arith)))
+    ∙ sym (write-run n m b vs hb hv)
+    ∙ ap (λ (ps : List ℕ). writeBytes m ps vs) (sym to)
+    ∙ ap (writeBytes m (placesOf c t)) (sym from)
+
+-- inline bytes, by way of a staging list z
+pub inlined : (c : Card) (m m′ z st vs : List ℕ) (ts : List Sge) → sgeTotal ts ≡ length vs → st ≡ paste z 0 (drop 0 vs) (length vs)
+    → m′ ≡ writeBytes m (places c ts) st → m′ ≡ writeBytes m (places c ts) vs
+inlined c m m′ z st vs ts k e w =
+    staged c m m′ st vs ts (length vs) k (ap (take (length vs)) e ∙ front z vs (length vs) (omega arith) ∙ take-length vs) w

@@ -16,6 +16,7 @@ ghost use Rattle.engine.specs.Touch.{sgeBytes, sgeTotal, readBytes, writ
 ghost use Rattle.engine.specs.Permit.{mapped, mappedAll, locate, places};
 ghost use Rattle.engine.specs.Ranges.{byte};
 ghost use Rattle.engine.specs.Places.{Ready, bytesOf, placesOf};
+ghost use Rattle.engine.specs.Moves.{Message, Single};
 
 // Copies n bytes of src, from index from on, into dst from index at on.
 pub fn copy_bytes(dst: &mut [u8], at: usize, src: &[u8], from: usize, n: usize)
@@ -97,4 +98,74 @@ fn scatter(state: &[u8], memory: &mut [u8], sges: [Sge; 4], count: usize, stagin
         at += s.length as usize;
         i += 1;
     }
+}
+
+// Moves n bytes of memory to another place of it.
+fn deliver_one(memory: &mut [u8], from: usize, to: usize, n: usize)
+    requires { ⌜ (n ≤ mostMessage) × (from + n ≤ length (now memory)) × (to + n ≤ length (now memory)) ⌝ }
+    ensures { λ _. ⌜ now (memory .exit) ≡ paste (now (memory .entry)) to (drop from (now (memory .entry))) n ⌝ }
+{
+    let mut staging = [0u8; 4096];
+    copy_bytes(&mut staging, 0, memory, from, n);
+    copy_bytes(memory, to, &staging, 0, n);
+}
+
+// Moves one entry's bytes to one entry.
+fn transfer_one(state: &[u8], memory: &mut [u8], from: Sge, to: Sge)
+    requires { ⌜ Ready (now state) (now memory) ⌝ }
+    requires { ⌜ Single (card (now state)) from to ⌝ }
+    ensures { λ _. ⌜ now (memory .exit) ≡ delivered (now (memory .entry)) (placesOf (card (now (state .entry))) from) (placesOf (card (now (state .entry))) to) ⌝ }
+{
+    let n = from.length as usize;
+    if n == 0 {
+        return;
+    }
+    let a = place_of(state, from.address, from.key);
+    let b = place_of(state, to.address, to.key);
+    deliver_one(memory, a, b, n);
+}
+
+// Moves the bytes of the first nf entries of from to the first nt entries of to.
+fn transfer_many(
+    state: &[u8],
+    memory: &mut [u8],
+    from: [Sge; 4],
+    nf: usize,
+    to: [Sge; 4],
+    nt: usize,
+)
+    requires { ⌜ Ready (now state) (now memory) ⌝ }
+    requires { ⌜ (nf ≤ 4) × (nt ≤ 4) × Message (card (now state)) (take nf from) (take nt to) ⌝ }
+    ensures { λ _. ⌜ now (memory .exit) ≡ delivered (now (memory .entry)) (places (card (now (state .entry))) (take nf from)) (places (card (now (state .entry))) (take nt to)) ⌝ }
+{
+    let mut staging = [0u8; 4096];
+    gather(state, memory, from, nf, &mut staging);
+    scatter(state, memory, to, nt, &staging);
+}
+
+// The same; a message of one entry to one entry is one move.
+pub fn transfer(state: &[u8], memory: &mut [u8], from: [Sge; 4], nf: usize, to: [Sge; 4], nt: usize)
+    requires { ⌜ Ready (now state) (now memory) ⌝ }
+    requires { ⌜ (nf ≤ 4) × (nt ≤ 4) × Message (card (now state)) (take nf from) (take nt to) ⌝ }
+    ensures { λ _. ⌜ now (memory .exit) ≡ delivered (now (memory .entry)) (places (card (now (state .entry))) (take nf from)) (places (card (now (state .entry))) (take nt to)) ⌝ }
+{
+    if (nf == 1) & (nt == 1) {
+        let s = from[0];
+        let t = to[0];
+        transfer_one(state, memory, s, t);
+        return;
+    }
+    transfer_many(state, memory, from, nf, to, nt);
+}
+
+// Writes inline bytes, which stand in the caller's record, to the first nt entries of to.
+pub fn scatter_inline(state: &[u8], memory: &mut [u8], bytes: &[u8], to: [Sge; 4], nt: usize)
+    requires { ⌜ Ready (now state) (now memory) ⌝ }
+    requires { ⌜ (nt ≤ 4) × (mappedAll (card (now state)) (sgeBytes (take nt to)) ≡ true) × (sgeTotal (take nt to) ≡ length (now bytes)) × (length (now bytes) ≤ mostInline) ⌝ }
+    ensures { λ _. ⌜ now (memory .exit) ≡ writeBytes (now (memory .entry)) (places (card (now (state .entry))) (take nt to)) (now (bytes .entry)) ⌝ }
+{
+    let mut staging = [0u8; 512];
+    let n = bytes.len();
+    copy_bytes(&mut staging, 0, bytes, 0, n);
+    scatter(state, memory, to, nt, &staging);
 }
