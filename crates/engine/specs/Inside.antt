@@ -26,6 +26,19 @@ pub record Lies (memory : ℕ) (g : Registration) : Type 0 where
   pub room : g .start + g .length ≤ memory
   pub word : g .virt + g .length ≤ mostAddress
 
+-- a byte that lies in a live region: its slot, its address and its place
+pub record Placed (l : List ℕ) (b : Byte) : Type 0 where
+  pub slot : b .key / 256 < mrCount
+  pub row : card l .mr (b .key / 256) .reg ≡ registrationOf (rowAt mrT l (b .key / 256))
+  pub lies : Lies (rowAt memoryT l 0) (lookup (card l .mr) (b .key) .reg)
+  pub covered : Covers (lookup (card l .mr) (b .key) .reg) (b .address)
+
+-- the place of a mapped byte, from its region's row r
+pub record Place (l : List ℕ) (b : Byte) (r : Region) : Type 0 where
+  pub low : r .virt ≤ b .address
+  pub small : r .start + (b .address - r .virt) < mostMemory
+  pub is : r .start + (b .address - r .virt) ≡ locate (card l) b
+
 module _ (l : List ℕ) (ok : accepts l ≡ true) where
   module _ where
     abbrev parts : Bool
@@ -71,14 +84,7 @@ module _ (l : List ℕ) (ok : accepts l ≡ true) where
   pub inside : (n : ℕ) → card l .mr n .live ≡ true → Lies (card l .memory) (card l .mr n .reg)
   inside n e = rw (mr-row l n (mr-below l n e) (row-live n e), memory-is l) (lies-row n (mr-below l n e) (row-live n e))
 
-  -- a byte that lies in a live region: its slot, its address and its place
-  pub record Placed (b : Byte) : Type 0 where
-    pub slot : b .key / 256 < mrCount
-    pub row : card l .mr (b .key / 256) .reg ≡ registrationOf (rowAt mrT l (b .key / 256))
-    pub lies : Lies (rowAt memoryT l 0) (lookup (card l .mr) (b .key) .reg)
-    pub covered : Covers (lookup (card l .mr) (b .key) .reg) (b .address)
-
-  pub placed : (b : Byte) → mapped (card l) b ≡ true → Placed b
+  pub placed : (b : Byte) → mapped (card l) b ≡ true → Placed l b
   unfolding mapped
   placed b e =
       let n : ℕ = b .key / 256 in
@@ -111,13 +117,7 @@ module _ (l : List ℕ) (ok : accepts l ≡ true) where
       let z = p .covered .high in
       omega arith
 
-  -- the place of a mapped byte, from its region's row r
-  pub record Place (b : Byte) (r : Region) : Type 0 where
-    pub low : r .virt ≤ b .address
-    pub small : r .start + (b .address - r .virt) < mostMemory
-    pub is : r .start + (b .address - r .virt) ≡ locate (card l) b
-
-  pub place : (b : Byte) (r : Region) → mapped (card l) b ≡ true → r ≡ rowAt mrT l (b .key / 256) → Place b r
+  pub place : (b : Byte) (r : Region) → mapped (card l) b ≡ true → r ≡ rowAt mrT l (b .key / 256) → Place l b r
   unfolding locate byteOf
   place b r h e =
       let p = placed b h in

@@ -6,3 +6,4 @@ pub mod Sges
 pub mod Inside
 pub mod Places
 pub mod Moves
+pub mod Bytewise
