@@ -1,0 +1,60 @@
+use mathlib.Core.Path.{_≡_, refl, sym, ap, _∙_}
+use denote.Ref.{now}
+use native.Mathlib.Omega.{arith}
+use Prim.Native.Nat.{ℕ, _+_, _-_, _*_, _/_, _%_, _≤_, _<_}
+use Rattle.wire.specs.Scan.{all}
+use Rattle.tables.specs.Image.{card}
+use Rattle.engine.specs.Permit.{permits}
+use Rattle.engine.specs.Ranges.{empty-range}
+use Rattle.engine.specs.Find.{range-none, range-found}
+use borrow.Author.Needs.{needs}
+use Rattle.engine.proofs.permit.range_permitted.Statement.{statement}
+use Rattle.engine.proofs.permit.range_permitted.Tie as tie
+use Rattle.engine.proofs.permit.range_permitted.Reads as reads
+use Rattle.engine.proofs.permit.range_permitted.Lts as lts
+use Rattle.engine.proofs.permit.has_use.Reads as has-use-reads
+use Rattle.engine.proofs.permit.holds_ends.Reads as holds-ends-reads
+use Rattle.engine.proofs.permit.region_of.Reads as region-of-reads
+
+returns : tie.Need-returns
+returns c = let a = c .before .before .args in sym (empty-range (permits (card (now (a .state))) (a .pd) (a .mask)) (a .address) (a .key) (a .n) (c .if1 .taken))
+
+region-of-requires : tie.Need-region-of-requires
+region-of-requires c κs = search needs
+
+enum-known-r : tie.Need-enum-known-r
+enum-known-r c = search needs
+
+has-use-requires : tie.Need-has-use-requires
+has-use-requires c κs = search needs
+
+holds-ends-requires : tie.Need-holds-ends-requires
+holds-ends-requires c κs = search needs
+
+enum-told : tie.Need-enum-told
+enum-told c = search needs
+
+returns-2 : tie.Need-returns-2
+returns-2 c =
+    let a = c .before .before .before .before .before .before .before .before .args in
+    rw (c .before .has-use .ensures, c .holds-ends .ensures)
+    (sym (range-found (card (now (a .state))) (a .pd) (a .mask) (a .key) (a .n) (a .address) _ (search needs)
+    (sym (c .before .before .before .before .before .region-of .ensures) ∙ c .before .before .before .r .given .1)))
+
+returns-3 : tie.Need-returns-3
+returns-3 c =
+    let a = c .before .before .before .before .before .args in
+    sym (range-none (card (now (a .state))) (a .pd) (a .mask) (a .key) (a .n) (a .address) (search needs) (sym (c .before .before .region-of .ensures) ∙ c .enum-told .given .1))
+
+pub range-permitted-spec : {M : Type 1} → statement M
+range-permitted-spec =
+    tie.close
+    (tie.spec
+    returns
+    region-of-requires
+    enum-known-r
+    has-use-requires
+    holds-ends-requires
+    enum-told
+    returns-2
+    returns-3)

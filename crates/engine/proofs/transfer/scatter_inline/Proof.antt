@@ -1,0 +1,48 @@
+use mathlib.Core.Path.{_≡_, refl, sym, ap, _∙_}
+use native.Mathlib.Omega.{arith}
+use denote.Ref.{now}
+use mathlib.Core.List.{List}
+use lib.ListN.{length, getD, take, drop, length-drop}
+use Prim.Native.Nat.{ℕ, _+_, _-_, _≤_, _<_}
+use Rattle.tables.specs.Image.{card}
+use Rattle.engine.specs.Moves.{inlined}
+use borrow.Author.Needs.{needs}
+use Rattle.engine.proofs.transfer.scatter_inline.Statement.{statement}
+use Rattle.engine.proofs.transfer.scatter_inline.Tie as tie
+use Rattle.engine.proofs.transfer.scatter_inline.Reads as reads
+use Rattle.engine.proofs.transfer.scatter_inline.Lts as lts
+use Rattle.engine.proofs.transfer.copy_bytes.Reads as copy-bytes-reads
+use Rattle.engine.proofs.transfer.scatter.Reads as scatter-reads
+
+slice-aggregate-copy-bytes : tie.Need-slice-aggregate-copy-bytes
+slice-aggregate-copy-bytes c = search needs
+
+copy-bytes-requires : tie.Need-copy-bytes-requires
+copy-bytes-requires c κs = search needs
+
+slice-aggregate-scatter : tie.Need-slice-aggregate-scatter
+slice-aggregate-scatter c = search needs
+
+scatter-requires : tie.Need-scatter-requires
+scatter-requires c κs =
+    let s = c .before .before .before .before .before .before .before .before in
+    (s .pre .0, (s .pre .1 .0, s .pre .1 .1, omega (arith, c .before .before .before .copy-bytes .kept .0)))
+
+same-length : tie.Need-same-length
+same-length c = search needs
+
+returns : tie.Need-returns
+returns c =
+    let s = c .before .before .before .before .before .before .before .before .before .before .before in
+    inlined (card (now (s .args .state))) (now (s .args .memory)) _ _ _ (now (s .args .bytes)) (take (s .args .nt) (s .args .to)) (s .pre .1 .2) (c .before .before .before .before .before .before .copy-bytes .ensures) (c .before .before .scatter .ensures)
+
+pub scatter-inline-spec : {M : Type 1} → statement M
+scatter-inline-spec =
+    tie.close
+    (tie.spec
+    slice-aggregate-copy-bytes
+    copy-bytes-requires
+    slice-aggregate-scatter
+    scatter-requires
+    same-length
+    returns)

@@ -1,0 +1,9 @@
+pub mod Touch
+pub mod Permit
+pub mod Ranges
+pub mod Find
+pub mod Sges
+pub mod Inside
+pub mod Places
+pub mod Moves
+pub mod Bytewise

@@ -1,0 +1,3 @@
+// The engine: which bytes a request may touch, and how they are moved.
+pub mod permit;
+pub mod transfer;
