@@ -18,7 +18,8 @@ use Rattle.tables.specs.Records.{Command, commandOf, ackFields, ackLeast, sendC
 use Rattle.rules.specs.Lists.{isSome, isEmpty, names, orElse}
 use Rattle.rules.specs.Permit.{keyOf}
 use Rattle.rules.specs.Touch.{Request, requestOf, takes}
-use Rattle.rules.specs.Control.{commandChecks, commandAck, commandEffect, freeMrn, freeQpn, newVariant}
+use Rattle.rules.specs.Control.{commandChecks, commandAck, commandEffect, newVariant}
+use Rattle.tables.specs.Search.{freeMrn, freeQpn}
 use Rattle.rules.specs.Send.{deliveryChecks, peerOf, ready, consumes, errorIf, consumeIf, sendStatus, sendQps, sendEffect}
 use Rattle.rules.specs.Queues.{joined, flushChecks, flushed, polled}
 use Rattle.rules.specs.Call.{Call}

@@ -17,7 +17,8 @@ use Rattle.tables.specs.Card.{Card, Qp, Receive}
 use Rattle.tables.specs.Records.{Command, commandOf, ackFields, ackLeast}
 use Rattle.rules.specs.Lists.{isEmpty, rest}
 use Rattle.rules.specs.Touch.{Request, requestOf, receiveIn, fills, reads}
-use Rattle.rules.specs.Control.{commandChecks, commandAck, commandEffect, freeQpn}
+use Rattle.rules.specs.Control.{commandChecks, commandAck, commandEffect}
+use Rattle.tables.specs.Search.{freeQpn}
 use Rattle.rules.specs.Send.{peerOf, consumes, senderOpcode, receiverOpcode, senderPut, receiverPut, errorIf, consumeIf, sendStatus, sendPuts, putAll, sendQps, sendEffect}
 use Rattle.rules.specs.Queues.{flushChecks, flushed, joined, polled}
 use Rattle.rules.specs.Call.{Call, memoryOf}

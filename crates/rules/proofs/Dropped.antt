@@ -15,7 +15,8 @@ use Rattle.tables.specs.Records.{Command}
 use Rattle.rules.specs.Lists.{rest}
 use Rattle.rules.specs.Touch.{Request, fills, takes, farBytes}
 use Rattle.rules.specs.Permit.{keyOf, lookup, covers, permits, permitsAll}
-use Rattle.rules.specs.Control.{commandEffect, freeMrn, newVariant, nextVariant}
+use Rattle.rules.specs.Control.{commandEffect, newVariant, nextVariant}
+use Rattle.tables.specs.Search.{freeMrn}
 use Rattle.rules.specs.Send.{peerOf, takenBy, farUse, errorIf, consumeIf, sendStatus, sendMemory, sendQps, sendEffect}
 use Rattle.rules.proofs.Variants.{next-differs, next-small, slot}
 use Rattle.rules.specs.Dropped.{Reaches, farKey, StaleFails, DroppedRegion, KeysDropped, OldKeyStale, NewKeyStands}

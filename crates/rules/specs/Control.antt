@@ -5,36 +5,15 @@ use mathlib.Core.Option.{none, some}
 use Prim.Native.Nat.{ℕ, _+_}
 use lib.Dec.{eqb, ltb, leb}
 use Rattle.wire.specs.Checks.{Check, _if_, has, only}
-use Rattle.wire.specs.Scan.{lowest, anyBelow}
 use Rattle.wire.specs.Slots.{upd}
 use Rattle.tables.specs.Limits.{pdCount, cqCount, mrCount, qpCount, mostPlaces, mostAddress, mostAccess}
 use Rattle.tables.specs.Card.{Card, Qp, withPd, withCq, withMr, withQp, freeCq, freeMr, freeQp}
 use Rattle.tables.specs.Accept.{cqLive, isState}
 use Rattle.tables.specs.Records.{Command}
+use Rattle.tables.specs.Search.{freePdn, freeCqn, freeMrn, freeQpn, pdInUse, cqInUse}
 use Rattle.rules.specs.Permit.{keyOf}
 
--- ---- numbers that are live, free or in use
-
--- "Creation takes the lowest free number"; the table's count where none is free
-abbrev pub freePdn : Card → ℕ
-freePdn c = lowest pdCount (λ i. not (c .pd i))
-
-abbrev pub freeCqn : Card → ℕ
-freeCqn c = lowest cqCount (λ i. not (cqLive c i))
-
-abbrev pub freeMrn : Card → ℕ
-freeMrn c = lowest mrCount (λ i. not (c .mr i .live))
-
-abbrev pub freeQpn : Card → ℕ
-freeQpn c = lowest qpCount (λ i. not (c .qp i .live))
-
--- "In use (10): a PD with a live MR or QP; a CQ named by a live QP"
-abbrev pub pdInUse : Card → ℕ → Bool
-pdInUse c n =
-    anyBelow mrCount (λ i. c .mr i .live && eqb (c .mr i .reg .pd) n) || anyBelow qpCount (λ i. c .qp i .live && eqb (c .qp i .pd) n)
-
-abbrev pub cqInUse : Card → ℕ → Bool
-cqInUse c n = anyBelow qpCount (λ i. c .qp i .live && (eqb (c .qp i .scq) n || eqb (c .qp i .rcq) n))
+-- ---- keys
 
 -- "A slot's first variant after reset is 1; each registration in it takes the next, and 1 follows 255"
 abbrev pub nextVariant : ℕ → ℕ

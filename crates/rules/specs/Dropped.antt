@@ -13,7 +13,8 @@ use Rattle.tables.specs.declared.Registration.{Registration}
 use Rattle.rules.specs.Lists.{rest}
 use Rattle.rules.specs.Touch.{Request, fills, total, sgeTotal, ownBytes, farBytes}
 use Rattle.rules.specs.Permit.{keyOf, lookup, permitsAll}
-use Rattle.rules.specs.Control.{commandEffect, freeMrn, newVariant}
+use Rattle.rules.specs.Control.{commandEffect, newVariant}
+use Rattle.tables.specs.Search.{freeMrn}
 use Rattle.rules.specs.Send.{peerOf, takenBy, ownUse, sendStatus, sendMemory, sendEffect, receiverPut}
 
 -- "sender 7, receiver 3. The receive is consumed, both QPs go to error"; no byte is moved
