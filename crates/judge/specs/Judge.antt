@@ -7,7 +7,7 @@ use Prim.Native.Nat.{ℕ, suc, _+_, _/_, _%_}
 use lib.ListN.{getD, drop}
 use lib.Dec.{eqb, ltb, leb}
 use Rattle.wire.specs.Scan.{all}
-use Rattle.tables.specs.Limits.{mostMessage}
+use Rattle.tables.specs.Limits.{qpCount, mostMessage}
 use Rattle.tables.specs.Card.{Receive, noReceive}
 use Rattle.tables.specs.declared.Registration.{Registration}
 use Rattle.rules.specs.Lists.{names, orElse}
@@ -142,7 +142,7 @@ placed l b = placeBy (standing l (b .key)) (b .address)
 
 -- "the judge finds the peer and, for opcodes 2 and 3, the peer's oldest waiting receive"
 unfoldable pub peerNo : Log → (q : ℕ) → ℕ
-peerNo l q = orElse (peer l q) 8
+peerNo l q = orElse (peer l q) qpCount
 
 unfoldable pub oldestAt : Log → (q : ℕ) → Receive
 oldestAt l q = getD (waiting l (peerNo l q)) 0 noReceive
