@@ -7,3 +7,5 @@ pub mod Inside
 pub mod Places
 pub mod Moves
 pub mod Bytewise
+pub mod Bytes
+pub mod Owed
