@@ -4,18 +4,20 @@ use mathlib.Core.Path.{_≡_, refl, sym, ap, _∙_}
 use mathlib.Core.Logic.{_⊎_, inl, inr}
 use mathlib.Core.Bool.{Bool, true, false, cond, not, _&&_, _||_}
 use mathlib.Core.List.{List, [], _∷_}
-use Prim.Native.Nat.{ℕ, zero, suc, _+_, _*_, _%_, _≤_, _<_}
+use mathlib.Core.Option.{some}
+use Prim.Native.Nat.{ℕ, zero, suc, min, _+_, _*_, _%_, _≤_, _<_}
 use native.Mathlib.Omega.{arith}
 use native.Mathlib.Decide.{decLe}
 use lib.Dec.{T, eqb, ltb, leb}
 use lib.ListN.{length, getD, take, drop, List·getD-eq-default}
+use lib.Seq.{take-all, take-length}
 use borrow.Author.Tests.{eq-eqb, ne-eqb, le-leb, lt-leb, lt-ltb, le-ltb}
 use Rattle.wire.specs.Checks.{_if_, refusal, only}
 use Rattle.wire.specs.Codec.{Codec}
 use Rattle.wire.specs.Fields.{Field, fieldsAt, putFields, Fit, within, clear, apart, both, fieldsAt-stored, putFields-outside}
 use Rattle.wire.specs.Le.{leAt, putLe, leAt-below, leAt-split}
 use Rattle.tables.specs.Limits.{mostSges, mostInline, mostReceiveSges}
-use Rattle.tables.specs.Records.{numberCodec, registerCodec, createQpCodec, modifyQpCodec, sgeCodec, sendCodec, receiveCodec, completionCodec, noSge, flagBits, isInline, inlineLength, inlineBytes, sendChecks, sendRead, sendReadBy, receiveChecks, receiveRead, ackFields, ackLeast}
+use Rattle.tables.specs.Records.{numberCodec, registerCodec, createQpCodec, modifyQpCodec, sgeCodec, sendCodec, receiveCodec, completionCodec, noSge, flagBits, isInline, inlineLength, inlineBytes, sendChecks, sendRead, sendReadBy, receiveChecks, receiveRead, ackFields, ackLeast, dataSize}
 use Rattle.tables.specs.declared.Ack.{Ack}
 use Rattle.tables.specs.declared.Ack.the-variants.{Error, Done, Number, Keys}
 use Rattle.tables.specs.declared.CreateQpRead.{CreateQpRead}
@@ -45,6 +47,13 @@ createQpRead k = cond (eqb (length k) (2 + createQpCodec .size)) (create.Value (
 
 abbrev pub modifyQpRead : List ℕ → ModifyQpRead
 modifyQpRead k = cond (eqb (length k) (2 + modifyQpCodec .size)) (modify.Value (modifyQpCodec .read k 2)) modify.Wrong
+
+-- each command's data length is the size of its codec
+pub data-sizes : (dataSize 2 ≡ some (numberCodec .size)) × (dataSize 3 ≡ some (numberCodec .size)) × (dataSize 5 ≡ some (numberCodec .size))
+    × (dataSize 7 ≡ some (registerCodec .size)) × (dataSize 8 ≡ some (numberCodec .size)) × (dataSize 9 ≡ some (createQpCodec .size))
+    × (dataSize 10 ≡ some (modifyQpCodec .size)) × (dataSize 12 ≡ some (numberCodec .size))
+unfolding dataSize numberCodec registerCodec createQpCodec modifyQpCodec
+data-sizes = (refl, refl, refl, refl, refl, refl, refl, refl)
 
 -- the values of an ack: the ack byte, then its numbers
 abbrev pub ackValues : Ack → List ℕ
@@ -113,6 +122,17 @@ inline-length x =
 pub inline-part : (x : List ℕ) → take (sendCodec .read x 0 .count % 65536) (drop 48 x) ≡ inlineBytes x
 unfolding inlineBytes
 inline-part x = ap (λ n. take n (drop 48 x)) (sym (inline-length x))
+
+-- a part from the start is known by its length
+pub part-is : (y l : List ℕ) (n : ℕ) → length l ≡ n → take (length l) y ≡ l → l ≡ take n y
+part-is y l n e h = sym (rw e at h)
+
+pub take-min : (k : ℕ) (y : List ℕ) → take (min k (length y)) y ≡ take k y
+take-min k y = go (decLe k (length y))
+  where
+    go : Dec (k ≤ length y) → take (min k (length y)) y ≡ take k y
+    go (yes h) = let e : min k (length y) ≡ k = omega arith in rw e
+    go (no h) = let e : min k (length y) ≡ length y = omega arith in rw e (take-length y ∙ sym (take-all k y (omega arith)))
 
 -- the tests after the first, as two
 two : (a b i o l m z : Bool)

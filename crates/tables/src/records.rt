@@ -17,7 +17,7 @@ use crate::limits::MOST_INLINE;
 use crate::limits::MOST_RECEIVE_SGES;
 use crate::limits::MOST_SGES;
 ghost use mathlib.Core.Path.{_≡_};
-ghost use Prim.Native.Nat.{_<_, _≤_, _+_};
+ghost use Prim.Native.Nat.{_<_, _≤_, _+_, _^_};
 ghost use lib.ListN.{length, take, drop};
 ghost use Rattle.wire.specs.Fields.{putFields};
 ghost use Rattle.wire.specs.Rows.{rows};
@@ -116,7 +116,7 @@ pub fn inline_bytes(request: &[u8], n: usize) -> &[u8]
 
 // The scatter/gather entry at an offset; one that the record does not have is nothing.
 fn sge_at(request: &[u8], at: usize) -> Sge
-    requires { ⌜ at < 1000 ⌝ }
+    requires { ⌜ at + 16 < 2 ^ 64 ⌝ }
     ensures { λ r. ⌜ r ≡ sgeAt (now (request .entry)) at ⌝ }
 {
     if request.len() < at + SGE_SIZE {

@@ -1,9 +1,10 @@
 use lib.Seq.{take-all, take-nil, drop-length}
 use native.Mathlib.Omega.{arith}
-use Prim.Native.Nat.{_+_, _-_}
+use Prim.Native.Nat.{_-_}
 use denote.Ref.{now}
-use mathlib.Core.Path.{_≡_, sym, _∙_}
-use lib.ListN.{length, drop, length-drop, drop-of-length-le}
+use Rattle.tables.specs.Reading.{part-is, take-min}
+use mathlib.Core.Path.{sym, _∙_}
+use lib.ListN.{length, drop, length-take, length-drop, drop-of-length-le}
 use borrow.Author.Needs.{needs}
 use Rattle.tables.proofs.records.inline_bytes.Statement.{statement}
 use Rattle.tables.proofs.records.inline_bytes.Tie as tie
@@ -53,8 +54,7 @@ part-result-end-3 c = search needs
 returns-3 : tie.Need-returns-3
 returns-3 c =
     let a = c .before .before .before .args in
-    let e : 48 + a .n - 48 ≡ a .n = omega arith in
-    rw e
+    part-is (drop 48 (now (a .request))) _ (a .n) (simp (length-take, length-drop) (omega arith)) (rw (length-take, take-min))
 
 pub inline-bytes-spec : {M : Type 1} → statement M
 inline-bytes-spec =
