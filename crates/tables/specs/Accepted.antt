@@ -1,5 +1,5 @@
 -- What an accepted state shows of each number, and that this is all the test asks. Assumes nothing.
-use mathlib.Core.Path.{_≡_, refl, sym, ap, _∙_}
+use mathlib.Core.Path.{_≡_}
 use mathlib.Core.Bool.{Bool, true, false, _&&_, _||_}
 use mathlib.Core.List.{List}
 use Prim.Native.Nat.{ℕ, _+_, _≤_, _<_}
@@ -9,11 +9,10 @@ use borrow.Author.Tests.{eq-eqb, ne-eqb, eqb-true, ltb-true, leb-true, lt-ltb, l
 use Rattle.wire.specs.Blocks.{all-each}
 use Rattle.wire.specs.Scan.{all, allBelow, all-at, and-left, and-right, or-true}
 use Rattle.wire.specs.Table.{rowAt}
-use Rattle.tables.specs.Accept.{accepts, cqLive, memoryOk, completionOk, queueOk, receiveOk, regionOk, pairOk, waitingOk, pdOk, cqSound, cqOk, mrSound, mrOk, qpSound, qpOk}
-use Rattle.tables.specs.Card.{Card}
-use Rattle.tables.specs.Image.{card, unread, posted, entriesAt, receivesAt}
-use Rattle.tables.specs.Layout.{image, memoryT, mrLiveT, mrT, cqT, qpT, waitingT}
-use Rattle.tables.specs.Limits.{pdCount, cqCount, mrCount, qpCount, mostPlaces, mostWaiting, mostMemory, mostAddress, mostAccess}
+use Rattle.tables.specs.Accept.{accepts, memoryOk, completionOk, receiveOk, regionOk, pairOk, pdOk, cqSound, cqOk, mrSound, mrOk, qpSound, qpOk}
+use Rattle.tables.specs.Image.{unread, posted}
+use Rattle.tables.specs.Layout.{image, memoryT}
+use Rattle.tables.specs.Limits.{pdCount, cqCount, mrCount, qpCount, mostPlaces, mostWaiting, mostAddress, mostAccess}
 use Rattle.tables.specs.declared.Completion.{Completion}
 use Rattle.tables.specs.declared.QueueHead.{QueueHead}
 use Rattle.tables.specs.declared.QueuePair.{QueuePair}

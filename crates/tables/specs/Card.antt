@@ -1,8 +1,8 @@
 -- The card, document 01, "What the card is": its tables as functions of a number. A number past a table's end, and a slot that is
 -- not live, hold the free object. Assumes nothing.
-use mathlib.Core.Bool.{Bool, true, false}
+use mathlib.Core.Bool.{Bool, false}
 use mathlib.Core.List.{List, [], _∷_}
-use mathlib.Core.Option.{Option, none, some}
+use mathlib.Core.Option.{Option, none}
 use Prim.Native.Nat.{ℕ}
 use Rattle.tables.specs.declared.Completion.{Completion}
 use Rattle.tables.specs.declared.Registration.{Registration}

@@ -1,7 +1,7 @@
 -- What a state means: the card whose objects it lists. Past the end of a table nothing is live, and a row that is not live
 -- means the free object whatever else it holds. Assumes nothing.
 use mathlib.Core.Bool.{Bool, true, false, cond}
-use mathlib.Core.List.{List, [], _∷_, map}
+use mathlib.Core.List.{List, [], map}
 use mathlib.Core.Option.{Option, none, some}
 use Prim.Native.Nat.{ℕ, _+_, _*_}
 use lib.Dec.{eqb, ltb}

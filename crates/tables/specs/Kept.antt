@@ -1,29 +1,21 @@
 -- Every store that a call needs keeps an accepted state accepted, under the condition that its rule tests. Assumes nothing.
-use mathlib.Core.Path.{_≡_, refl, sym, ap, ap₂, _∙_}
-use mathlib.Core.Logic.{_≢_}
-use mathlib.Core.Bool.{Bool, true, false, cond, not, _&&_, _||_, false≢true}
+use mathlib.Core.Path.{_≡_, ap₂, _∙_}
+use mathlib.Core.Bool.{Bool, true}
 use mathlib.Core.List.{List}
-use Prim.Native.Nat.{ℕ, _+_, _*_, _<_, _≤_}
+use Prim.Native.Nat.{ℕ, _+_, _*_, _<_}
 use native.Mathlib.Decide.{ℕ-discrete}
 use native.Mathlib.Omega.{arith}
-use lib.ListN.{length, set}
-use lib.Dec.{T, eqb, ltb, leb}
-use borrow.Author.Tests.{eq-eqb, ne-eqb, eqb-true}
+use lib.ListN.{set}
+use lib.Dec.{T}
+use borrow.Author.Tests.{eq-eqb}
 use Rattle.wire.specs.Ring.{ring-all-set}
-use Rattle.wire.specs.Scan.{all, anyBelow, any-at, or-left, or-right}
-use Rattle.wire.specs.Slots.{upd}
 use Rattle.wire.specs.Table.{Table, rowAt, putRow, finish, elsewhere, table-other, row-stored, row-other, putRow-length}
-use Rattle.tables.specs.Accept.{cqLive, flagOk, completionOk, receiveOk, pdOk, cqSound, cqOk, mrSound, mrOk, qpSound, qpOk}
-use Rattle.tables.specs.Accepted.{Accepted, Queued, queued, queueing, Registered, registered, registering, Paired, paired, pairing}
-use Rattle.tables.specs.Card.{Card, Cq}
-use Rattle.tables.specs.Image.{card, cqOf, noCompletion, noRecord, entriesAt, receivesAt}
-use Rattle.tables.specs.Layout.{image, memoryT, pdT, mrLiveT, mrT, cqT, entryT, qpT, waitingT, receiveT}
-use Rattle.tables.specs.Limits.{pdCount, cqCount, mrCount, qpCount, mostPlaces, mostWaiting}
-use Rattle.tables.specs.Objects.{mr-live, mr-row, qp-live, qp-row}
-use Rattle.tables.specs.Search.{mrNames, qpNames, pdInUse, qpUses, cqInUse}
-use Rattle.tables.specs.Stores.{Fits, pd-kept, cq-kept, entries-kept, receives-kept, entries-put, receives-put, entries-other, receives-other, card-pd, card-cq, card-entry}
-use Rattle.tables.specs.declared.Completion.{Completion}
-use Rattle.tables.specs.declared.QueueHead.{QueueHead}
+use Rattle.tables.specs.Accept.{cqLive, receiveOk, pdOk, cqSound, cqOk, mrSound, mrOk, qpSound, qpOk}
+use Rattle.tables.specs.Accepted.{Accepted, registered, registering, paired, pairing}
+use Rattle.tables.specs.Image.{card, noRecord, receivesAt}
+use Rattle.tables.specs.Layout.{memoryT, pdT, mrLiveT, mrT, cqT, entryT, qpT, waitingT, receiveT}
+use Rattle.tables.specs.Limits.{pdCount, cqCount, mrCount, qpCount, mostWaiting}
+use Rattle.tables.specs.Stores.{Fits, pd-kept, cq-kept, entries-kept, receives-kept, receives-put, receives-other}
 use Rattle.tables.specs.declared.QueuePair.{QueuePair}
 use Rattle.tables.specs.declared.ReceiveRecord.{ReceiveRecord}
 use Rattle.tables.specs.declared.Region.{Region}

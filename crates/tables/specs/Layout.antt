@@ -1,10 +1,10 @@
 -- Where each table stands in the lent state: docs/STATE.md. A field is its offset and its width in bytes. Assumes nothing.
 use mathlib.Core.Path.{refl}
 use Prim.Native.Nat.{ℕ, _+_, _*_}
-use mathlib.Core.List.{List, [], _∷_}
+use mathlib.Core.List.{[], _∷_}
 use lib.ListN.{getD}
-use Rattle.wire.specs.Fields.{Field, field, within, clear, apart}
-use Rattle.wire.specs.Codec.{Codec, structCodec}
+use Rattle.wire.specs.Fields.{field, within, clear, apart}
+use Rattle.wire.specs.Codec.{structCodec}
 use Rattle.wire.specs.Table.{Table}
 use Rattle.tables.specs.Limits.{pdCount, cqCount, mrCount, qpCount, mostPlaces, mostWaiting}
 use Rattle.tables.specs.Records.{completionCodec, receiveCodec}

@@ -8,11 +8,11 @@ use Rattle.wire.specs.Rows.{getD-rows}
 use native.Mathlib.Decide.{decLt}
 use native.Mathlib.Omega.{arith}
 use lib.Dec.{eqb, ltb}
-use borrow.Author.Tests.{eq-eqb, ne-eqb}
+use borrow.Author.Tests.{eq-eqb}
 use Rattle.wire.specs.Slots.{slots, slot-in, slot-out}
 use Rattle.wire.specs.Table.{rowAt}
 use Rattle.tables.specs.Accept.{cqLive}
-use Rattle.tables.specs.Card.{Card, Cq, Mr, Qp, freeMr, freeQp, freeCq, noRegistration}
+use Rattle.tables.specs.Card.{Cq, Mr, Qp, freeMr, freeQp, freeCq, noRegistration}
 use Rattle.tables.specs.Image.{card, pdAt, cqAt, mrAt, qpAt, mrOf, qpOf, cqOf, liveQp, entriesAt, receivesAt, registrationOf, noCompletion, noRecord}
 use Rattle.tables.specs.Layout.{memoryT, pdT, mrLiveT, mrT, cqT, entryT, qpT, waitingT, receiveT}
 use Rattle.tables.specs.Limits.{pdCount, cqCount, mrCount, qpCount, mostPlaces, mostWaiting}

@@ -1,31 +1,17 @@
 -- Completion queues and waiting receives as queues: document 01's struct with its ring, the bytes that one more or one fewer entry
 -- leaves, and what they mean. Assumes nothing.
-use mathlib.Core.Path.{_≡_, refl, sym, ap, ap₂, _∙_}
-use mathlib.Core.Bool.{Bool, true, false, cond}
-use mathlib.Core.List.{List, [], _∷_, _++_, map}
-use Prim.Native.Nat.{ℕ, _+_, _*_, _-_, _%_, _<_, _≤_}
-use native.Mathlib.Nat.{mod-lt}
+use mathlib.Core.Path.{_≡_, sym, _∙_}
+use mathlib.Core.List.{List, [], _∷_, _++_}
+use Prim.Native.Nat.{ℕ, _+_, _*_, _-_, _%_, _<_}
 use native.Mathlib.Omega.{arith}
 use lib.ListN.{length, getD, set}
-use lib.Dec.{eqb, ltb}
-use borrow.Author.Tests.{lt-ltb, eq-eqb}
-use Rattle.wire.specs.Fields.{Fit, fieldsAt, fieldsAt-fit}
-use Rattle.wire.specs.Ring.{ringList, ring-push, ring-pop, ring-all-set, ring-rest}
+use Rattle.wire.specs.Ring.{ringList, ring-push, ring-pop}
 use lib.Seq.{ext-getD}
-use Rattle.wire.specs.Rows.{rows, length-rows, getD-rows}
-use Rattle.wire.specs.Scan.{all, all-append}
-use Rattle.wire.specs.Slots.{upd, upd-twice}
-use Rattle.wire.specs.Table.{rowAt, putRow, finish, elsewhere, table-other, row-stored, putRow-length}
-use Rattle.tables.specs.Accept.{completionOk, receiveOk}
-use Rattle.tables.specs.Accepted.{Accepted, Queued, queued, queueing, Paired, paired, pairing}
-use Rattle.tables.specs.Card.{Card, Cq, Qp, Receive, withCq, withQp, withWaiting, tail}
-use Rattle.tables.specs.Image.{card, cqOf, qpOf, liveQp, receiveOf, unread, posted, noCompletion, noRecord, entriesAt, receivesAt}
-use Rattle.tables.specs.Kept.{waiting-stored, receive-stored}
-use Rattle.tables.specs.KeptNamed.{cq-made, entry-stored}
-use Rattle.tables.specs.Layout.{image, cqT, entryT, qpT, waitingT, receiveT}
-use Rattle.tables.specs.Limits.{cqCount, qpCount, mostPlaces, mostWaiting}
-use Rattle.tables.specs.Objects.{cq-is, qp-is, qp-row}
-use Rattle.tables.specs.Stores.{Fits, card-cq, card-entry, card-waiting, card-receive, entries-kept, entries-put, receives-put, receives-kept}
+use Rattle.wire.specs.Rows.{length-rows, getD-rows}
+use Rattle.wire.specs.Table.{rowAt, putRow, putRow-length}
+use Rattle.tables.specs.Image.{noCompletion, entriesAt}
+use Rattle.tables.specs.Layout.{cqT, entryT, waitingT, receiveT}
+use Rattle.tables.specs.Limits.{mostPlaces, mostWaiting}
 use Rattle.tables.specs.declared.Completion.{Completion}
 use Rattle.tables.specs.declared.CompletionQueue.{CompletionQueue}
 use Rattle.tables.specs.declared.QueueHead.{QueueHead}

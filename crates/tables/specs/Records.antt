@@ -2,7 +2,7 @@
 -- field covers is reserved or padding, and ignored. `Codec .read-stored` is the law that reading what was written gives it back.
 -- Assumes nothing.
 use mathlib.Core.Path.{refl}
-use mathlib.Core.Bool.{Bool, true, false, cond, not, _&&_, _||_}
+use mathlib.Core.Bool.{Bool, cond, not, _&&_}
 use mathlib.Core.Option.{Option, none, some}
 use mathlib.Core.List.{List, [], _∷_}
 use Prim.Native.Nat.{ℕ, _+_, _*_}
@@ -12,7 +12,6 @@ use Rattle.wire.specs.Checks.{Check, _if_, refusal, has, only}
 use Rattle.wire.specs.Codec.{Codec, structCodec}
 use Rattle.wire.specs.Fields.{Field, field, within, clear, apart}
 use Rattle.wire.specs.Le.{leAt}
-use Rattle.wire.specs.Rows.{rows}
 use Rattle.tables.specs.Limits.{mostSges, mostInline, mostReceiveSges}
 use Rattle.tables.specs.declared.Completion.{Completion}
 use Rattle.tables.specs.declared.CreateQp.{CreateQp}

@@ -1,21 +1,21 @@
 -- The state that a reset leaves: every byte 0, then the memory length. It means the fresh card and is accepted. Assumes nothing.
-use mathlib.Core.Path.{_≡_, refl, sym, ap, ap₂, _∙_, fun-ext}
+use mathlib.Core.Path.{_≡_, refl, ap, _∙_, fun-ext}
 use mathlib.Core.Bool.{Bool, true, false, cond}
-use mathlib.Core.List.{List, [], _∷_}
-use Prim.Native.Nat.{ℕ, zero, suc, _+_, _*_, _^_, _<_, _≤_}
+use mathlib.Core.List.{List}
+use Prim.Native.Nat.{ℕ, zero, suc, _+_, _<_, _≤_}
 use native.Mathlib.Omega.{arith}
 use lib.ListN.{length, getD, replicate, length-replicate, getD-replicate, List·getD-eq-default}
 use native.Mathlib.Decide.{decLt}
 use borrow.Author.Tests.{le-leb}
-use lib.Dec.{T, eqb, ltb, leb}
+use lib.Dec.{T, ltb}
 use Rattle.wire.specs.Fields.{Fit, fieldsAt}
 use Rattle.wire.specs.Le.{leAt}
 use Rattle.wire.specs.Slots.{slots, slots-same}
-use Rattle.wire.specs.Table.{Table, rowAt, putRow, place, finish, elsewhere, table-other, row-stored, putRow-length}
-use Rattle.tables.specs.Accept.{accepts, memoryOk, pdOk, cqOk, mrOk, qpOk}
-use Rattle.tables.specs.Accepted.{Accepted, accepting}
-use Rattle.tables.specs.Card.{Card, Cq, Mr, Qp, fresh, freeMr, freeQp, freeCq}
-use Rattle.tables.specs.Image.{card, mrOf, cqOf, qpOf, pdAt, cqAt, mrAt, qpAt, entriesAt, receivesAt}
+use Rattle.wire.specs.Table.{Table, rowAt, putRow, finish, elsewhere, table-other, row-stored, putRow-length}
+use Rattle.tables.specs.Accept.{pdOk, cqOk, mrOk, qpOk}
+use Rattle.tables.specs.Accepted.{Accepted}
+use Rattle.tables.specs.Card.{fresh, freeMr, freeQp, freeCq}
+use Rattle.tables.specs.Image.{card, mrOf, cqOf, qpOf, pdAt, cqAt, mrAt, qpAt}
 use Rattle.tables.specs.Layout.{image, memoryT, pdT, mrLiveT, mrT, cqT, qpT}
 use Rattle.tables.specs.Limits.{pdCount, cqCount, mrCount, qpCount, mostMemory}
 use Rattle.tables.specs.declared.QueueHead.{QueueHead}

@@ -1,16 +1,16 @@
 -- What a store in each table does to the card: the object that the row is part of, and nothing else. Assumes nothing.
-use mathlib.Core.Path.{_≡_, refl, sym, ap, ap₂, _∙_}
+use mathlib.Core.Path.{_≡_, ap, ap₂, _∙_}
 use mathlib.Core.Logic.{_≢_}
-use mathlib.Core.Bool.{Bool, true, false}
+use mathlib.Core.Bool.{false}
 use mathlib.Core.List.{List}
-use Prim.Native.Nat.{ℕ, _+_, _*_, _<_, _≤_}
+use Prim.Native.Nat.{ℕ, _+_, _*_, _<_}
 use native.Mathlib.Omega.{arith}
 use lib.ListN.{length, set}
 use lib.Dec.{T, eqb}
 use Rattle.wire.specs.Rows.{rows, rows-same, rows-set}
-use Rattle.wire.specs.Slots.{slots, slots-same, slots-upd, upd}
-use Rattle.wire.specs.Table.{Table, rowAt, putRow, finish, elsewhere, table-other, row-stored, row-other, putRow-length}
-use Rattle.tables.specs.Card.{Card, Cq, Mr, Qp, withPd, withCq, withMr, withQp, freeMr, freeQp, freeCq}
+use Rattle.wire.specs.Slots.{slots-same, slots-upd, upd}
+use Rattle.wire.specs.Table.{Table, rowAt, putRow, finish, elsewhere, table-other, row-stored, row-other}
+use Rattle.tables.specs.Card.{Cq, Mr, Qp, withPd, withCq, withMr, withQp, freeMr, freeQp, freeCq}
 use Rattle.tables.specs.Image.{card, mrOf, cqOf, qpOf, noCompletion, noRecord, entriesAt, receivesAt, pdAt, mrAt, cqAt, qpAt}
 use Rattle.tables.specs.Layout.{image, memoryT, pdT, mrLiveT, mrT, cqT, entryT, qpT, waitingT, receiveT}
 use Rattle.tables.specs.Limits.{pdCount, cqCount, mrCount, qpCount, mostPlaces, mostWaiting}

@@ -1,18 +1,18 @@
 -- The ways in which each object's test ends, for the code that makes it. Assumes nothing.
-use mathlib.Core.Path.{_≡_, refl, sym, ap, ap₂, _∙_}
-use mathlib.Core.Bool.{Bool, true, false, not, _&&_, _||_}
+use mathlib.Core.Path.{_≡_, refl, _∙_}
+use mathlib.Core.Bool.{Bool, true, false, _&&_}
 use mathlib.Core.List.{List}
 use Prim.Native.Nat.{ℕ, _+_, _*_, _≤_, _<_}
 use native.Mathlib.Nat.{mul-one, add-zero}
 use native.Mathlib.Omega.{arith}
-use lib.Dec.{eqb, ltb, leb}
-use borrow.Author.Tests.{eq-eqb, ne-eqb, le-leb, lt-leb, lt-ltb, le-ltb}
+use lib.Dec.{eqb, leb}
+use borrow.Author.Tests.{eq-eqb, ne-eqb, lt-ltb, le-ltb}
 use Rattle.wire.specs.Blocks.{block-more, zero-word}
 use Rattle.wire.specs.Fields.{fieldsAt}
 use Rattle.wire.specs.Le.{leAt}
 use Rattle.wire.specs.Scan.{all, allBelow, all-at}
 use Rattle.wire.specs.Table.{rowAt, place}
-use Rattle.tables.specs.Accept.{cqLive, cqOk, mrOk, qpOk, completionOk, receiveOk, regionOk, pairOk, waitingOk}
+use Rattle.tables.specs.Accept.{cqLive, cqOk, mrOk, qpOk, completionOk, receiveOk, regionOk, pairOk}
 use Rattle.tables.specs.Image.{card, unread, posted, entriesAt, receivesAt}
 use Rattle.tables.specs.Layout.{memoryT, mrLiveT, mrLiveBase, mrT, cqT, qpT, waitingT}
 use Rattle.tables.specs.Limits.{mostPlaces, mostWaiting}

@@ -1,36 +1,32 @@
 -- What one receive more and one fewer waiting on a queue pair mean: the card, and that the state stays accepted. Assumes nothing.
-use mathlib.Core.Path.{_≡_, refl, sym, ap, ap₂, _∙_}
-use mathlib.Core.Bool.{Bool, true, false, cond}
+use mathlib.Core.Path.{_≡_, ap, _∙_}
+use mathlib.Core.Bool.{true}
 use mathlib.Core.List.{List, [], _∷_, _++_, map, map-append}
 use Prim.Native.Nat.{ℕ, _+_, _*_, _-_, _%_, _<_, _≤_}
 use native.Mathlib.Nat.{mod-lt}
 use native.Mathlib.Omega.{arith}
 use lib.ListN.{length, getD, set}
-use lib.Dec.{eqb, ltb}
-use borrow.Author.Tests.{lt-ltb, eq-eqb}
+use borrow.Author.Tests.{eq-eqb}
 use Rattle.wire.specs.Fields.{Fit, fieldsAt, fieldsAt-fit}
-use Rattle.wire.specs.Ring.{ringList, ring-push, ring-pop, ring-all-set, ring-rest}
-use Rattle.wire.specs.Rows.{rows, length-rows}
+use Rattle.wire.specs.Ring.{ring-push, ring-pop, ring-rest}
+use Rattle.wire.specs.Rows.{length-rows}
 use Rattle.wire.specs.Scan.{all, all-append}
 use Rattle.wire.specs.Slots.{upd, upd-twice}
-use Rattle.wire.specs.Table.{rowAt, putRow, finish, elsewhere, table-other, row-stored, putRow-length}
-use Rattle.tables.specs.Accept.{completionOk, receiveOk}
-use Rattle.tables.specs.Accepted.{Accepted, Queued, queued, queueing, Paired, paired, pairing}
-use Rattle.tables.specs.Card.{Card, Qp, Receive, noReceive, withQp, withWaiting, tail}
-use Rattle.tables.specs.Image.{card, cqOf, qpOf, liveQp, receiveOf, unread, posted, noCompletion, noRecord, entriesAt, receivesAt}
+use Rattle.wire.specs.Table.{rowAt, putRow, finish, elsewhere, table-other, putRow-length}
+use Rattle.tables.specs.Accept.{receiveOk}
+use Rattle.tables.specs.Accepted.{Accepted, Paired, paired, pairing}
+use Rattle.tables.specs.Card.{noReceive, withQp, withWaiting, tail}
+use Rattle.tables.specs.Image.{card, qpOf, receiveOf, posted, noRecord, receivesAt}
 use Rattle.tables.specs.Kept.{waiting-stored, receive-stored}
-use Rattle.tables.specs.KeptNamed.{cq-made, entry-stored}
 use Rattle.tables.specs.Layout.{image, pdT, cqT, entryT, qpT, waitingT, receiveT}
-use Rattle.tables.specs.Limits.{cqCount, qpCount, mostPlaces, mostWaiting}
+use Rattle.tables.specs.Limits.{qpCount, mostWaiting}
 use Rattle.tables.specs.Objects.{qp-row, receive-at}
-use Rattle.tables.specs.Stores.{Fits, card-cq, card-entry, card-waiting, card-receive, entries-kept, entries-put, receives-put, receives-kept, pd-kept, cq-kept}
-use Rattle.tables.specs.declared.Completion.{Completion}
-use Rattle.tables.specs.declared.CompletionQueue.{CompletionQueue}
+use Rattle.tables.specs.Stores.{Fits, card-waiting, card-receive, receives-put, pd-kept, cq-kept}
 use Rattle.tables.specs.declared.QueuePair.{QueuePair}
 use Rattle.tables.specs.declared.ReceiveRecord.{ReceiveRecord}
 use Rattle.tables.specs.declared.WaitingHead.{WaitingHead}
 use Rattle.tables.specs.Accept.{cqLive, qpOk, qpSound}
-use Rattle.tables.specs.Queue.{queueAt, pushed, oldest, popped, pushPlace, longer, shorter, pushBytes, popBytes, postPlace, grown, shrunk, postBytes, takeBytes}
+use Rattle.tables.specs.Queue.{postPlace, grown, shrunk, postBytes, takeBytes}
 
 pub waiting-fits : (l : List ℕ) (n : ℕ) → Fits waitingT (rowAt waitingT l n)
 unfolding rowAt waitingT fieldsAt

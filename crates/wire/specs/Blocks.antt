@@ -1,14 +1,13 @@
 -- A test over all rows, made block by block; a zero word has zero bytes. Assumes nothing.
-use mathlib.Core.Path.{_≡_, refl, sym, ap, _∙_}
-use mathlib.Core.Bool.{Bool, true, false, _&&_}
+use mathlib.Core.Path.{_≡_, refl, sym, _∙_}
+use mathlib.Core.Bool.{Bool, true, false}
 use mathlib.Core.Logic.{⊎-elim, _⊎_, inl, inr}
-use Prim.Native.Nat.{ℕ, zero, suc, _+_, _-_, _*_, _%_, _≤_, _<_}
-use native.Mathlib.Decide.{ℕ-discrete, decLe}
+use Prim.Native.Nat.{ℕ, zero, suc, _+_, _-_, _≤_, _<_}
+use native.Mathlib.Decide.{decLe}
 use native.Mathlib.Omega.{arith}
 use mathlib.Core.List.{List}
-use lib.ListN.{getD}
 use Rattle.wire.specs.Le.{leAt}
-use Rattle.wire.specs.Scan.{allBelow, all-more, all-none, all-at}
+use Rattle.wire.specs.Scan.{allBelow, all-at}
 
 -- all pass where each one does
 pub all-each : (n : ℕ) (p : ℕ → Bool) → ((k : ℕ) → k < n → p k ≡ true) → allBelow n p ≡ true

@@ -5,7 +5,7 @@ use Prim.Native.Nat.{ℕ, _+_, _≤_, _<_}
 use mathlib.Core.List.{List}
 use lib.ListN.{length, getD}
 use lib.Dec.{T}
-use Rattle.wire.specs.Fields.{Field, fieldsAt, putFields, Fit, within, apart, putFields-length, putFields-outside, fieldsAt-same, fieldsAt-stored, fieldsAt-fit}
+use Rattle.wire.specs.Fields.{Field, fieldsAt, putFields, Fit, within, apart, putFields-length, putFields-outside, fieldsAt-same, fieldsAt-stored}
 
 pub record Codec (A : Type 0) : Type 1 where
   pub size : ℕ

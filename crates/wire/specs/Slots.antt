@@ -1,11 +1,10 @@
 -- Tables as functions of a number: `count` slots of a function, and d past them. Assumes nothing.
-use mathlib.Core.Path.{_≡_, refl, sym, ap, subst, _∙_, fun-ext}
+use mathlib.Core.Path.{_≡_, refl, sym, subst, fun-ext}
 use mathlib.Core.Logic.{_≢_}
 use mathlib.Core.Bool.{Bool, true, false, cond}
 use Prim.Native.Nat.{ℕ, _<_, _≤_}
 use lib.Dec.{ltb, eqb}
 use borrow.Author.Tests.{lt-ltb, le-ltb, eq-eqb, ltb-true, eqb-true, eqb-false}
-use native.Mathlib.Omega.{arith}
 
 -- the table f with v at i
 abbrev pub upd : {A : Type 0} → (ℕ → A) → ℕ → A → ℕ → A

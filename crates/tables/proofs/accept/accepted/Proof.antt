@@ -6,13 +6,6 @@ use Rattle.tables.specs.Layout.{image}
 use borrow.Author.Needs.{needs}
 use Rattle.tables.proofs.accept.accepted.Statement.{statement}
 use Rattle.tables.proofs.accept.accepted.Tie as tie
-use Rattle.tables.proofs.accept.accepted.Reads as reads
-use Rattle.tables.proofs.accept.accepted.Lts as lts
-use Rattle.tables.proofs.accept.cqs_ok.Reads as cqs-ok-reads
-use Rattle.tables.proofs.accept.mrs_ok.Reads as mrs-ok-reads
-use Rattle.tables.proofs.accept.pds_ok.Reads as pds-ok-reads
-use Rattle.tables.proofs.accept.qps_ok.Reads as qps-ok-reads
-use Rattle.tables.proofs.image.load_memory.Reads as load-memory-reads
 
 returns : tie.Need-returns
 unfolding accepts

@@ -2,9 +2,6 @@ use Rattle.tables.specs.Objects.{cq-live, cq-out}
 use borrow.Author.Needs.{needs}
 use Rattle.tables.proofs.accept.cq_live.Statement.{statement}
 use Rattle.tables.proofs.accept.cq_live.Tie as tie
-use Rattle.tables.proofs.accept.cq_live.Reads as reads
-use Rattle.tables.proofs.accept.cq_live.Lts as lts
-use Rattle.tables.proofs.image.load_cq.Reads as load-cq-reads
 
 load-cq-requires : tie.Need-load-cq-requires
 load-cq-requires c κs = search needs

@@ -1,6 +1,6 @@
 use denote.Ref.{now}
 use Prim.Native.Nat.{_≤_, _<_}
-use mathlib.Core.Path.{_≡_, sym, ap, _∙_}
+use mathlib.Core.Path.{_≡_, sym}
 use Rattle.wire.specs.Table.{rowAt}
 use Rattle.tables.specs.Layout.{cqT}
 use Rattle.tables.specs.Limits.{mostPlaces}
@@ -8,10 +8,6 @@ use Rattle.tables.specs.Tests.{cq-free, cq-first, cq-rest}
 use borrow.Author.Needs.{needs}
 use Rattle.tables.proofs.accept.cq_ok.Statement.{statement}
 use Rattle.tables.proofs.accept.cq_ok.Tie as tie
-use Rattle.tables.proofs.accept.cq_ok.Reads as reads
-use Rattle.tables.proofs.accept.cq_ok.Lts as lts
-use Rattle.tables.proofs.accept.entries_ok.Reads as entries-ok-reads
-use Rattle.tables.proofs.image.load_cq.Reads as load-cq-reads
 
 load-cq-requires : tie.Need-load-cq-requires
 load-cq-requires c κs = search needs

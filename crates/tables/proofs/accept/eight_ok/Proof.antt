@@ -1,17 +1,14 @@
 use borrow.Author.Needs.{needs}
 use denote.Ref.{now}
-use Prim.Native.Nat.{ℕ, _≤_, _<_, _-_, _+_, _*_, _%_}
-use mathlib.Core.Path.{_≡_, refl, sym, ap, _∙_}
+use Prim.Native.Nat.{ℕ, _≤_, _-_, _+_, _*_}
+use mathlib.Core.Path.{_≡_, sym, _∙_}
 use mathlib.Core.Bool.{Bool, true, false}
 use native.Mathlib.Omega.{arith}
 use borrow.Author.Tests.{not-true, not-false}
-use Rattle.wire.specs.Scan.{allBelow, all, all-none, all-more, all-fails}
+use Rattle.wire.specs.Scan.{allBelow, all-none, all-more, all-fails}
 use Rattle.tables.specs.Accept.{mrOk}
 use Rattle.tables.proofs.accept.eight_ok.Statement.{statement}
 use Rattle.tables.proofs.accept.eight_ok.Tie as tie
-use Rattle.tables.proofs.accept.eight_ok.Reads as reads
-use Rattle.tables.proofs.accept.eight_ok.Lts as lts
-use Rattle.tables.proofs.accept.mr_ok.Reads as mr-ok-reads
 
 abbrev Inv-loop : tie.InvT-loop
 Inv-loop img memory g i₀ i = (i ≤ 8) × (allBelow i (λ k. mrOk img (8 * g + k)) ≡ true)

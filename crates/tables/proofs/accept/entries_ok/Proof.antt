@@ -4,23 +4,19 @@ use lib.ListN.{getD}
 use native.Mathlib.Nat.{mod-lt}
 use borrow.Author.Needs.{needs}
 use denote.Ref.{now}
-use Prim.Native.Nat.{ℕ, _≤_, _<_, _-_, _+_, _*_, _%_}
+use Prim.Native.Nat.{_<_, _-_, _+_}
 use mathlib.Core.Path.{_≡_, refl, sym, ap, _∙_}
-use mathlib.Core.Bool.{Bool, true, false}
+use mathlib.Core.Bool.{true, false}
 use native.Mathlib.Omega.{arith}
 use borrow.Author.Tests.{not-true, not-false}
-use Rattle.wire.specs.Scan.{allBelow, all, all-none, all-more, all-fails}
+use Rattle.wire.specs.Scan.{all}
 use Rattle.wire.specs.Ring.{ringList, ring-passed, ring-fails, ring-goes}
-use Rattle.tables.specs.Limits.{mostPlaces, mostWaiting}
+use Rattle.tables.specs.Limits.{mostPlaces}
 use Rattle.tables.specs.Accept.{completionOk}
 use Rattle.tables.specs.Image.{entriesAt, noCompletion}
 use Rattle.tables.specs.Objects.{entry-at}
 use Rattle.tables.proofs.accept.entries_ok.Statement.{statement}
 use Rattle.tables.proofs.accept.entries_ok.Tie as tie
-use Rattle.tables.proofs.accept.entries_ok.Reads as reads
-use Rattle.tables.proofs.accept.entries_ok.Lts as lts
-use Rattle.tables.proofs.accept.completion_ok.Reads as completion-ok-reads
-use Rattle.tables.proofs.image.load_entry.Reads as load-entry-reads
 
 abbrev Inv-loop : tie.InvT-loop
 Inv-loop img n at₀ left₀ at left = (at < mostPlaces) × (all completionOk (ringList noCompletion mostPlaces (entriesAt img n) at left) ≡ all completionOk (ringList noCompletion mostPlaces (entriesAt img n) at₀ left₀))

@@ -1,4 +1,4 @@
-use mathlib.Core.Path.{sym, _∙_, _≡_}
+use mathlib.Core.Path.{sym, _≡_}
 use denote.Ref.{now}
 use Rattle.wire.specs.Table.{rowAt}
 use Rattle.tables.specs.Layout.{mrLiveT}
@@ -6,12 +6,6 @@ use Rattle.tables.specs.Tests.{mr-free, mr-rest}
 use borrow.Author.Needs.{needs}
 use Rattle.tables.proofs.accept.mr_ok.Statement.{statement}
 use Rattle.tables.proofs.accept.mr_ok.Tie as tie
-use Rattle.tables.proofs.accept.mr_ok.Reads as reads
-use Rattle.tables.proofs.accept.mr_ok.Lts as lts
-use Rattle.tables.proofs.accept.pd_live.Reads as pd-live-reads
-use Rattle.tables.proofs.accept.region_ok.Reads as region-ok-reads
-use Rattle.tables.proofs.image.load_mr.Reads as load-mr-reads
-use Rattle.tables.proofs.image.load_mr_live.Reads as load-mr-live-reads
 
 load-mr-live-requires : tie.Need-load-mr-live-requires
 load-mr-live-requires c κs = search needs

@@ -1,10 +1,10 @@
 use borrow.Author.Needs.{needs}
 use denote.Ref.{now}
-use Prim.Native.Nat.{ℕ, _≤_, _<_, _-_, _+_, _*_, _%_}
-use mathlib.Core.Path.{_≡_, refl, sym, ap, _∙_}
-use mathlib.Core.Bool.{Bool, true, false}
+use Prim.Native.Nat.{_≤_, _-_, _+_, _*_}
+use mathlib.Core.Path.{_≡_, sym, _∙_}
+use mathlib.Core.Bool.{true, false}
 use native.Mathlib.Omega.{arith}
-use Rattle.wire.specs.Scan.{allBelow, all, all-none, all-more, all-fails}
+use Rattle.wire.specs.Scan.{allBelow, all-none}
 use mathlib.Core.Logic.{⊎-elim}
 use borrow.Author.Tests.{not-true, not-false}
 use Rattle.wire.specs.Blocks.{block-fails}
@@ -13,10 +13,6 @@ use Rattle.tables.specs.Limits.{mrCount}
 use Rattle.tables.specs.Tests.{eight-free, eight-tested}
 use Rattle.tables.proofs.accept.mrs_ok.Statement.{statement}
 use Rattle.tables.proofs.accept.mrs_ok.Tie as tie
-use Rattle.tables.proofs.accept.mrs_ok.Reads as reads
-use Rattle.tables.proofs.accept.mrs_ok.Lts as lts
-use Rattle.tables.proofs.accept.eight_ok.Reads as eight-ok-reads
-use Rattle.wire.proofs.get64.Reads as get64-reads
 
 abbrev Inv-loop : tie.InvT-loop
 Inv-loop img memory g₀ g = (g ≤ 4) × (allBelow (8 * g) (mrOk img) ≡ true)

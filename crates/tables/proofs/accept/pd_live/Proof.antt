@@ -2,9 +2,6 @@ use Rattle.tables.specs.Objects.{pd-is, pd-out}
 use borrow.Author.Needs.{needs}
 use Rattle.tables.proofs.accept.pd_live.Statement.{statement}
 use Rattle.tables.proofs.accept.pd_live.Tie as tie
-use Rattle.tables.proofs.accept.pd_live.Reads as reads
-use Rattle.tables.proofs.accept.pd_live.Lts as lts
-use Rattle.tables.proofs.image.load_pd.Reads as load-pd-reads
 
 load-pd-requires : tie.Need-load-pd-requires
 load-pd-requires c κs = search needs

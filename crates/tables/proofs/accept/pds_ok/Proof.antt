@@ -1,19 +1,16 @@
 use lib.Dec.{leb}
 use borrow.Author.Needs.{needs}
 use denote.Ref.{now}
-use Prim.Native.Nat.{ℕ, _≤_, _<_, _-_, _+_, _*_, _%_}
-use mathlib.Core.Path.{_≡_, refl, sym, ap, _∙_}
+use Prim.Native.Nat.{ℕ, _≤_, _-_}
+use mathlib.Core.Path.{_≡_, sym, ap, _∙_}
 use mathlib.Core.Bool.{Bool, true, false}
 use native.Mathlib.Omega.{arith}
 use borrow.Author.Tests.{lt-leb, le-leb}
-use Rattle.wire.specs.Scan.{allBelow, all, all-none, all-more, all-fails}
+use Rattle.wire.specs.Scan.{allBelow, all-none, all-more, all-fails}
 use Rattle.tables.specs.Accept.{pdOk}
 use Rattle.tables.specs.Limits.{pdCount}
 use Rattle.tables.proofs.accept.pds_ok.Statement.{statement}
 use Rattle.tables.proofs.accept.pds_ok.Tie as tie
-use Rattle.tables.proofs.accept.pds_ok.Reads as reads
-use Rattle.tables.proofs.accept.pds_ok.Lts as lts
-use Rattle.tables.proofs.image.load_pd.Reads as load-pd-reads
 
 abbrev Inv-loop : tie.InvT-loop
 Inv-loop img n₀ n = (n ≤ pdCount) × (allBelow n (pdOk img) ≡ true)

@@ -1,6 +1,6 @@
 use denote.Ref.{now}
 use Prim.Native.Nat.{_≤_, _<_}
-use mathlib.Core.Path.{_≡_, sym, ap, _∙_}
+use mathlib.Core.Path.{_≡_, sym}
 use Rattle.wire.specs.Table.{rowAt}
 use Rattle.tables.specs.Layout.{qpT, waitingT}
 use Rattle.tables.specs.Limits.{mostWaiting}
@@ -8,14 +8,6 @@ use Rattle.tables.specs.Tests.{qp-free, qp-first, qp-rest}
 use borrow.Author.Needs.{needs}
 use Rattle.tables.proofs.accept.qp_ok.Statement.{statement}
 use Rattle.tables.proofs.accept.qp_ok.Tie as tie
-use Rattle.tables.proofs.accept.qp_ok.Reads as reads
-use Rattle.tables.proofs.accept.qp_ok.Lts as lts
-use Rattle.tables.proofs.accept.cq_live.Reads as cq-live-reads
-use Rattle.tables.proofs.accept.pair_ok.Reads as pair-ok-reads
-use Rattle.tables.proofs.accept.pd_live.Reads as pd-live-reads
-use Rattle.tables.proofs.accept.receives_ok.Reads as receives-ok-reads
-use Rattle.tables.proofs.image.load_qp.Reads as load-qp-reads
-use Rattle.tables.proofs.image.load_waiting.Reads as load-waiting-reads
 
 load-qp-requires : tie.Need-load-qp-requires
 load-qp-requires c κs = search needs

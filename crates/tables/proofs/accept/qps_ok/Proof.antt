@@ -1,18 +1,15 @@
 use borrow.Author.Needs.{needs}
 use denote.Ref.{now}
-use Prim.Native.Nat.{ℕ, _≤_, _<_, _-_, _+_, _*_, _%_}
-use mathlib.Core.Path.{_≡_, refl, sym, ap, _∙_}
+use Prim.Native.Nat.{ℕ, _≤_, _-_}
+use mathlib.Core.Path.{_≡_, sym, _∙_}
 use mathlib.Core.Bool.{Bool, true, false}
 use native.Mathlib.Omega.{arith}
-use Rattle.wire.specs.Scan.{allBelow, all, all-none, all-more, all-fails}
+use Rattle.wire.specs.Scan.{allBelow, all-none, all-more, all-fails}
 use borrow.Author.Tests.{not-true, not-false}
 use Rattle.tables.specs.Accept.{qpOk}
 use Rattle.tables.specs.Limits.{qpCount}
 use Rattle.tables.proofs.accept.qps_ok.Statement.{statement}
 use Rattle.tables.proofs.accept.qps_ok.Tie as tie
-use Rattle.tables.proofs.accept.qps_ok.Reads as reads
-use Rattle.tables.proofs.accept.qps_ok.Lts as lts
-use Rattle.tables.proofs.accept.qp_ok.Reads as qp-ok-reads
 
 abbrev Inv-loop : tie.InvT-loop
 Inv-loop img n₀ n = (n ≤ qpCount) × (allBelow n (qpOk img) ≡ true)

@@ -5,22 +5,18 @@ use native.Mathlib.Nat.{mod-lt}
 use borrow.Author.Tests.{lt-leb, le-leb}
 use borrow.Author.Needs.{needs}
 use denote.Ref.{now}
-use Prim.Native.Nat.{ℕ, _≤_, _<_, _-_, _+_, _*_, _%_}
+use Prim.Native.Nat.{_<_, _-_, _+_}
 use mathlib.Core.Path.{_≡_, refl, sym, ap, _∙_}
-use mathlib.Core.Bool.{Bool, true, false}
+use mathlib.Core.Bool.{true, false}
 use native.Mathlib.Omega.{arith}
-use borrow.Author.Tests.{not-true, not-false}
-use Rattle.wire.specs.Scan.{allBelow, all, all-none, all-more, all-fails}
+use Rattle.wire.specs.Scan.{all}
 use Rattle.wire.specs.Ring.{ringList, ring-passed, ring-fails, ring-goes}
-use Rattle.tables.specs.Limits.{mostPlaces, mostWaiting}
+use Rattle.tables.specs.Limits.{mostWaiting}
 use Rattle.tables.specs.Accept.{receiveOk}
 use Rattle.tables.specs.Image.{receivesAt, noRecord}
 use Rattle.tables.specs.Objects.{receive-at}
 use Rattle.tables.proofs.accept.receives_ok.Statement.{statement}
 use Rattle.tables.proofs.accept.receives_ok.Tie as tie
-use Rattle.tables.proofs.accept.receives_ok.Reads as reads
-use Rattle.tables.proofs.accept.receives_ok.Lts as lts
-use Rattle.tables.proofs.image.load_receive.Reads as load-receive-reads
 
 abbrev Inv-loop : tie.InvT-loop
 Inv-loop img n at₀ left₀ at left = (at < mostWaiting) × (all receiveOk (ringList noRecord mostWaiting (receivesAt img n) at left) ≡ all receiveOk (ringList noRecord mostWaiting (receivesAt img n) at₀ left₀))

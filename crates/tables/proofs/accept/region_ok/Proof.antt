@@ -1,9 +1,6 @@
 use borrow.Author.Needs.{needs}
 use Rattle.tables.proofs.accept.region_ok.Statement.{statement}
 use Rattle.tables.proofs.accept.region_ok.Tie as tie
-use Rattle.tables.proofs.accept.region_ok.Reads as reads
-use Rattle.tables.proofs.accept.region_ok.Lts as lts
-use Rattle.tables.proofs.accept.sum_within.Reads as sum-within-reads
 
 sum-within-requires : tie.Need-sum-within-requires
 sum-within-requires c κs = search needs

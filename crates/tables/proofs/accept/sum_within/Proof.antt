@@ -5,8 +5,6 @@ use native.Mathlib.Omega.{arith}
 use Rattle.wire.specs.Scan.{leb-same}
 use Rattle.tables.proofs.accept.sum_within.Statement.{statement}
 use Rattle.tables.proofs.accept.sum_within.Tie as tie
-use Rattle.tables.proofs.accept.sum_within.Reads as reads
-use Rattle.tables.proofs.accept.sum_within.Lts as lts
 
 returns : tie.Need-returns
 returns c =

@@ -1,7 +1,6 @@
 use borrow.Author.Needs.{needs}
-use denote.Ref.{now}
-use Prim.Native.Nat.{ℕ, _≤_, _<_, _-_, _+_}
-use mathlib.Core.Path.{_≡_, refl, sym, ap, _∙_}
+use Prim.Native.Nat.{_≤_, _<_, _-_}
+use mathlib.Core.Path.{_≡_, sym}
 use native.Mathlib.Omega.{arith}
 use Rattle.tables.specs.Image.{card}
 use Rattle.wire.specs.Scan.{anyBelow, any-none, any-more}
@@ -10,9 +9,6 @@ use Rattle.tables.specs.Objects.{qp-uses}
 use Rattle.tables.specs.Search.{qpUses}
 use Rattle.tables.proofs.find.cq_in_use.Statement.{statement}
 use Rattle.tables.proofs.find.cq_in_use.Tie as tie
-use Rattle.tables.proofs.find.cq_in_use.Reads as reads
-use Rattle.tables.proofs.find.cq_in_use.Lts as lts
-use Rattle.tables.proofs.image.load_qp.Reads as load-qp-reads
 
 abbrev Inv-loop : tie.InvT-loop
 Inv-loop img cq used₀ n₀ used n = (n ≤ qpCount) × (used ≡ anyBelow n (qpUses (card img) cq))

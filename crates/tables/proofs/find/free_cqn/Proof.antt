@@ -1,11 +1,10 @@
 use borrow.Author.Needs.{needs}
 use denote.Ref.{now}
-use Prim.Native.Nat.{ℕ, _≤_, _<_, _-_, _+_}
-use mathlib.Core.Path.{_≡_, refl, sym, ap, _∙_}
+use Prim.Native.Nat.{_≤_, _-_}
+use mathlib.Core.Path.{_≡_, sym, ap, _∙_}
 use native.Mathlib.Omega.{arith}
 use Rattle.tables.specs.Image.{card}
-use mathlib.Core.Bool.{Bool, true, false, not}
-use lib.Dec.{eqb, ltb}
+use mathlib.Core.Bool.{not}
 use Rattle.wire.specs.Scan.{lowest, lowestFrom, lowest-start, lowest-none, lowest-here, lowest-later}
 use Rattle.wire.specs.Table.{rowAt}
 use borrow.Author.Tests.{le-ltb, lt-ltb}
@@ -15,9 +14,6 @@ use Rattle.tables.specs.Objects.{cq-free}
 use Rattle.tables.specs.Accept.{cqLive}
 use Rattle.tables.proofs.find.free_cqn.Statement.{statement}
 use Rattle.tables.proofs.find.free_cqn.Tie as tie
-use Rattle.tables.proofs.find.free_cqn.Reads as reads
-use Rattle.tables.proofs.find.free_cqn.Lts as lts
-use Rattle.tables.proofs.image.load_cq.Reads as load-cq-reads
 
 abbrev Inv-loop : tie.InvT-loop
 Inv-loop img n₀ n = (n ≤ cqCount) × (lowest cqCount (λ i. not (cqLive (card img) i)) ≡ lowestFrom (λ i. not (cqLive (card img) i)) (cqCount - n) n)

@@ -1,11 +1,9 @@
 use borrow.Author.Needs.{needs}
 use denote.Ref.{now}
-use Prim.Native.Nat.{ℕ, _≤_, _<_, _-_, _+_}
-use mathlib.Core.Path.{_≡_, refl, sym, ap, _∙_}
-use native.Mathlib.Omega.{arith}
+use Prim.Native.Nat.{_≤_, _-_}
+use mathlib.Core.Path.{_≡_, sym, ap, _∙_}
 use Rattle.tables.specs.Image.{card}
-use mathlib.Core.Bool.{Bool, true, false, not}
-use lib.Dec.{eqb, ltb}
+use mathlib.Core.Bool.{not}
 use Rattle.wire.specs.Scan.{lowest, lowestFrom, lowest-start, lowest-none, lowest-here, lowest-later}
 use Rattle.wire.specs.Table.{rowAt}
 use borrow.Author.Tests.{eq-eqb, ne-eqb}
@@ -14,9 +12,6 @@ use Rattle.tables.specs.Limits.{mrCount}
 use Rattle.tables.specs.Objects.{mr-free}
 use Rattle.tables.proofs.find.free_mrn.Statement.{statement}
 use Rattle.tables.proofs.find.free_mrn.Tie as tie
-use Rattle.tables.proofs.find.free_mrn.Reads as reads
-use Rattle.tables.proofs.find.free_mrn.Lts as lts
-use Rattle.tables.proofs.image.load_mr_live.Reads as load-mr-live-reads
 
 abbrev Inv-loop : tie.InvT-loop
 Inv-loop img n₀ n = (n ≤ mrCount) × (lowest mrCount (λ i. not (card img .mr i .live)) ≡ lowestFrom (λ i. not (card img .mr i .live)) (mrCount - n) n)

@@ -1,7 +1,6 @@
 use borrow.Author.Needs.{needs}
-use denote.Ref.{now}
-use Prim.Native.Nat.{ℕ, _≤_, _<_, _-_, _+_}
-use mathlib.Core.Path.{_≡_, refl, sym, ap, _∙_}
+use Prim.Native.Nat.{_≤_, _<_, _-_}
+use mathlib.Core.Path.{_≡_, sym}
 use native.Mathlib.Omega.{arith}
 use Rattle.tables.specs.Image.{card}
 use Rattle.wire.specs.Scan.{anyBelow, any-none, any-more}
@@ -10,10 +9,6 @@ use Rattle.tables.specs.Objects.{mr-names}
 use Rattle.tables.specs.Search.{mrNames}
 use Rattle.tables.proofs.find.named_by_mr.Statement.{statement}
 use Rattle.tables.proofs.find.named_by_mr.Tie as tie
-use Rattle.tables.proofs.find.named_by_mr.Reads as reads
-use Rattle.tables.proofs.find.named_by_mr.Lts as lts
-use Rattle.tables.proofs.image.load_mr.Reads as load-mr-reads
-use Rattle.tables.proofs.image.load_mr_live.Reads as load-mr-live-reads
 
 abbrev Inv-loop : tie.InvT-loop
 Inv-loop img pd used₀ n₀ used n = (n ≤ mrCount) × (used ≡ anyBelow n (mrNames (card img) pd))

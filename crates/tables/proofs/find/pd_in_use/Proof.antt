@@ -1,10 +1,6 @@
 use borrow.Author.Needs.{needs}
 use Rattle.tables.proofs.find.pd_in_use.Statement.{statement}
 use Rattle.tables.proofs.find.pd_in_use.Tie as tie
-use Rattle.tables.proofs.find.pd_in_use.Reads as reads
-use Rattle.tables.proofs.find.pd_in_use.Lts as lts
-use Rattle.tables.proofs.find.named_by_mr.Reads as named-by-mr-reads
-use Rattle.tables.proofs.find.named_by_qp.Reads as named-by-qp-reads
 
 named-by-mr-requires : tie.Need-named-by-mr-requires
 named-by-mr-requires c κs = search needs

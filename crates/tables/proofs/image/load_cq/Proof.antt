@@ -5,9 +5,6 @@ use Rattle.wire.specs.Table.{rowAt, place}
 use Rattle.wire.specs.Fields.{fieldsAt}
 use Rattle.tables.proofs.image.load_cq.Statement.{statement}
 use Rattle.tables.proofs.image.load_cq.Tie as tie
-use Rattle.tables.proofs.image.load_cq.Reads as reads
-use Rattle.tables.proofs.image.load_cq.Lts as lts
-use Rattle.wire.proofs.get8.Reads as get8-reads
 
 mul-at : tie.Need-mul-at
 mul-at c = search needs

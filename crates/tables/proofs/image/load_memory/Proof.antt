@@ -5,9 +5,6 @@ use Rattle.wire.specs.Table.{rowAt, place}
 use Rattle.wire.specs.Fields.{fieldsAt}
 use Rattle.tables.proofs.image.load_memory.Statement.{statement}
 use Rattle.tables.proofs.image.load_memory.Tie as tie
-use Rattle.tables.proofs.image.load_memory.Reads as reads
-use Rattle.tables.proofs.image.load_memory.Lts as lts
-use Rattle.wire.proofs.get64.Reads as get64-reads
 
 get64-requires : tie.Need-get64-requires
 get64-requires c κs = search needs

@@ -5,10 +5,6 @@ use Rattle.wire.specs.Table.{rowAt, place}
 use Rattle.wire.specs.Fields.{fieldsAt}
 use Rattle.tables.proofs.image.load_mr.Statement.{statement}
 use Rattle.tables.proofs.image.load_mr.Tie as tie
-use Rattle.tables.proofs.image.load_mr.Reads as reads
-use Rattle.tables.proofs.image.load_mr.Lts as lts
-use Rattle.wire.proofs.get8.Reads as get8-reads
-use Rattle.wire.proofs.get64.Reads as get64-reads
 
 mul-at : tie.Need-mul-at
 mul-at c = search needs

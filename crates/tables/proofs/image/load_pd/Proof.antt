@@ -5,9 +5,6 @@ use Rattle.wire.specs.Table.{rowAt, place}
 use Rattle.wire.specs.Fields.{fieldsAt}
 use Rattle.tables.proofs.image.load_pd.Statement.{statement}
 use Rattle.tables.proofs.image.load_pd.Tie as tie
-use Rattle.tables.proofs.image.load_pd.Reads as reads
-use Rattle.tables.proofs.image.load_pd.Lts as lts
-use Rattle.wire.proofs.get8.Reads as get8-reads
 
 add-at : tie.Need-add-at
 add-at c = search needs

@@ -5,10 +5,6 @@ use Rattle.wire.specs.Table.{rowAt, place}
 use Rattle.wire.specs.Fields.{fieldsAt}
 use Rattle.tables.proofs.image.load_receive.Statement.{statement}
 use Rattle.tables.proofs.image.load_receive.Tie as tie
-use Rattle.tables.proofs.image.load_receive.Reads as reads
-use Rattle.tables.proofs.image.load_receive.Lts as lts
-use Rattle.wire.proofs.get32.Reads as get32-reads
-use Rattle.wire.proofs.get64.Reads as get64-reads
 
 mul-at : tie.Need-mul-at
 mul-at c = search needs

@@ -5,9 +5,6 @@ use Rattle.wire.specs.Table.{rowAt, place}
 use Rattle.wire.specs.Fields.{fieldsAt}
 use Rattle.tables.proofs.image.load_waiting.Statement.{statement}
 use Rattle.tables.proofs.image.load_waiting.Tie as tie
-use Rattle.tables.proofs.image.load_waiting.Reads as reads
-use Rattle.tables.proofs.image.load_waiting.Lts as lts
-use Rattle.wire.proofs.get8.Reads as get8-reads
 
 mul-at : tie.Need-mul-at
 mul-at c = search needs

@@ -5,9 +5,6 @@ use Rattle.wire.specs.Table.{putRow, place}
 use Rattle.wire.specs.Fields.{putFields}
 use Rattle.tables.proofs.image.store_cq.Statement.{statement}
 use Rattle.tables.proofs.image.store_cq.Tie as tie
-use Rattle.tables.proofs.image.store_cq.Reads as reads
-use Rattle.tables.proofs.image.store_cq.Lts as lts
-use Rattle.wire.proofs.put8.Reads as put8-reads
 
 mul-at : tie.Need-mul-at
 mul-at c = search needs

@@ -5,12 +5,6 @@ use Rattle.wire.specs.Table.{putRow, place}
 use Rattle.wire.specs.Fields.{putFields}
 use Rattle.tables.proofs.image.store_entry.Statement.{statement}
 use Rattle.tables.proofs.image.store_entry.Tie as tie
-use Rattle.tables.proofs.image.store_entry.Reads as reads
-use Rattle.tables.proofs.image.store_entry.Lts as lts
-use Rattle.wire.proofs.put8.Reads as put8-reads
-use Rattle.wire.proofs.put16.Reads as put16-reads
-use Rattle.wire.proofs.put32.Reads as put32-reads
-use Rattle.wire.proofs.put64.Reads as put64-reads
 
 mul-at : tie.Need-mul-at
 mul-at c = search needs

@@ -5,9 +5,6 @@ use Rattle.wire.specs.Table.{putRow, place}
 use Rattle.wire.specs.Fields.{putFields}
 use Rattle.tables.proofs.image.store_memory.Statement.{statement}
 use Rattle.tables.proofs.image.store_memory.Tie as tie
-use Rattle.tables.proofs.image.store_memory.Reads as reads
-use Rattle.tables.proofs.image.store_memory.Lts as lts
-use Rattle.wire.proofs.put64.Reads as put64-reads
 
 put64-requires : tie.Need-put64-requires
 put64-requires c κs = search needs

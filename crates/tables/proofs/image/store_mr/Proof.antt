@@ -5,10 +5,6 @@ use Rattle.wire.specs.Table.{putRow, place}
 use Rattle.wire.specs.Fields.{putFields}
 use Rattle.tables.proofs.image.store_mr.Statement.{statement}
 use Rattle.tables.proofs.image.store_mr.Tie as tie
-use Rattle.tables.proofs.image.store_mr.Reads as reads
-use Rattle.tables.proofs.image.store_mr.Lts as lts
-use Rattle.wire.proofs.put8.Reads as put8-reads
-use Rattle.wire.proofs.put64.Reads as put64-reads
 
 mul-at : tie.Need-mul-at
 mul-at c = search needs

@@ -5,9 +5,6 @@ use Rattle.wire.specs.Table.{putRow, place}
 use Rattle.wire.specs.Fields.{putFields}
 use Rattle.tables.proofs.image.store_mr_live.Statement.{statement}
 use Rattle.tables.proofs.image.store_mr_live.Tie as tie
-use Rattle.tables.proofs.image.store_mr_live.Reads as reads
-use Rattle.tables.proofs.image.store_mr_live.Lts as lts
-use Rattle.wire.proofs.put8.Reads as put8-reads
 
 add-at : tie.Need-add-at
 add-at c = search needs

@@ -5,9 +5,6 @@ use Rattle.wire.specs.Table.{putRow, place}
 use Rattle.wire.specs.Fields.{putFields}
 use Rattle.tables.proofs.image.store_pd.Statement.{statement}
 use Rattle.tables.proofs.image.store_pd.Tie as tie
-use Rattle.tables.proofs.image.store_pd.Reads as reads
-use Rattle.tables.proofs.image.store_pd.Lts as lts
-use Rattle.wire.proofs.put8.Reads as put8-reads
 
 add-at : tie.Need-add-at
 add-at c = search needs

@@ -5,10 +5,6 @@ use Rattle.wire.specs.Table.{putRow, place}
 use Rattle.wire.specs.Fields.{putFields}
 use Rattle.tables.proofs.image.store_receive.Statement.{statement}
 use Rattle.tables.proofs.image.store_receive.Tie as tie
-use Rattle.tables.proofs.image.store_receive.Reads as reads
-use Rattle.tables.proofs.image.store_receive.Lts as lts
-use Rattle.wire.proofs.put32.Reads as put32-reads
-use Rattle.wire.proofs.put64.Reads as put64-reads
 
 mul-at : tie.Need-mul-at
 mul-at c = search needs

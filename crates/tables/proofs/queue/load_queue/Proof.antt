@@ -1,22 +1,17 @@
 use borrow.Author.Needs.{needs}
 use denote.Ref.{now}
-use Rattle.wire.specs.Rows.{fill-more, length-rows, getD-rows}
+use Rattle.wire.specs.Rows.{fill-more}
 use Prim.Native.Nat.{ℕ, _≤_, _<_, _-_, _+_, _*_}
-use mathlib.Core.Path.{_≡_, refl, sym, ap, _∙_}
+use mathlib.Core.Path.{_≡_}
 use native.Mathlib.Omega.{arith}
 use lib.ListN.{length, getD}
-use lib.Seq.{ext-getD}
 use Rattle.wire.specs.Table.{rowAt}
 use Rattle.tables.specs.Layout.{entryT}
 use Rattle.tables.specs.Limits.{mostPlaces}
-use Rattle.tables.specs.Image.{noCompletion, entriesAt}
+use Rattle.tables.specs.Image.{noCompletion}
 use Rattle.tables.specs.Queue.{queueAt, ring-read}
 use Rattle.tables.proofs.queue.load_queue.Statement.{statement}
 use Rattle.tables.proofs.queue.load_queue.Tie as tie
-use Rattle.tables.proofs.queue.load_queue.Reads as reads
-use Rattle.tables.proofs.queue.load_queue.Lts as lts
-use Rattle.tables.proofs.image.load_cq.Reads as load-cq-reads
-use Rattle.tables.proofs.image.load_entry.Reads as load-entry-reads
 
 abbrev Inv-loop : tie.InvT-loop
 Inv-loop img n h ring₀ k₀ ring k = (k ≤ mostPlaces) × (length ring ≡ mostPlaces) × ((j : ℕ) → j < k → getD ring j noCompletion ≡ rowAt entryT img (mostPlaces * n + j))

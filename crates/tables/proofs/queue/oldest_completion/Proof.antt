@@ -4,10 +4,6 @@ use Rattle.tables.specs.declared.QueueHead.{QueueHead}
 use borrow.Author.Needs.{needs}
 use Rattle.tables.proofs.queue.oldest_completion.Statement.{statement}
 use Rattle.tables.proofs.queue.oldest_completion.Tie as tie
-use Rattle.tables.proofs.queue.oldest_completion.Reads as reads
-use Rattle.tables.proofs.queue.oldest_completion.Lts as lts
-use Rattle.tables.proofs.image.load_cq.Reads as load-cq-reads
-use Rattle.tables.proofs.image.load_entry.Reads as load-entry-reads
 
 load-cq-requires : tie.Need-load-cq-requires
 load-cq-requires c κs = search needs

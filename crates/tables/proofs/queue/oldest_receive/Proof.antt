@@ -4,10 +4,6 @@ use Rattle.tables.specs.declared.WaitingHead.{WaitingHead}
 use borrow.Author.Needs.{needs}
 use Rattle.tables.proofs.queue.oldest_receive.Statement.{statement}
 use Rattle.tables.proofs.queue.oldest_receive.Tie as tie
-use Rattle.tables.proofs.queue.oldest_receive.Reads as reads
-use Rattle.tables.proofs.queue.oldest_receive.Lts as lts
-use Rattle.tables.proofs.image.load_receive.Reads as load-receive-reads
-use Rattle.tables.proofs.image.load_waiting.Reads as load-waiting-reads
 
 load-waiting-requires : tie.Need-load-waiting-requires
 load-waiting-requires c κs = search needs

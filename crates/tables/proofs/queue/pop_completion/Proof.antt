@@ -5,10 +5,6 @@ use Rattle.tables.specs.Queue.{popBytes}
 use borrow.Author.Needs.{needs}
 use Rattle.tables.proofs.queue.pop_completion.Statement.{statement}
 use Rattle.tables.proofs.queue.pop_completion.Tie as tie
-use Rattle.tables.proofs.queue.pop_completion.Reads as reads
-use Rattle.tables.proofs.queue.pop_completion.Lts as lts
-use Rattle.tables.proofs.image.load_cq.Reads as load-cq-reads
-use Rattle.tables.proofs.image.store_cq.Reads as store-cq-reads
 
 load-cq-requires : tie.Need-load-cq-requires
 load-cq-requires c κs = search needs

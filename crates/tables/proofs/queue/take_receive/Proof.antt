@@ -5,10 +5,6 @@ use Rattle.tables.specs.Queue.{takeBytes}
 use borrow.Author.Needs.{needs}
 use Rattle.tables.proofs.queue.take_receive.Statement.{statement}
 use Rattle.tables.proofs.queue.take_receive.Tie as tie
-use Rattle.tables.proofs.queue.take_receive.Reads as reads
-use Rattle.tables.proofs.queue.take_receive.Lts as lts
-use Rattle.tables.proofs.image.load_waiting.Reads as load-waiting-reads
-use Rattle.tables.proofs.image.store_waiting.Reads as store-waiting-reads
 
 load-waiting-requires : tie.Need-load-waiting-requires
 load-waiting-requires c κs = search needs

@@ -8,8 +8,6 @@ use lib.ListN.{length, drop, length-take, length-drop, drop-of-length-le}
 use borrow.Author.Needs.{needs}
 use Rattle.tables.proofs.records.inline_bytes.Statement.{statement}
 use Rattle.tables.proofs.records.inline_bytes.Tie as tie
-use Rattle.tables.proofs.records.inline_bytes.Reads as reads
-use Rattle.tables.proofs.records.inline_bytes.Lts as lts
 
 sub-result : tie.Need-sub-result
 sub-result c = search needs

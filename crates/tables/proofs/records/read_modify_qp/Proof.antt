@@ -6,10 +6,6 @@ use lib.ListN.{length}
 use borrow.Author.Needs.{needs}
 use Rattle.tables.proofs.records.read_modify_qp.Statement.{statement}
 use Rattle.tables.proofs.records.read_modify_qp.Tie as tie
-use Rattle.tables.proofs.records.read_modify_qp.Reads as reads
-use Rattle.tables.proofs.records.read_modify_qp.Lts as lts
-use Rattle.wire.proofs.get32.Reads as get32-reads
-use Rattle.wire.proofs.get8.Reads as get8-reads
 
 returns : tie.Need-returns
 unfolding modifyQpCodec

@@ -6,9 +6,6 @@ use lib.ListN.{length}
 use borrow.Author.Needs.{needs}
 use Rattle.tables.proofs.records.read_number.Statement.{statement}
 use Rattle.tables.proofs.records.read_number.Tie as tie
-use Rattle.tables.proofs.records.read_number.Reads as reads
-use Rattle.tables.proofs.records.read_number.Lts as lts
-use Rattle.wire.proofs.get32.Reads as get32-reads
 
 returns : tie.Need-returns
 unfolding numberCodec

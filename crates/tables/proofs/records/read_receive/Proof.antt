@@ -7,11 +7,6 @@ use Rattle.tables.specs.Reading.{receive-short, receive-many, receive-wr
 use borrow.Author.Needs.{needs}
 use Rattle.tables.proofs.records.read_receive.Statement.{statement}
 use Rattle.tables.proofs.records.read_receive.Tie as tie
-use Rattle.tables.proofs.records.read_receive.Reads as reads
-use Rattle.tables.proofs.records.read_receive.Lts as lts
-use Rattle.tables.proofs.records.sge_at.Reads as sge-at-reads
-use Rattle.wire.proofs.get32.Reads as get32-reads
-use Rattle.wire.proofs.get64.Reads as get64-reads
 
 returns : tie.Need-returns
 returns c = receive-short (now (c .before .before .args .request)) (c .if1 .taken)

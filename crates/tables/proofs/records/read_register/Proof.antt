@@ -6,10 +6,6 @@ use lib.ListN.{length}
 use borrow.Author.Needs.{needs}
 use Rattle.tables.proofs.records.read_register.Statement.{statement}
 use Rattle.tables.proofs.records.read_register.Tie as tie
-use Rattle.tables.proofs.records.read_register.Reads as reads
-use Rattle.tables.proofs.records.read_register.Lts as lts
-use Rattle.wire.proofs.get32.Reads as get32-reads
-use Rattle.wire.proofs.get64.Reads as get64-reads
 
 returns : tie.Need-returns
 unfolding registerCodec

@@ -1,15 +1,9 @@
-use Rattle.tables.specs.declared.SendRead.the-variants as send
 use denote.Ref.{now}
 use mathlib.Core.Path.{sym, _∙_}
 use Rattle.tables.specs.Reading.{send-short, send-refused, send-wrong, send-right}
 use borrow.Author.Needs.{needs}
 use Rattle.tables.proofs.records.read_send.Statement.{statement}
 use Rattle.tables.proofs.records.read_send.Tie as tie
-use Rattle.tables.proofs.records.read_send.Reads as reads
-use Rattle.tables.proofs.records.read_send.Lts as lts
-use Rattle.tables.proofs.records.send_bad.Reads as send-bad-reads
-use Rattle.tables.proofs.records.send_head.Reads as send-head-reads
-use Rattle.tables.proofs.records.send_size.Reads as send-size-reads
 
 returns : tie.Need-returns
 returns c = send-short (now (c .before .before .args .request)) (c .if1 .taken)

@@ -3,11 +3,6 @@ use Rattle.tables.specs.Records.{sendCodec}
 use borrow.Author.Needs.{needs}
 use Rattle.tables.proofs.records.send_head.Statement.{statement}
 use Rattle.tables.proofs.records.send_head.Tie as tie
-use Rattle.tables.proofs.records.send_head.Reads as reads
-use Rattle.tables.proofs.records.send_head.Lts as lts
-use Rattle.wire.proofs.get32.Reads as get32-reads
-use Rattle.wire.proofs.get64.Reads as get64-reads
-use Rattle.wire.proofs.get8.Reads as get8-reads
 
 get64-requires : tie.Need-get64-requires
 get64-requires c κs = search needs

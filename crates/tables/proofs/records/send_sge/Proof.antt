@@ -2,9 +2,6 @@ use Rattle.tables.specs.Records.{sendSge}
 use borrow.Author.Needs.{needs}
 use Rattle.tables.proofs.records.send_sge.Statement.{statement}
 use Rattle.tables.proofs.records.send_sge.Tie as tie
-use Rattle.tables.proofs.records.send_sge.Reads as reads
-use Rattle.tables.proofs.records.send_sge.Lts as lts
-use Rattle.tables.proofs.records.sge_at.Reads as sge-at-reads
 
 mul-sge-at : tie.Need-mul-sge-at
 mul-sge-at c = search needs

@@ -2,8 +2,6 @@ use borrow.Author.Tests.{eq-eqb, ne-eqb}
 use borrow.Author.Needs.{needs}
 use Rattle.tables.proofs.records.send_size.Statement.{statement}
 use Rattle.tables.proofs.records.send_size.Tie as tie
-use Rattle.tables.proofs.records.send_size.Reads as reads
-use Rattle.tables.proofs.records.send_size.Lts as lts
 
 returns : tie.Need-returns
 returns c = rw (ne-eqb _ _ (c .if1 .taken))

@@ -6,10 +6,6 @@ use native.Mathlib.Nat.{add-zero}
 use borrow.Author.Needs.{needs}
 use Rattle.tables.proofs.records.sge_at.Statement.{statement}
 use Rattle.tables.proofs.records.sge_at.Tie as tie
-use Rattle.tables.proofs.records.sge_at.Reads as reads
-use Rattle.tables.proofs.records.sge_at.Lts as lts
-use Rattle.wire.proofs.get32.Reads as get32-reads
-use Rattle.wire.proofs.get64.Reads as get64-reads
 
 add-if1 : tie.Need-add-if1
 add-if1 c = search needs

@@ -2,10 +2,6 @@ use Rattle.wire.specs.Fields.{putFields}
 use borrow.Author.Needs.{needs}
 use Rattle.tables.proofs.records.write_ack.Statement.{statement}
 use Rattle.tables.proofs.records.write_ack.Tie as tie
-use Rattle.tables.proofs.records.write_ack.Reads as reads
-use Rattle.tables.proofs.records.write_ack.Lts as lts
-use Rattle.wire.proofs.put32.Reads as put32-reads
-use Rattle.wire.proofs.put8.Reads as put8-reads
 
 enum-told : tie.Need-enum-told
 enum-told c = search needs

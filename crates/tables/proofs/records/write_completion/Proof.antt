@@ -2,12 +2,6 @@ use Rattle.wire.specs.Fields.{putFields, within, clear, apart}
 use borrow.Author.Needs.{needs}
 use Rattle.tables.proofs.records.write_completion.Statement.{statement}
 use Rattle.tables.proofs.records.write_completion.Tie as tie
-use Rattle.tables.proofs.records.write_completion.Reads as reads
-use Rattle.tables.proofs.records.write_completion.Lts as lts
-use Rattle.wire.proofs.put16.Reads as put16-reads
-use Rattle.wire.proofs.put32.Reads as put32-reads
-use Rattle.wire.proofs.put64.Reads as put64-reads
-use Rattle.wire.proofs.put8.Reads as put8-reads
 
 put64-requires : tie.Need-put64-requires
 put64-requires c κs = search needs

@@ -1,8 +1,8 @@
 use lib.ListN.{set, length-set}
 use denote.Ref.{now}
 use borrow.Author.Needs.{needs}
-use Prim.Native.Nat.{ℕ, _≤_, _<_, _-_, _+_}
-use mathlib.Core.Path.{_≡_, refl, sym, ap, _∙_}
+use Prim.Native.Nat.{ℕ, _≤_, _-_, _+_}
+use mathlib.Core.Path.{_≡_, refl, ap, _∙_}
 use mathlib.Core.List.{_++_}
 use native.Mathlib.Omega.{arith}
 use lib.ListN.{length, drop, replicate}
@@ -11,8 +11,6 @@ use lib.Seq.{drop-length}
 use mathlib.Core.List.{List, append-nil}
 use Rattle.tables.proofs.reset.clear.Statement.{statement}
 use Rattle.tables.proofs.reset.clear.Tie as tie
-use Rattle.tables.proofs.reset.clear.Reads as reads
-use Rattle.tables.proofs.reset.clear.Lts as lts
 
 abbrev Inv-loop : tie.InvT-loop
 Inv-loop img₀ i₀ img i = (i ≤ length img) × (length img ≡ length img₀) × (img ≡ replicate i 0 ++ drop i img₀)

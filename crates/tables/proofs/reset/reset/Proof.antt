@@ -2,10 +2,6 @@ use Rattle.tables.specs.Reset.{resetBytes}
 use borrow.Author.Needs.{needs}
 use Rattle.tables.proofs.reset.reset.Statement.{statement}
 use Rattle.tables.proofs.reset.reset.Tie as tie
-use Rattle.tables.proofs.reset.reset.Reads as reads
-use Rattle.tables.proofs.reset.reset.Lts as lts
-use Rattle.tables.proofs.image.store_memory.Reads as store-memory-reads
-use Rattle.tables.proofs.reset.clear.Reads as clear-reads
 
 clear-requires : tie.Need-clear-requires
 clear-requires c κs = search needs
