@@ -130,22 +130,25 @@ pub struct ModifyQp {
     pub dest: u32,
 }
 
-// What the data of a command reads as, where it has its length: one number of 32 bits.
+// What a command's data reads as, Wrong where it does not have its exact length: of the commands of one number,
 pub enum NumberRead {
     Value(u32),
     Wrong,
 }
 
+// of command 7,
 pub enum RegisterRead {
     Value(Registration),
     Wrong,
 }
 
+// of command 9,
 pub enum CreateQpRead {
     Value(CreateQp),
     Wrong,
 }
 
+// and of command 10.
 pub enum ModifyQpRead {
     Value(ModifyQp),
     Wrong,
