@@ -5,7 +5,7 @@ use reference::record::{Piece, CONTROL_CLASS, COUNT_AT, INLINE, INLINE_AT, PIECE
 pub const MASK_STATE: u32 = 1;
 pub const MASK_DESTINATION: u32 = 1 << 15;
 
-fn number_command(command: u8, number: u32) -> Vec<u8> {
+pub fn number_command(command: u8, number: u32) -> Vec<u8> {
     [&[CONTROL_CLASS, command][..], &number.to_le_bytes()].concat()
 }
 
