@@ -105,3 +105,10 @@ pub fn damage(rng: &mut Rng, state: &[u8]) -> Vec<u8> {
     }
     copy
 }
+
+/// The state with a pair that names nobody, in whatever state it is: acceptable, but left by no call.
+pub fn forget_destination(state: &[u8], qpn: u32) -> Vec<u8> {
+    let mut copy = state.to_vec();
+    copy[PAIR_ROWS + qpn as usize % PAIRS * PAIR_ROW + 6] = NO_DESTINATION;
+    copy
+}

@@ -5,11 +5,11 @@ mod damage;
 mod mutate;
 mod work;
 
-pub use damage::{damage, fields, Field};
+pub use damage::{damage, fields, forget_destination, Field};
 
-use cards::Rng;
+use cards::{build, Rng};
 use reference::layout::*;
-use reference::listing::{Listing, PairListing};
+use reference::listing::{Listing, PairListing, QueueListing};
 use reference::Outcome;
 
 /// One call with all that is lent to it but the state and the memory's content.
@@ -54,11 +54,14 @@ impl Generator {
     /// Begins a new list of calls: the memory length for its reset.
     pub fn begin(&mut self) -> u64 {
         self.keys.clear();
-        self.goal = Goal {
-            domains: 1 + self.rng.index(3),
-            queues: 1 + self.rng.index(4),
-            regions: 3 + self.rng.index(8),
-            pairs: self.rng.pick(&[2, 4, 6, 8]),
+        self.goal = match self.rng.below(12) {
+            0 => Goal { domains: DOMAINS, queues: QUEUES, regions: REGIONS, pairs: PAIRS },
+            _ => Goal {
+                domains: 1 + self.rng.index(3),
+                queues: 1 + self.rng.index(4),
+                regions: 3 + self.rng.index(8),
+                pairs: self.rng.pick(&[2, 4, 6, 8]),
+            },
         };
         self.changed = self.rng.pick(&[5, 20, 30, 40]);
         match self.rng.below(20) {
@@ -67,6 +70,16 @@ impl Generator {
             2..=7 => 4096,
             _ => 4096 + self.rng.below(12288),
         }
+    }
+
+    /// Calls that register and deregister one slot more often than it has variants.
+    pub fn many_variants(&mut self) -> Vec<Call> {
+        let mut calls = vec![control(build::create_domain())];
+        for _ in 0..260 {
+            calls.push(control(build::register(0, 7, 0, 1, self.rng.next() >> 1)));
+            calls.push(control(build::deregister(0)));
+        }
+        calls
     }
 
     /// The next call, in view of what the card holds.
@@ -81,6 +94,11 @@ impl Generator {
                 return control(command);
             }
         }
+        if self.rng.percent(45) {
+            if let Some(call) = self.poll_full(card) {
+                return call;
+            }
+        }
         match self.rng.below(100) {
             0..=44 => self.send_or_receive(card),
             45..=54 => self.receive(card, None),
@@ -92,19 +110,26 @@ impl Generator {
     }
 
     fn poll(&mut self, card: &Listing) -> Call {
-        let filled = |n: &usize| card.queues[*n].as_ref().is_some_and(|queue| !queue.unread.is_empty());
-        let unread: Vec<usize> = (0..QUEUES).filter(filled).collect();
+        let unread = queues_where(card, |queue| !queue.unread.is_empty());
         let cqn = match self.rng.choose(&unread) {
-            Some(cqn) if self.rng.percent(85) => cqn as u32,
+            Some(cqn) if self.rng.percent(92) => cqn as u32,
+            None if self.rng.percent(80) => return self.receive(card, None),
             _ => self.number(QUEUES),
         };
         Call::Poll { cqn, buffer: self.rng.pick(&[24, 24, 25, 40]) }
+    }
+
+    /// Makes room where a queue is full.
+    fn poll_full(&mut self, card: &Listing) -> Option<Call> {
+        let full = queues_where(card, |queue| queue.unread.len() + 1 >= queue.places && !queue.unread.is_empty());
+        self.rng.choose(&full).map(|cqn| Call::Poll { cqn: cqn as u32, buffer: 24 })
     }
 
     fn flush(&mut self, card: &Listing) -> Call {
         let failed = pairs_where(card, |pair| pair.pair.state == ERROR);
         let qpn = match self.rng.choose(&failed) {
             Some(qpn) if self.rng.percent(80) => qpn as u32,
+            None if self.rng.percent(75) => return self.send_or_receive(card),
             _ => self.number(PAIRS),
         };
         Call::Flush { qpn }
@@ -135,6 +160,11 @@ impl Generator {
 
 fn control(command: Vec<u8>) -> Call {
     Call::Control { command, ack: 16 }
+}
+
+/// The numbers of the live queues that fit.
+fn queues_where(card: &Listing, fits: impl Fn(&QueueListing) -> bool) -> Vec<usize> {
+    (0..QUEUES).filter(|&n| card.queues[n].as_ref().is_some_and(&fits)).collect()
 }
 
 /// The numbers of the live pairs that fit.
