@@ -38,10 +38,11 @@ fn records() -> Vec<Case> {
         one("command-class-5", vec![5, 4], 13),
         one("command-class-7", vec![7, 4], 13),
     ];
-    for number in [0, 1, 6, 11, 13, 14, 17, 255] {
-        cases.push(one(&format!("command-{number}-unknown"), vec![6, number], 13));
-        cases.push(one(&format!("command-{number}-unknown-with-data"), vec![6, number, 0, 0, 0, 0], 13));
+    let mut unknown = Script::joined();
+    for number in (0..=255).filter(|number| !matches!(number, 2..=5 | 7..=10 | 12)) {
+        unknown.refused(vec![6, number], 13).refused(vec![6, number, 0, 0, 0, 0], 13);
     }
+    cases.push(unknown.named("command-unknown"));
     let known = [
         ("create-cq", create_queue(1)),
         ("destroy-cq", destroy_queue(0)),
@@ -54,12 +55,13 @@ fn records() -> Vec<Case> {
         ("destroy-qp", destroy_pair(0)),
     ];
     for (name, command) in known {
-        let longer = [&command[..], &[0]].concat();
-        cases.push(one(&format!("{name}-one-byte-more"), longer, 1));
-        if command.len() > 2 {
-            cases.push(one(&format!("{name}-one-byte-less"), command[..command.len() - 1].to_vec(), 1));
-            cases.push(one(&format!("{name}-no-data"), command[..2].to_vec(), 1));
+        let mut script = Script::joined();
+        for length in (2..64).filter(|&length| length != command.len()) {
+            let mut changed = command.clone();
+            changed.resize(length, 0);
+            script.refused(changed, 1);
         }
+        cases.push(script.named(format!("{name}-other-lengths")));
     }
     cases
 }
@@ -130,11 +132,13 @@ fn registrations() -> Vec<Case> {
         } else {
             script.refused(register(0, 7, start, length, virt), answer);
         }
-        cases.push(script.named(format!("register-{name}").replace('^', "")));
+        cases.push(script.named(format!("register-{name}").replace('^', "-")));
     }
+    let mut domains = Script::joined();
     for pdn in [2, 7, 8, 255, 256, 1 << 31, u32::MAX] {
-        cases.push(one(&format!("register-pd-{pdn}"), register(pdn, 7, 0, 1, 0), 2));
+        domains.refused(register(pdn, 7, 0, 1, 0), 2);
     }
+    cases.push(domains.named("register-domain-not-live"));
     cases
 }
 
@@ -242,7 +246,7 @@ fn modifications() -> Vec<Case> {
     ];
     let mut cases: Vec<Case> = Vec::new();
     for (name, command, answer) in fields {
-        cases.push(one(&format!("modify-{name}").replace('^', ""), command, answer));
+        cases.push(one(&format!("modify-{name}").replace('^', "-"), command, answer));
     }
     let mut order = Script::joined();
     order.create(create_pair(0, 2, 0, 0, 0), 2).done(move_to(2, 1));
