@@ -215,7 +215,7 @@ fn pairs() -> Vec<Case> {
 
 fn modifications() -> Vec<Case> {
     let with = MASK_STATE | MASK_DESTINATION;
-    let fields: [(&str, Vec<u8>, u8); 27] = [
+    let fields: [(&str, Vec<u8>, u8); 28] = [
         ("mask-0", modify(0, 0, 6, [0; 3], 0), 4),
         ("mask-bit-15-alone", modify(0, MASK_DESTINATION, 2, [0; 3], 1), 4),
         ("mask-bit-1", modify(0, 3, 6, [0; 3], 0), 4),
@@ -240,6 +240,7 @@ fn modifications() -> Vec<Case> {
         ("destination-itself", join(0, 0), 4),
         ("qp-9-destination-9", join(9, 9), 4),
         ("qp-9-destination-7", join(9, 7), 2),
+        ("qp-5-dead-destination-5", join(5, 5), 4),
         ("qp-dead", move_to(2, 6), 2),
         ("qp-2^32-1", move_to(u32::MAX, 6), 2),
         ("destination-ignored", modify(0, 1, 6, [0; 3], 0), 0),

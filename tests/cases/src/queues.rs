@@ -66,12 +66,22 @@ fn polls() -> Vec<Case> {
     let mut kept = Script::joined();
     kept.send(0, Send::new(1, WRITE), 0, 0).done(destroy_pair(0)).create(create_pair(1, 2, 0, 1, 1), 0);
     kept.poll(0, 1, 0, 1, 0, 0).poll_empty(0);
+    let mut apart = Script::new();
+    apart.create(create_domain(), 0);
+    for n in 0..4 {
+        apart.create(create_queue(1), n);
+    }
+    apart.create(create_pair(0, 2, 0, 0, 1), 0).create(create_pair(0, 2, 0, 2, 3), 1).join_pairs(0, 1);
+    apart.receive(1, 5, &[], 0).receive(1, 6, &[], 0).send(0, Send::new(1, SEND), 0, 0).poll_empty(1).poll_empty(2);
+    apart.poll(0, 1, 0, 0, 0, 0).send(0, Send::new(2, SEND), 6, 0).send(0, Send::new(3, WRITE), 0, 0);
+    apart.poll(3, 5, 0, 3, 0, 1).done(move_to(1, 6)).flush(1, 0).poll_empty(2).poll(3, 6, 4, 3, 0, 1).poll(0, 3, 0, 1, 0, 0);
     let mut fresh = Script::joined();
     fresh.send(0, Send::new(1, WRITE), 0, 0).done(destroy_pair(0)).done(destroy_queue(0)).poll_refused(0, 2);
     fresh.create(create_queue(2), 0).poll_empty(0);
     vec![
         numbers.named("poll-numbers-not-live"),
         kept.named("completions-stay-when-their-pair-goes"),
+        apart.named("send-and-receive-queues-apart"),
         fresh.named("a-new-queue-is-empty"),
     ]
 }

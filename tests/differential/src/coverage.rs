@@ -66,7 +66,7 @@ const STEPS: [&str; 21] = [
 ];
 
 impl Coverage {
-    pub fn count(&mut self, card: Option<&Listing>, call: &Call, done: &Done) {
+    pub(crate) fn count(&mut self, card: Option<&Listing>, call: &Call, done: &Done) {
         let answer = done.outcome.answer;
         self.add(format!("{} answer {answer}", kind(call)));
         match call {
@@ -132,7 +132,7 @@ impl Coverage {
     }
 
     /// Prints the table; gives back how many reachable cells were never seen.
-    pub fn report(&self) -> usize {
+    pub fn print(&self) -> usize {
         let mut missing = 0;
         for (title, cells) in groups() {
             println!("{title}");

@@ -100,15 +100,19 @@ impl Generator {
             7..=9 => self.registration(card),
             10 => self.pair_creation(card),
             11 => destroy_pair(self.number(PAIRS)),
-            12..=16 => self.any_move(),
+            12..=16 => self.any_move(card),
             _ => self.removal(card),
         };
-        if self.rng.percent(self.changed) { self.change_command(command, card) } else { command }
+        if self.rng.percent(self.changed + 10) { self.change_command(command, card) } else { command }
     }
 
-    fn any_move(&mut self) -> Vec<u8> {
-        let number = self.number(PAIRS);
+    fn any_move(&mut self, card: &Listing) -> Vec<u8> {
+        let number = match self.rng.choose(&pairs_where(card, |_| true)) {
+            Some(number) if self.rng.percent(80) => number as u32,
+            _ => self.number(PAIRS),
+        };
         match self.rng.pick(&[0, 1, 2, 3, 6, 6]) {
+            2 if self.rng.percent(10) => join(number, number),
             2 => join(number, self.other_pair(number % 8)),
             state => modify(number, MASK_STATE, state, [0; 3], self.rng.next() as u32),
         }

@@ -152,8 +152,9 @@ impl Generator {
                 let at = 2 + self.rng.index(command.len() - 2);
                 command[at] = self.rng.pick(&[0, 1, 2, 4, 7, 8, 16, 17, 128, 255]);
             }
-            5 if command[1] == 7 && command.len() == 34 => self.change_registration(&mut command, card),
-            6 if command.len() > 2 => {
+            _ if command[1] == 7 && command.len() == 34 => self.change_registration(&mut command, card),
+            _ if command[1] == 10 && command.len() == 18 => self.change_modification(&mut command),
+            5 if command.len() > 2 => {
                 let at = 2 + self.rng.index(command.len() - 2);
                 command[at] ^= 1 << self.rng.below(8);
             }
@@ -173,6 +174,18 @@ impl Generator {
             3 => put64(command, 26, (u64::MAX - length).wrapping_add(self.rng.below(2))),
             4 => put64(command, 26, u64::MAX - self.rng.below(2)),
             _ => put32(command, 6, self.rng.pick(&[8, 15, 16, 256, 1 << 31])),
+        }
+    }
+
+    /// Mask, state, padding and destination at both sides of their limits.
+    fn change_modification(&mut self, command: &mut [u8]) {
+        match self.rng.below(6) {
+            0 => put32(command, 6, get32(command, 6) ^ 1 << 15),
+            1 => put32(command, 6, get32(command, 6) ^ 1 << self.rng.below(32)),
+            2 => command[10] = self.rng.below(8) as u8,
+            3 => command[11 + self.rng.index(3)] = self.rng.next() as u8,
+            4 => put32(command, 14, self.rng.pick(&[7, 8, 256, u32::MAX])),
+            _ => put32(command, 14, get32(command, 2)),
         }
     }
 
