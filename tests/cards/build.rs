@@ -1,5 +1,5 @@
-//! Links the proved libraries where they exist: libprobe.a (the lower part) and libengine.a (the calls), from target/staticlib of the
-//! repository or from the folder that LESUNGKAP_LIB names.
+//! Links the proved libraries where they exist: libprobe.a (the lower part) and libengine.a (the calls), from target/staticlib
+//! of the repository or from the folder that LESUNGKAP_LIB names.
 
 use std::env;
 use std::path::{Path, PathBuf};

@@ -1,4 +1,4 @@
-//! Times the calls of the proved library (libengine.a) against the reference: unsignaled writes with status 0, and polls answered 0.
+//! Times the calls of the proved library (libengine.a) against the reference: unsignaled writes and polls that succeed.
 //!
 //! usage: calls [CALLS]
 

@@ -12,7 +12,8 @@ fn main() {
     heading(first.name(), ReferenceLower.name());
     let mut unread = fixture::full();
     fixture::fill_queues(&mut unread);
-    for (name, state) in [("thin tables", fixture::thin()), ("full tables", fixture::full()), ("full tables, 128 unread", unread)] {
+    for (name, state) in [("thin tables", fixture::thin()), ("full tables", fixture::full()), ("full tables, 128 unread", unread)]
+    {
         assert!(first.accepts(&state) && ReferenceLower.accepts(&state));
         compare(&format!("state test, {name}"), calls, &mut work(first, &state), &mut work(&ReferenceLower, &state));
     }

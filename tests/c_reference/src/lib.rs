@@ -5,13 +5,21 @@ use std::slice;
 /// # Safety
 /// The pointer and length are those of a buffer that nothing else uses during the call.
 unsafe fn lent<'a>(bytes: *mut u8, length: usize) -> &'a mut [u8] {
-    if length == 0 { &mut [] } else { unsafe { slice::from_raw_parts_mut(bytes, length) } }
+    if length == 0 {
+        &mut []
+    } else {
+        unsafe { slice::from_raw_parts_mut(bytes, length) }
+    }
 }
 
 /// # Safety
 /// The pointer and length are those of a buffer that nothing else writes during the call.
 unsafe fn read<'a>(bytes: *const u8, length: usize) -> &'a [u8] {
-    if length == 0 { &[] } else { unsafe { slice::from_raw_parts(bytes, length) } }
+    if length == 0 {
+        &[]
+    } else {
+        unsafe { slice::from_raw_parts(bytes, length) }
+    }
 }
 
 /// # Safety

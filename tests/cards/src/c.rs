@@ -22,13 +22,7 @@ pub mod engine {
             record: *const u8,
             record_len: usize,
         ) -> u32;
-        pub fn lesungkap_post_receive(
-            state: *mut u8,
-            state_len: usize,
-            qpn: u32,
-            record: *const u8,
-            record_len: usize,
-        ) -> u32;
+        pub fn lesungkap_post_receive(state: *mut u8, state_len: usize, qpn: u32, record: *const u8, record_len: usize) -> u32;
         pub fn lesungkap_flush(state: *mut u8, state_len: usize, qpn: u32) -> u32;
         pub fn lesungkap_poll(state: *mut u8, state_len: usize, cqn: u32, buffer: *mut u8, buffer_len: usize) -> u32;
     }

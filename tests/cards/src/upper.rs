@@ -81,14 +81,7 @@ mod linked {
 
         fn control(&self, state: &mut [u8], command: &[u8], ack: &mut [u8]) -> Outcome {
             outcome(unsafe {
-                lesungkap_control(
-                    state.as_mut_ptr(),
-                    state.len(),
-                    command.as_ptr(),
-                    command.len(),
-                    ack.as_mut_ptr(),
-                    ack.len(),
-                )
+                lesungkap_control(state.as_mut_ptr(), state.len(), command.as_ptr(), command.len(), ack.as_mut_ptr(), ack.len())
             })
         }
 

@@ -97,6 +97,26 @@ fn queues_and_domains() -> Vec<Case> {
     ]
 }
 
+/// Name, start, length, virt and answer of registrations over a memory of 4,096 bytes.
+const RANGES: [(&str, u64, u64, u64, u8); 16] = [
+    ("p10-start-3996", 3996, 100, 0, 0),
+    ("p10-start-3997", 3997, 100, 0, 11),
+    ("p11-virt-2^64-101", 0, 100, u64::MAX - 100, 0),
+    ("p11-virt-2^64-100", 0, 100, u64::MAX - 99, 11),
+    ("length-0", 0, 0, 0, 11),
+    ("length-0-at-end", 4096, 0, 0, 11),
+    ("whole-memory", 0, 4096, 0, 0),
+    ("memory-plus-one", 0, 4097, 0, 11),
+    ("last-byte", 4095, 1, 0, 0),
+    ("past-last-byte", 4096, 1, 0, 11),
+    ("start-wraps", u64::MAX, 2, 0, 11),
+    ("start-wraps-into-memory", u64::MAX - 99, 200, 0, 11),
+    ("length-2^64-1", 1, u64::MAX, 0, 11),
+    ("length-2^32", 0, 1 << 32, 0, 11),
+    ("virt-last", 0, 1, u64::MAX - 1, 0),
+    ("virt-2^64-1", 0, 1, u64::MAX, 11),
+];
+
 fn registrations() -> Vec<Case> {
     let mut access = Script::joined();
     for bits in 0..8 {
@@ -105,27 +125,8 @@ fn registrations() -> Vec<Case> {
     for bits in [8, 9, 15, 16, 128, 256, 1 << 31, u32::MAX] {
         access.refused(register(0, bits, 0, 1, 0), 4);
     }
-    let top = u64::MAX;
     let mut cases = vec![access.named("access-0-to-7")];
-    let ranges: [(&str, u64, u64, u64, u8); 16] = [
-        ("p10-start-3996", 3996, 100, 0, 0),
-        ("p10-start-3997", 3997, 100, 0, 11),
-        ("p11-virt-2^64-101", 0, 100, top - 100, 0),
-        ("p11-virt-2^64-100", 0, 100, top - 99, 11),
-        ("length-0", 0, 0, 0, 11),
-        ("length-0-at-end", 4096, 0, 0, 11),
-        ("whole-memory", 0, 4096, 0, 0),
-        ("memory-plus-one", 0, 4097, 0, 11),
-        ("last-byte", 4095, 1, 0, 0),
-        ("past-last-byte", 4096, 1, 0, 11),
-        ("start-wraps", top, 2, 0, 11),
-        ("start-wraps-into-memory", top - 99, 200, 0, 11),
-        ("length-2^64-1", 1, top, 0, 11),
-        ("length-2^32", 0, 1 << 32, 0, 11),
-        ("virt-last", 0, 1, top - 1, 0),
-        ("virt-2^64-1", 0, 1, top, 11),
-    ];
-    for (name, start, length, virt, answer) in ranges {
+    for (name, start, length, virt, answer) in RANGES {
         let mut script = Script::joined();
         if answer == 0 {
             script.register(0, 7, start, length, virt, 513);
@@ -213,9 +214,10 @@ fn pairs() -> Vec<Case> {
     cases
 }
 
-fn modifications() -> Vec<Case> {
+/// Name, command and answer of modifications of pair 0, which is ready to send.
+fn modify_fields() -> Vec<(&'static str, Vec<u8>, u8)> {
     let with = MASK_STATE | MASK_DESTINATION;
-    let fields: [(&str, Vec<u8>, u8); 28] = [
+    vec![
         ("mask-0", modify(0, 0, 6, [0; 3], 0), 4),
         ("mask-bit-15-alone", modify(0, MASK_DESTINATION, 2, [0; 3], 1), 4),
         ("mask-bit-1", modify(0, 3, 6, [0; 3], 0), 4),
@@ -244,14 +246,17 @@ fn modifications() -> Vec<Case> {
         ("qp-dead", move_to(2, 6), 2),
         ("qp-2^32-1", move_to(u32::MAX, 6), 2),
         ("destination-ignored", modify(0, 1, 6, [0; 3], 0), 0),
-    ];
+    ]
+}
+
+fn modifications() -> Vec<Case> {
     let mut cases: Vec<Case> = Vec::new();
-    for (name, command, answer) in fields {
+    for (name, command, answer) in modify_fields() {
         cases.push(one(&format!("modify-{name}").replace('^', "-"), command, answer));
     }
     let mut order = Script::joined();
     order.create(create_pair(0, 2, 0, 0, 0), 2).done(move_to(2, 1));
-    order.refused(modify(2, with, 3, [0; 3], 1), 4).refused(move_to(2, 3), 3);
+    order.refused(modify(2, MASK_STATE | MASK_DESTINATION, 3, [0; 3], 1), 4).refused(move_to(2, 3), 3);
     cases.push(order.named("modify-4-before-3"));
     cases
 }

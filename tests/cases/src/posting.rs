@@ -13,8 +13,10 @@ pub fn cases() -> Vec<Case> {
     cases.extend(places());
     cases.extend(marked_positions());
     cases.extend(local_pieces());
+    cases.extend(local_rights());
     cases.extend(totals());
     cases.extend(remote_ranges());
+    cases.extend(remote_rights());
     cases.extend(deliveries());
     cases.extend(completions());
     cases
@@ -65,12 +67,12 @@ fn records() -> Vec<Case> {
         one("flag-bit-4", changed(&write(4), |record| record[9] = 16), 4, 0),
         one("flag-bit-7", changed(&write(4), |record| record[9] = 128), 4, 0),
         one("fence-signaled-solicited", write(4).flags(FENCE | SIGNALED | SOLICITED).bytes(), 0, 0),
-        one("reserved-bytes-ignored", changed(&write(4), fill_reserved), 0, 0),
+        one("reserved-bytes-ignored", changed(&write(4), |record| fill_reserved(record)), 0, 0),
     ]
 }
 
 /// Sets every byte of a send without inline that has no meaning.
-fn fill_reserved(record: &mut Vec<u8>) {
+fn fill_reserved(record: &mut [u8]) {
     record[10..12].fill(0xff);
     record[28..560].fill(0xff);
     record[564..576].fill(0xff);
@@ -108,11 +110,7 @@ fn pair_states() -> Vec<Case> {
     let mut error = Script::joined();
     error.send(0, write(1).remote(B_VIRT, 0), 0, 8).send(0, write(1), 3, 0);
     error.done(move_to(0, 0)).ready(0, 1).send(0, write(1), 0, 0);
-    vec![
-        numbers.named("send-numbers-not-live"),
-        states.named("send-only-in-rts"),
-        error.named("send-after-a-failed-send"),
-    ]
+    vec![numbers.named("send-numbers-not-live"), states.named("send-only-in-rts"), error.named("send-after-a-failed-send")]
 }
 
 fn peers() -> Vec<Case> {
@@ -225,6 +223,10 @@ fn local_pieces() -> Vec<Case> {
         script.send(0, send, 0, status).poll(0, 1, status, 1, if status == 0 { length } else { 0 }, 0);
         cases.push(script.named(format!("local-{name}")));
     }
+    cases
+}
+
+fn local_rights() -> Vec<Case> {
     let mut each = Script::joined();
     for bad in 0..4 {
         let mut send = Send::new(1, WRITE).remote(B_VIRT, B_KEY);
@@ -234,7 +236,6 @@ fn local_pieces() -> Vec<Case> {
         each.send(0, send, 0, 3).poll(0, 1, 3, 1, 0, 0).memory(B_START, &[0; 20]);
         each.done(move_to(0, 0)).ready(0, 1);
     }
-    cases.push(each.named("local-each-piece-is-tested"));
     let mut rights = Script::joined();
     for access in 0..8 {
         rights.register(0, access, 64, 64, 0, 256 * (2 + access) + 1);
@@ -244,8 +245,7 @@ fn local_pieces() -> Vec<Case> {
         rights.send(0, Send::new(2, READ).piece(0, 64, 256 * (2 + access) + 1).remote(B_VIRT, B_KEY), 0, status);
         rights.poll(0, 2, status, 2, if status == 0 { 64 } else { 0 }, 0).done(move_to(0, 0)).ready(0, 1);
     }
-    cases.push(rights.named("local-rights-for-reading-and-writing"));
-    cases
+    vec![each.named("local-each-piece-is-tested"), rights.named("local-rights-for-reading-and-writing")]
 }
 
 /// The message limit, over a region that covers the whole memory.
@@ -305,6 +305,10 @@ fn remote_ranges() -> Vec<Case> {
             cases.push(script.named(format!("remote-{}-{name}", if opcode == READ { "read" } else { "write" })));
         }
     }
+    cases
+}
+
+fn remote_rights() -> Vec<Case> {
     let mut rights = Script::joined();
     for access in 0..8 {
         rights.register(1, access, 0, 64, 0, 256 * (2 + access) + 1);
@@ -314,13 +318,11 @@ fn remote_ranges() -> Vec<Case> {
             rights.poll(0, 1, status, done, if status == 0 { 4 } else { 0 }, 0).done(move_to(0, 0)).ready(0, 1);
         }
     }
-    cases.push(rights.named("remote-rights-for-write-and-read"));
     let mut over = Script::joined();
     let send = Send::new(1, WRITE).piece(A_VIRT, 1000, A_KEY).piece(A_VIRT, 25, A_KEY).remote(B_VIRT, B_KEY);
     over.put(1, 0, &[5; 32]).send(0, send, 0, 8).poll(0, 1, 8, 1, 0, 0).memory(B_START, &[0; 2048]);
     over.send(1, Send::new(2, WRITE), 5, 0);
-    cases.push(over.named("remote-range-is-the-total-not-a-piece"));
-    cases
+    vec![rights.named("remote-rights-for-write-and-read"), over.named("remote-range-is-the-total-not-a-piece")]
 }
 
 fn deliveries() -> Vec<Case> {
@@ -331,7 +333,12 @@ fn deliveries() -> Vec<Case> {
     gather.send(0, send.remote(B_VIRT + 8, B_KEY), 0, 0).memory(B_START, &[0; 8]);
     gather.memory(B_START + 8, &[4, 5, 1, 61, 62, 63, 64, 0]);
     let mut read = Script::joined();
-    read.put(0, 100, &text).send(0, Send::new(1, READ).piece(A_VIRT, 2, A_KEY).piece(A_VIRT + 9, 3, A_KEY).remote(B_VIRT + 100, B_KEY), 0, 0);
+    read.put(0, 100, &text).send(
+        0,
+        Send::new(1, READ).piece(A_VIRT, 2, A_KEY).piece(A_VIRT + 9, 3, A_KEY).remote(B_VIRT + 100, B_KEY),
+        0,
+        0,
+    );
     read.memory(0, &[1, 2, 0, 0, 0, 0, 0, 0, 0, 3, 4, 5, 0]);
     let mut receive = Script::joined();
     receive.put(1, 0, &text).receive(1, 6, &[piece(B_VIRT + 4, 3, B_KEY), piece(B_VIRT, 20, B_KEY)], 0);

@@ -14,14 +14,37 @@ pub struct Case {
 
 pub enum Step {
     /// A control command, its answer and the bytes that it writes to the ack.
-    Control { command: Vec<u8>, answer: u8, ack: Vec<u8> },
-    Send { qpn: u8, record: Vec<u8>, answer: u8, status: u8 },
-    Receive { qpn: u8, record: Vec<u8>, answer: u8 },
-    Flush { qpn: u8, answer: u8 },
+    Control {
+        command: Vec<u8>,
+        answer: u8,
+        ack: Vec<u8>,
+    },
+    Send {
+        qpn: u8,
+        record: Vec<u8>,
+        answer: u8,
+        status: u8,
+    },
+    Receive {
+        qpn: u8,
+        record: Vec<u8>,
+        answer: u8,
+    },
+    Flush {
+        qpn: u8,
+        answer: u8,
+    },
     /// A poll, and the completion if it is answered 0.
-    Poll { cqn: u8, answer: u8, completion: Option<Completion> },
+    Poll {
+        cqn: u8,
+        answer: u8,
+        completion: Option<Completion>,
+    },
     /// What memory holds from here on; not on a tape.
-    Memory { at: usize, bytes: Vec<u8> },
+    Memory {
+        at: usize,
+        bytes: Vec<u8>,
+    },
     /// Bytes that are no record; on a tape only.
     Raw(Vec<u8>),
 }

@@ -4,13 +4,29 @@ use crate::script::*;
 use cards::build::create_domain;
 
 pub fn cases() -> Vec<Case> {
+    let mut cases = Vec::new();
+    for (name, bytes) in tapes() {
+        let mut script = Script::new();
+        script.raw(&bytes);
+        cases.push(script.named(format!("tape-{name}")));
+        if !bytes.is_empty() {
+            let mut script = Script::new();
+            script.create(create_domain(), 0).raw(&bytes).create(create_domain(), 1);
+            cases.push(script.named(format!("tape-{name}-between-good-records")));
+        }
+    }
+    cases
+}
+
+/// The bytes of each tape by name.
+fn tapes() -> Vec<(&'static str, Vec<u8>)> {
     let good: &[u8] = &[0x52, 0x4b, 1, 0, 2, 0, 6, 4];
     let header = |kind: u8, length: u16| {
         let [low, high] = length.to_le_bytes();
         vec![0x52, 0x4b, kind, 0, low, high]
     };
     let body = |kind: u8, length: u16| [header(kind, length), vec![0; length.into()]].concat();
-    let rows: Vec<(&str, Vec<u8>)> = vec![
+    vec![
         ("empty", vec![]),
         ("first-mark-byte", vec![0x53, 0x4b, 1, 0, 2, 0, 6, 4]),
         ("second-mark-byte", vec![0x52, 0x4c, 1, 0, 2, 0, 6, 4]),
@@ -35,17 +51,5 @@ pub fn cases() -> Vec<Case> {
         ("cut-body", good[..7].to_vec()),
         ("cut-body-whole", header(1, 2)),
         ("numbers-8-and-255", [[0x52, 0x4b, 4, 8, 0, 0], [0x52, 0x4b, 5, 255, 0, 0]].concat()),
-    ];
-    let mut cases = Vec::new();
-    for (name, bytes) in rows {
-        let mut script = Script::new();
-        script.raw(&bytes);
-        cases.push(script.named(format!("tape-{name}")));
-        if !bytes.is_empty() {
-            let mut script = Script::new();
-            script.create(create_domain(), 0).raw(&bytes).create(create_domain(), 1);
-            cases.push(script.named(format!("tape-{name}-between-good-records")));
-        }
-    }
-    cases
+    ]
 }

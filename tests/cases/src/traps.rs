@@ -5,7 +5,10 @@ use cards::build::*;
 use reference::record::*;
 
 pub fn cases() -> Vec<Case> {
-    [orders(), shared_queue(), empties(), receive_lists(), dropped_regions(), overlaps(), lives()].into_iter().flatten().collect()
+    [orders(), shared_queue(), empties(), receive_lists(), receive_rights(), dropped_regions(), overlaps(), lives()]
+        .into_iter()
+        .flatten()
+        .collect()
 }
 
 fn send(length: u32) -> Send {
@@ -82,7 +85,6 @@ fn empties() -> Vec<Case> {
 }
 
 fn receive_lists() -> Vec<Case> {
-    let whole = piece(B_VIRT, REGION, B_KEY);
     let dead = piece(B_VIRT, REGION, 0);
     let at = |length| piece(B_VIRT, length, B_KEY);
     type Row<'a> = (&'a str, Vec<Piece>, u32, u8, u8);
@@ -113,6 +115,12 @@ fn receive_lists() -> Vec<Case> {
         }
         cases.push(script.named(format!("receive-list-{name}")));
     }
+    cases
+}
+
+fn receive_rights() -> Vec<Case> {
+    let whole = piece(B_VIRT, REGION, B_KEY);
+    let dead = piece(B_VIRT, REGION, 0);
     let mut rights = Script::joined();
     for access in 0..8 {
         let (key, status) = (256 * (2 + access) + 1, if access & 1 == 1 { 0 } else { 7 });
@@ -120,19 +128,20 @@ fn receive_lists() -> Vec<Case> {
         rights.poll(1, 5, if status == 0 { 0 } else { 3 }, 3, if status == 0 { 4 } else { 0 }, 1);
         rights.done(move_to(0, 0)).done(move_to(1, 0)).join_pairs(0, 1);
     }
-    cases.push(rights.named("receive-list-needs-local-write"));
     let mut written = Script::joined();
     for pieces in [vec![dead], vec![], vec![whole]] {
         written.receive(1, 5, &pieces, 0);
         let write = Send::new(1, WRITE_IMMEDIATE).inline(&[8; 16]).remote(B_VIRT + 32, B_KEY).immediate(77);
         written.send(0, write, 0, 0).poll(0, 1, 0, 1, 16, 0).poll_immediate(1, 5, [0, 4], 16, 77, 1).memory(B_START, &[0; 32]);
     }
-    cases.push(written.named("write-with-immediate-touches-no-list"));
     let mut outside = Script::joined();
     outside.receive(1, 5, &[whole], 0).send(0, Send::new(1, WRITE_IMMEDIATE).inline(&[8; 2]).remote(B_VIRT + 1023, B_KEY), 0, 8);
     outside.poll(0, 1, 8, 1, 0, 0).poll_empty(1).done(move_to(0, 0)).ready(0, 1).send(0, send(4), 0, 0).poll(1, 5, 0, 3, 4, 1);
-    cases.push(outside.named("failed-write-with-immediate-takes-no-receive"));
-    cases
+    vec![
+        rights.named("receive-list-needs-local-write"),
+        written.named("write-with-immediate-touches-no-list"),
+        outside.named("failed-write-with-immediate-takes-no-receive"),
+    ]
 }
 
 fn dropped_regions() -> Vec<Case> {

@@ -67,7 +67,13 @@ fn ack_needs_13_bytes() {
                 let short = length < 13;
                 assert_eq!(card.control(&mut state, &command, &mut ack), answer(if short { 12 } else { wanted }));
                 assert_eq!(state == good, short || wanted != 0);
-                let written = if short { 0 } else if wanted == 0 { 5 } else { 1 };
+                let written = if short {
+                    0
+                } else if wanted == 0 {
+                    5
+                } else {
+                    1
+                };
                 assert!(ack[written..].iter().all(|&byte| byte == LEFT));
                 assert!(short || ack[0] == u8::from(wanted != 0));
             }
@@ -160,7 +166,8 @@ fn a_reset_mends_a_damaged_state() {
 
 #[test]
 fn forged_but_acceptable_states() {
-    let changes: [(&str, &[(usize, u8)], u8); 5] = [
+    type Change<'a> = (&'a str, &'a [(usize, u8)], u8);
+    let changes: [Change; 5] = [
         ("ready to send without destination", &[(PAIR_ROWS + 6, 8)], 5),
         ("destination not live", &[(PAIR_ROWS + 6, 7)], 5),
         ("peer in state 0 with a waiting receive", &[(PAIR_ROWS + PAIR_ROW + 5, 0)], 5),
@@ -179,47 +186,47 @@ fn forged_but_acceptable_states() {
     }
 }
 
+/// A fault, and the bytes of the sample that make it.
+const FAULTS: [(Fault, usize, &[u8]); 27] = [
+    (Fault::MemoryLength, MEMORY_LENGTH, &[0, 0]),
+    (Fault::MemoryLength, MEMORY_LENGTH + 2, &[17]),
+    (Fault::DomainFlag, DOMAIN_FLAGS + 5, &[2]),
+    (Fault::QueuePlaces, QUEUE_ROWS, &[17]),
+    (Fault::QueueFirst, QUEUE_ROWS + 1, &[16]),
+    (Fault::QueueCount, QUEUE_ROWS + 2, &[5]),
+    (Fault::CompletionStatus, COMPLETION_ROWS + 8, &[2]),
+    (Fault::CompletionOpcode, COMPLETION_ROWS + 9, &[5]),
+    (Fault::CompletionLength, COMPLETION_ROWS + 12, &[1, 16]),
+    (Fault::CompletionOwner, COMPLETION_ROWS + 20, &[8]),
+    (Fault::RegionFlag, REGION_FLAGS + 31, &[2]),
+    (Fault::RegionAccess, REGION_ROWS, &[8]),
+    (Fault::RegionVariant, REGION_ROWS + 1, &[0]),
+    (Fault::RegionDomain, REGION_ROWS + 2, &[2]),
+    (Fault::RegionEmpty, REGION_ROWS + 16, &[0, 0]),
+    (Fault::RegionMemory, REGION_ROWS + 8, &[1]),
+    (Fault::RegionAddress, REGION_ROWS + 24, &[0, 0xf0, 0xff, 0xff, 0xff, 0xff, 0xff, 0xff]),
+    (Fault::PairFlag, PAIR_ROWS, &[2]),
+    (Fault::PairDomain, PAIR_ROWS + 1, &[8]),
+    (Fault::PairSignal, PAIR_ROWS + 2, &[2]),
+    (Fault::PairSendQueue, PAIR_ROWS + 3, &[2]),
+    (Fault::PairReceiveQueue, PAIR_ROWS + 4, &[255]),
+    (Fault::PairState, PAIR_ROWS + 5, &[5]),
+    (Fault::PairDestination, PAIR_ROWS + 6, &[9]),
+    (Fault::PairNamesItself, PAIR_ROWS + 6, &[0]),
+    (Fault::WaitingCount, WAITING_ROWS + 3, &[5]),
+    (Fault::ReceivePieces, RECEIVE_ROWS + 4 * RECEIVE_ROW + 8, &[3]),
+];
+
 #[test]
 fn each_fault_is_found() {
-    let entry = COMPLETION_ROWS;
-    let region = REGION_ROWS;
-    let faults: [(Fault, usize, &[u8]); 27] = [
-        (Fault::MemoryLength, MEMORY_LENGTH, &[0, 0]),
-        (Fault::MemoryLength, MEMORY_LENGTH + 2, &[17]),
-        (Fault::DomainFlag, DOMAIN_FLAGS + 5, &[2]),
-        (Fault::QueuePlaces, QUEUE_ROWS, &[17]),
-        (Fault::QueueFirst, QUEUE_ROWS + 1, &[16]),
-        (Fault::QueueCount, QUEUE_ROWS + 2, &[5]),
-        (Fault::CompletionStatus, entry + 8, &[2]),
-        (Fault::CompletionOpcode, entry + 9, &[5]),
-        (Fault::CompletionLength, entry + 12, &[1, 16]),
-        (Fault::CompletionOwner, entry + 20, &[8]),
-        (Fault::RegionFlag, REGION_FLAGS + 31, &[2]),
-        (Fault::RegionAccess, region, &[8]),
-        (Fault::RegionVariant, region + 1, &[0]),
-        (Fault::RegionDomain, region + 2, &[2]),
-        (Fault::RegionEmpty, region + 16, &[0, 0]),
-        (Fault::RegionMemory, region + 8, &[1]),
-        (Fault::RegionAddress, region + 24, &[0, 0xf0, 0xff, 0xff, 0xff, 0xff, 0xff, 0xff]),
-        (Fault::PairFlag, PAIR_ROWS, &[2]),
-        (Fault::PairDomain, PAIR_ROWS + 1, &[8]),
-        (Fault::PairSignal, PAIR_ROWS + 2, &[2]),
-        (Fault::PairSendQueue, PAIR_ROWS + 3, &[2]),
-        (Fault::PairReceiveQueue, PAIR_ROWS + 4, &[255]),
-        (Fault::PairState, PAIR_ROWS + 5, &[5]),
-        (Fault::PairDestination, PAIR_ROWS + 6, &[9]),
-        (Fault::PairNamesItself, PAIR_ROWS + 6, &[0]),
-        (Fault::WaitingCount, WAITING_ROWS + 3, &[5]),
-        (Fault::ReceivePieces, RECEIVE_ROWS + 4 * RECEIVE_ROW + 8, &[3]),
-    ];
     let good = sample(&Reference);
     assert_eq!(fault(&good), None);
-    for (wanted, at, bytes) in faults {
+    for (wanted, at, bytes) in FAULTS {
         let mut state = good.clone();
         state[at..at + bytes.len()].copy_from_slice(bytes);
         assert_eq!(fault(&state), Some(wanted));
     }
     let mut edge = good.clone();
-    edge[region + 24..region + 32].copy_from_slice(&(u64::MAX - 4096).to_le_bytes());
+    edge[REGION_ROWS + 24..REGION_ROWS + 32].copy_from_slice(&(u64::MAX - 4096).to_le_bytes());
     assert_eq!(fault(&edge), None);
 }

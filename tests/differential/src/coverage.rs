@@ -36,7 +36,8 @@ const COMMANDS: [(u8, &[u8]); 9] = [
 ];
 
 /// Every status of each opcode.
-const STATUSES: [(u8, &[u8]); 5] = [(0, &[0, 1, 3, 8]), (1, &[0, 1, 3, 8]), (2, &[0, 1, 3, 7]), (3, &[0, 1, 3, 7]), (4, &[0, 1, 3, 8])];
+const STATUSES: [(u8, &[u8]); 5] =
+    [(0, &[0, 1, 3, 8]), (1, &[0, 1, 3, 8]), (2, &[0, 1, 3, 7]), (3, &[0, 1, 3, 7]), (4, &[0, 1, 3, 8])];
 
 /// Every status of each completion opcode.
 const COMPLETIONS: [(u8, &[u8]); 5] = [(0, &[0, 1, 3, 7]), (1, &[0, 1, 3, 8]), (2, &[0, 1, 3, 8]), (3, &[0, 1, 3, 4]), (4, &[0])];
@@ -111,7 +112,9 @@ impl Coverage {
             Local::Pieces { count, .. } => ["no bytes", "one piece", "two pieces", "three pieces", "four pieces"][count],
         };
         let empty_piece = match &send.local {
-            Local::Pieces { pieces, count } => pieces[..*count].iter().any(|piece| piece.length == 0) && total(&pieces[..*count]) > 0,
+            Local::Pieces { pieces, count } => {
+                pieces[..*count].iter().any(|piece| piece.length == 0) && total(&pieces[..*count]) > 0
+            }
             Local::Inline(_) => false,
         };
         let list = peer.waiting.first().map_or(0, |receive| receive.pieces.len());

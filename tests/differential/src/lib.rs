@@ -1,5 +1,5 @@
-//! Plays long lists of calls on the reference and on another card and compares answer, status, ack, completion, every memory byte and
-//! every object of the state after each call; and that a refused call changed nothing.
+//! Plays long lists of calls on the reference and on another card and compares answer, status, ack, completion, every memory byte
+//! and every object of the state after each call; and that a refused call changed nothing.
 
 mod coverage;
 mod side;

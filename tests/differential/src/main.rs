@@ -28,5 +28,9 @@ fn main() -> ExitCode {
         println!("DIFFERS {difference}");
     }
     println!("{} calls, {} differences, {missing} cells never seen", report.calls, report.differences.len());
-    if missing == 0 && report.differences.is_empty() { ExitCode::SUCCESS } else { ExitCode::FAILURE }
+    if missing == 0 && report.differences.is_empty() {
+        ExitCode::SUCCESS
+    } else {
+        ExitCode::FAILURE
+    }
 }

@@ -74,7 +74,7 @@ impl Generator {
             1 => 0,
             2 => u64::MAX - length,
             3 => u64::MAX - length - self.rng.below(5000),
-            _ => self.rng.next() >> 1,
+            _ => self.rng.word() >> 1,
         };
         let access = if self.rng.percent(60) { 7 } else { self.rng.below(8) as u32 };
         register(self.live_domain(card), access, start, length, virt)
@@ -103,7 +103,11 @@ impl Generator {
             12..=16 => self.any_move(card),
             _ => self.removal(card),
         };
-        if self.rng.percent(self.changed + 10) { self.change_command(command, card) } else { command }
+        if self.rng.percent(self.changed + 10) {
+            self.change_command(command, card)
+        } else {
+            command
+        }
     }
 
     fn any_move(&mut self, card: &Listing) -> Vec<u8> {
@@ -114,7 +118,7 @@ impl Generator {
         match self.rng.pick(&[0, 1, 2, 3, 6, 6]) {
             2 if self.rng.percent(10) => join(number, number),
             2 => join(number, self.other_pair(number % 8)),
-            state => modify(number, MASK_STATE, state, [0; 3], self.rng.next() as u32),
+            state => modify(number, MASK_STATE, state, [0; 3], self.rng.word() as u32),
         }
     }
 

@@ -76,7 +76,7 @@ impl Generator {
     pub fn many_variants(&mut self) -> Vec<Call> {
         let mut calls = vec![control(build::create_domain())];
         for _ in 0..260 {
-            calls.push(control(build::register(0, 7, 0, 1, self.rng.next() >> 1)));
+            calls.push(control(build::register(0, 7, 0, 1, self.rng.word() >> 1)));
             calls.push(control(build::deregister(0)));
         }
         calls
@@ -85,7 +85,11 @@ impl Generator {
     /// The next call, in view of what the card holds.
     pub fn next(&mut self, card: &Listing) -> Call {
         let call = self.plain(card);
-        if self.rng.percent(self.changed) { self.change_lengths(call, card) } else { call }
+        if self.rng.percent(self.changed) {
+            self.change_lengths(call, card)
+        } else {
+            call
+        }
     }
 
     fn plain(&mut self, card: &Listing) -> Call {
@@ -145,7 +149,11 @@ impl Generator {
 
     fn next_wr_id(&mut self) -> u64 {
         self.wr_id += 1;
-        if self.rng.percent(95) { self.wr_id } else { self.rng.next() }
+        if self.rng.percent(95) {
+            self.wr_id
+        } else {
+            self.rng.word()
+        }
     }
 
     /// Takes notice of a registration.

@@ -30,7 +30,7 @@ impl Generator {
     /// An address that just misses, or just fits, a range of `length` bytes under the key.
     fn edge_address(&mut self, card: &Listing, key: u32, length: u64) -> u64 {
         let Some(region) = card.regions.get((key >> 8) as usize).copied().flatten() else {
-            return self.rng.next();
+            return self.rng.word();
         };
         let end = region.virt + region.length;
         match self.rng.below(7) {
@@ -46,7 +46,7 @@ impl Generator {
 
     pub(crate) fn change_pieces(&mut self, pieces: &mut Vec<Piece>, card: &Listing) {
         if pieces.is_empty() {
-            pieces.push(Piece { address: self.rng.next(), length: self.rng.below(3) as u32, key: self.live_key(card) });
+            pieces.push(Piece { address: self.rng.word(), length: self.rng.below(3) as u32, key: self.live_key(card) });
             return;
         }
         let n = self.rng.index(pieces.len());
@@ -55,7 +55,7 @@ impl Generator {
             2 | 3 => pieces[n].address = self.edge_address(card, pieces[n].key, pieces[n].length.into()),
             4 => pieces[n].length = pieces[n].length.wrapping_add(self.rng.pick(&[1, u32::MAX, 16])),
             5 => pieces[n].length = self.rng.pick(&[0, 4096, 4097, 1 << 31, u32::MAX]),
-            6 => pieces[n] = Piece { address: u64::MAX, length: 0, key: self.rng.next() as u32 },
+            6 => pieces[n] = Piece { address: u64::MAX, length: 0, key: self.rng.word() as u32 },
             _ => pieces.swap(0, n),
         }
     }
@@ -68,7 +68,7 @@ impl Generator {
             5 | 6 => send.address = self.edge_address(card, send.key, bytes),
             7 => self.set_total(send),
             8 => {
-                let extra = Piece { address: self.rng.next(), length: 0, key: self.rng.next() as u32 };
+                let extra = Piece { address: self.rng.word(), length: 0, key: self.rng.word() as u32 };
                 send.pieces.insert(self.rng.index(send.pieces.len() + 1), extra);
             }
             9 => send.key = self.domain_key(card, number).unwrap_or(send.key),
@@ -113,8 +113,8 @@ impl Generator {
 
     pub(crate) fn change_send_record(&mut self, record: &mut Vec<u8>) {
         match self.rng.below(7) {
-            0 => record[8] = self.rng.next() as u8,
-            1 => record[9] = self.rng.next() as u8,
+            0 => record[8] = self.rng.word() as u8,
+            1 => record[9] = self.rng.word() as u8,
             2 => record[9] ^= INLINE,
             3 => record[COUNT_AT + self.rng.index(4)] ^= 1 << self.rng.below(8),
             _ => self.change_length(record),
@@ -183,7 +183,7 @@ impl Generator {
             0 => put32(command, 6, get32(command, 6) ^ 1 << 15),
             1 => put32(command, 6, get32(command, 6) ^ 1 << self.rng.below(32)),
             2 => command[10] = self.rng.below(8) as u8,
-            3 => command[11 + self.rng.index(3)] = self.rng.next() as u8,
+            3 => command[11 + self.rng.index(3)] = self.rng.word() as u8,
             4 => put32(command, 14, self.rng.pick(&[7, 8, 256, u32::MAX])),
             _ => put32(command, 14, get32(command, 2)),
         }

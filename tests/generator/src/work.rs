@@ -42,9 +42,9 @@ impl Generator {
     fn good_send(&mut self, card: &Listing, number: usize, opcode: u8, peer: Option<&PairListing>) -> Send {
         let mut send = Send::new(self.next_wr_id(), opcode);
         send.flags = self.rng.below(8) as u8;
-        send.immediate = self.rng.next() as u32;
+        send.immediate = self.rng.word() as u32;
         let (Some(sender), Some(peer)) = (&card.pairs[number], peer) else {
-            return send.remote(self.rng.next(), self.rng.next() as u32);
+            return send.remote(self.rng.word(), self.rng.word() as u32);
         };
         let mut limit = MOST_MESSAGE as u64;
         let right = match opcode {
@@ -52,7 +52,8 @@ impl Generator {
             READ => REMOTE_READ,
             _ => 0,
         };
-        let remote = self.rng.choose(&regions_of(card, peer.pair.domain, right)).and_then(|slot| card.regions[slot].map(|r| (slot, r)));
+        let remote =
+            self.rng.choose(&regions_of(card, peer.pair.domain, right)).and_then(|slot| card.regions[slot].map(|r| (slot, r)));
         if right == 0 {
             limit = limit.min(peer.waiting.first().map_or(0, |list| total(&list.pieces)));
         } else {

@@ -25,5 +25,9 @@ fn main() -> ExitCode {
     let mut rng = Rng::new(seed);
     states::compare(other, &mut rng, &mut tally);
     records::compare(other, &mut rng, &mut tally);
-    if tally.report() { ExitCode::SUCCESS } else { ExitCode::FAILURE }
+    if tally.report() {
+        ExitCode::SUCCESS
+    } else {
+        ExitCode::FAILURE
+    }
 }

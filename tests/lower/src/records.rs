@@ -18,11 +18,20 @@ struct Reader {
     answers: &'static [u32],
 }
 
-const SEND: Reader = Reader { name: "read send", read: |lower, record, out| lower.read_send(record, out), out: SEND_OUT, answers: &[0, 1, 4] };
-const RECEIVE: Reader =
-    Reader { name: "read receive", read: |lower, record, out| lower.read_receive(record, out), out: RECEIVE_OUT, answers: &[0, 1, 4] };
-const COMMAND: Reader =
-    Reader { name: "read command", read: |lower, record, out| lower.read_command(record, out), out: COMMAND_OUT, answers: &[0, 1, 13] };
+const SEND: Reader =
+    Reader { name: "read send", read: |lower, record, out| lower.read_send(record, out), out: SEND_OUT, answers: &[0, 1, 4] };
+const RECEIVE: Reader = Reader {
+    name: "read receive",
+    read: |lower, record, out| lower.read_receive(record, out),
+    out: RECEIVE_OUT,
+    answers: &[0, 1, 4],
+};
+const COMMAND: Reader = Reader {
+    name: "read command",
+    read: |lower, record, out| lower.read_command(record, out),
+    out: COMMAND_OUT,
+    answers: &[0, 1, 13],
+};
 
 pub fn compare(other: &dyn Lower, rng: &mut Rng, tally: &mut Tally) {
     for reader in [SEND, RECEIVE, COMMAND] {
@@ -47,7 +56,9 @@ impl Reader {
             let answer = (self.read)(&ReferenceLower, record, &mut wanted);
             let shown = (self.read)(other, record, &mut found);
             tally.count(self.name, format!("answer {answer}"));
-            tally.same(self.name, (shown, &found[..self.out.min(length)]), (answer, &wanted[..self.out.min(length)]), || hex(record));
+            tally.same(self.name, (shown, &found[..self.out.min(length)]), (answer, &wanted[..self.out.min(length)]), || {
+                hex(record)
+            });
         }
     }
 
@@ -62,11 +73,11 @@ impl Reader {
 }
 
 fn random_send(rng: &mut Rng) -> Vec<u8> {
-    let mut send = Send::new(rng.next(), rng.below(6) as u8).remote(rng.next(), rng.next() as u32).immediate(rng.next() as u32);
+    let mut send = Send::new(rng.word(), rng.below(6) as u8).remote(rng.word(), rng.word() as u32).immediate(rng.word() as u32);
     send.flags = rng.below(18) as u8;
-    send.inline = vec![rng.next() as u8; rng.pick(&[0, 1, 4, 5, 255, 256, 511, 512, 513, 1000])];
+    send.inline = vec![rng.word() as u8; rng.pick(&[0, 1, 4, 5, 255, 256, 511, 512, 513, 1000])];
     for _ in 0..rng.below(6) {
-        send.pieces.push(Piece { address: rng.next(), length: rng.next() as u32, key: rng.next() as u32 });
+        send.pieces.push(Piece { address: rng.word(), length: rng.word() as u32, key: rng.word() as u32 });
     }
     let mut record = send.bytes();
     rng.fill(&mut record[10..12]);
@@ -81,7 +92,7 @@ fn sends(other: &dyn Lower, rng: &mut Rng, tally: &mut Tally) {
         match n % 4 {
             0 => {}
             1 => record.resize(rng.index(680), 0),
-            2 => record[COUNT_AT + rng.index(4)] = rng.next() as u8,
+            2 => record[COUNT_AT + rng.index(4)] = rng.word() as u8,
             _ => {
                 let at = rng.index(record.len());
                 record[at] ^= 1 << rng.below(8);
@@ -118,15 +129,19 @@ fn inline(other: &dyn Lower, record: &[u8], rng: &mut Rng, tally: &mut Tally) {
     let (mut found, mut wanted) = (vec![LEFT; length], vec![LEFT; length]);
     let count = ReferenceLower.inline(record, &mut wanted);
     let shown = other.inline(record, &mut found);
-    let announced = if record.len() < COUNT_AT + 2 { 0 } else { usize::from(u16::from_le_bytes([record[COUNT_AT], record[COUNT_AT + 1]])) };
-    tally.count("inline", match count {
-        _ if record.len() < COUNT_AT + 2 => "record too short",
-        0 => "no bytes",
-        _ if count < announced => "cut by the record",
-        _ if count > length => "cut by the buffer",
-        512 => "512 bytes",
-        _ => "some bytes",
-    });
+    let announced =
+        if record.len() < COUNT_AT + 2 { 0 } else { usize::from(u16::from_le_bytes([record[COUNT_AT], record[COUNT_AT + 1]])) };
+    tally.count(
+        "inline",
+        match count {
+            _ if record.len() < COUNT_AT + 2 => "record too short",
+            0 => "no bytes",
+            _ if count < announced => "cut by the record",
+            _ if count > length => "cut by the buffer",
+            512 => "512 bytes",
+            _ => "some bytes",
+        },
+    );
     tally.same("inline", (shown, found), (count, wanted), || hex(record));
 }
 
@@ -134,9 +149,9 @@ fn receives(other: &dyn Lower, rng: &mut Rng, tally: &mut Tally) {
     for n in 0..20_000 {
         let mut pieces = vec![Piece::default(); rng.index(4)];
         for piece in &mut pieces {
-            *piece = Piece { address: rng.next(), length: rng.next() as u32, key: rng.next() as u32 };
+            *piece = Piece { address: rng.word(), length: rng.word() as u32, key: rng.word() as u32 };
         }
-        let mut record = receive(rng.next(), &pieces);
+        let mut record = receive(rng.word(), &pieces);
         rng.fill(&mut record[12..24]);
         match n % 3 {
             0 => {}
@@ -163,11 +178,11 @@ fn commands(other: &dyn Lower, rng: &mut Rng, tally: &mut Tally) {
         }
     }
     for _ in 0..5_000 {
-        let (a, b) = (rng.next() as u32, rng.next() as u32);
+        let (a, b) = (rng.word() as u32, rng.word() as u32);
         let record = match rng.below(4) {
-            0 => register(a, b, rng.next(), rng.next(), rng.next()),
-            1 => create_pair(a, rng.next() as u8, rng.next() as u8, b, rng.next() as u32),
-            2 => modify(a, b, rng.next() as u8, [rng.next() as u8, 0, 1], rng.next() as u32),
+            0 => register(a, b, rng.word(), rng.word(), rng.word()),
+            1 => create_pair(a, rng.word() as u8, rng.word() as u8, b, rng.word() as u32),
+            2 => modify(a, b, rng.word() as u8, [rng.word() as u8, 0, 1], rng.word() as u32),
             _ => number_command(rng.pick(&[2, 3, 5, 8, 12]), a),
         };
         COMMAND.check(other, &record, tally);

@@ -23,7 +23,7 @@ pub fn compare(other: &dyn Lower, rng: &mut Rng, tally: &mut Tally) {
     }
     tally.require("free", "not accepted");
     for n in 0..REACHED {
-        let state = reached_state(rng.next(), if n % 4 == 0 { 20 * n } else { 10 + 5 * n });
+        let state = reached_state(rng.word(), if n % 4 == 0 { 20 * n } else { 10 + 5 * n });
         one(other, &state, tally);
         each_field(other, &state, tally);
         for _ in 0..DAMAGED {
@@ -31,7 +31,7 @@ pub fn compare(other: &dyn Lower, rng: &mut Rng, tally: &mut Tally) {
         }
     }
     full_tables(other, tally);
-    lengths(other, &reached_state(rng.next(), 400), tally);
+    lengths(other, &reached_state(rng.word(), 400), tally);
     random(other, rng, tally);
 }
 
@@ -51,11 +51,14 @@ fn accepted(other: &dyn Lower, state: &[u8], tally: &mut Tally) {
 fn free(other: &dyn Lower, state: &[u8], table: usize, tally: &mut Tally) {
     let (name, count) = TABLES[table];
     let wanted = ReferenceLower.free(state, table as u32);
-    tally.count("free", match wanted as usize {
-        255 => "not accepted".into(),
-        n if n == count => format!("{name} none"),
-        n => format!("{name} {n}"),
-    });
+    tally.count(
+        "free",
+        match wanted as usize {
+            255 => "not accepted".into(),
+            n if n == count => format!("{name} none"),
+            n => format!("{name} {n}"),
+        },
+    );
     tally.same("free", other.free(state, table as u32), wanted, || format!("table {name}"));
 }
 

@@ -40,13 +40,19 @@ impl Tally {
                 println!("  {outcome:<28}{count:>10}");
             }
         }
-        let missing = |(check, outcome): &&(&'static str, String)| !self.counts.get(check).is_some_and(|seen| seen.contains_key(outcome));
+        let missing =
+            |(check, outcome): &&(&'static str, String)| !self.counts.get(check).is_some_and(|seen| seen.contains_key(outcome));
         let missing: Vec<_> = self.required.iter().filter(missing).collect();
         for (check, outcome) in &missing {
             println!("NEVER SEEN {check}: {outcome}");
         }
         let checks = self.counts.len() + self.required.len();
-        println!("{} differences; {} of {} outcomes seen in {checks} checks", self.differences, self.required.len() - missing.len(), self.required.len());
+        println!(
+            "{} differences; {} of {} outcomes seen in {checks} checks",
+            self.differences,
+            self.required.len() - missing.len(),
+            self.required.len()
+        );
         self.differences == 0 && missing.is_empty()
     }
 }

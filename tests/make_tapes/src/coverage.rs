@@ -54,8 +54,9 @@ impl Coverage {
     pub fn report(&self) -> usize {
         let answers = ANSWERS.iter().flat_map(|(kind, list)| list.iter().map(move |answer| format!("{kind} answer {answer}")));
         let statuses = STATUSES.iter().map(|status| format!("status {status}"));
-        let completions =
-            COMPLETIONS.iter().flat_map(|(opcode, list)| list.iter().map(move |status| format!("completion {opcode} status {status}")));
+        let completions = COMPLETIONS
+            .iter()
+            .flat_map(|(opcode, list)| list.iter().map(move |status| format!("completion {opcode} status {status}")));
         let mut missing = 0;
         for cell in answers.chain(statuses).chain(completions) {
             let count = self.cells.get(&cell).copied().unwrap_or(0);

@@ -57,7 +57,11 @@ fn main() -> ExitCode {
         println!("{:<48}{:>18}{failed:>14}", card.name(), found.unwrap_or("NOT FOUND".into()));
     }
     println!("{} wrong cards, {survivors} not found", ALL.len());
-    if survivors == 0 { ExitCode::SUCCESS } else { ExitCode::FAILURE }
+    if survivors == 0 {
+        ExitCode::SUCCESS
+    } else {
+        ExitCode::FAILURE
+    }
 }
 
 fn first_call(difference: &str) -> String {

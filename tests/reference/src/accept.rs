@@ -172,5 +172,9 @@ fn live_queue(state: &State, number: u8) -> bool {
 }
 
 fn ensure(holds: bool, fault: Fault) -> Result<(), Fault> {
-    if holds { Ok(()) } else { Err(fault) }
+    if holds {
+        Ok(())
+    } else {
+        Err(fault)
+    }
 }

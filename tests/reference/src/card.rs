@@ -259,5 +259,9 @@ impl<'a> Card<'a> {
 /// The number as an index, if it is in its table and live.
 fn live(number: u32, count: usize, is_live: impl Fn(usize) -> bool) -> Result<usize, Refusal> {
     let number = number as usize;
-    if number < count && is_live(number) { Ok(number) } else { Err(Refusal::NotLive) }
+    if number < count && is_live(number) {
+        Ok(number)
+    } else {
+        Err(Refusal::NotLive)
+    }
 }

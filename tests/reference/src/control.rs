@@ -130,14 +130,7 @@ fn deregister(card: &mut Card, number: u32) -> Result<Ack, Refusal> {
     Ok(Ack::Empty)
 }
 
-fn create_pair(
-    card: &mut Card,
-    domain: u32,
-    kind: u8,
-    signal: u8,
-    send_queue: u32,
-    receive_queue: u32,
-) -> Result<Ack, Refusal> {
+fn create_pair(card: &mut Card, domain: u32, kind: u8, signal: u8, send_queue: u32, receive_queue: u32) -> Result<Ack, Refusal> {
     if kind != RELIABLE_CONNECTION || signal > 1 {
         return Err(Refusal::BadField);
     }
@@ -154,14 +147,7 @@ fn create_pair(
     Ok(Ack::Number(number))
 }
 
-fn modify_pair(
-    card: &mut Card,
-    number: u32,
-    mask: u32,
-    state: u8,
-    padding: [u8; 3],
-    destination: u32,
-) -> Result<Ack, Refusal> {
+fn modify_pair(card: &mut Card, number: u32, mask: u32, state: u8, padding: [u8; 3], destination: u32) -> Result<Ack, Refusal> {
     let names_peer = mask & MASK_DESTINATION != 0;
     let bad_mask = mask & !(MASK_STATE | MASK_DESTINATION) != 0 || mask & MASK_STATE == 0;
     let bad_state = !matches!(state, RESET | INIT | READY_TO_RECEIVE | READY_TO_SEND | ERROR);

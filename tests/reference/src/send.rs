@@ -76,7 +76,11 @@ fn need_places(card: &Card, request: &Request) -> Result<(), Refusal> {
         (true, true) => card.free_places(send_queue) >= 2,
         (true, false) => card.free_places(send_queue) >= 1 && card.free_places(receive_queue) >= 1,
     };
-    if enough { Ok(()) } else { Err(Refusal::NoPlace) }
+    if enough {
+        Ok(())
+    } else {
+        Err(Refusal::NoPlace)
+    }
 }
 
 impl Request<'_> {

@@ -3,7 +3,8 @@
 use crate::calls::{CONTROL, POLL};
 use crate::tape::{hex, number, Header, Record};
 
-pub const HEADER: Header = Header { mark: [0x72, 0x6b], fault: |answer, _| if answer > 15 { Some("no answer of the table") } else { None } };
+pub const HEADER: Header =
+    Header { mark: [0x72, 0x6b], fault: |answer, _| if answer > 15 { Some("no answer of the table") } else { None } };
 
 const ANSWERS: [&str; 16] = [
     "done",

@@ -81,5 +81,9 @@ pub fn hex(bytes: &[u8]) -> String {
 /// The names of the bits that are set.
 pub fn bits(value: u64, names: &[&str]) -> String {
     let set: Vec<&str> = names.iter().enumerate().filter(|(n, _)| value >> n & 1 == 1).map(|(_, name)| *name).collect();
-    if set.is_empty() { "none".into() } else { set.join("+") }
+    if set.is_empty() {
+        "none".into()
+    } else {
+        set.join("+")
+    }
 }
