@@ -1,0 +1,70 @@
+//! Interleaved timing of two cards on the same work, and the cards to time.
+
+pub mod fixture;
+
+use std::time::{Duration, Instant};
+
+/// Rounds of which each times the one and then the other.
+const ROUNDS: usize = 21;
+
+/// Work that is timed: `prepare` isn't, `run` is and makes `calls` calls.
+pub struct Work<'a> {
+    pub calls: u32,
+    pub prepare: Box<dyn FnMut() + 'a>,
+    pub run: Box<dyn FnMut() + 'a>,
+}
+
+impl Work<'_> {
+    fn time(&mut self) -> Duration {
+        (self.prepare)();
+        let start = Instant::now();
+        (self.run)();
+        start.elapsed()
+    }
+
+    /// Nanoseconds per call over as many runs as it takes to reach `least` calls.
+    fn sample(&mut self, least: u32) -> f64 {
+        let runs = least.div_ceil(self.calls);
+        let spent: Duration = (0..runs).map(|_| self.time()).sum();
+        spent.as_nanos() as f64 / f64::from(runs * self.calls)
+    }
+}
+
+/// Times both in turn and prints a line: nanoseconds per call, the median ratio and the middle half of the ratios.
+pub fn compare(name: &str, calls: u32, proved: &mut Work, reference: &mut Work) {
+    let per_round = calls.div_ceil(ROUNDS as u32);
+    proved.sample(per_round);
+    reference.sample(per_round);
+    let (mut ours, mut theirs, mut ratios) = (Vec::new(), Vec::new(), Vec::new());
+    for round in 0..ROUNDS {
+        let (a, b) = if round % 2 == 0 {
+            let a = proved.sample(per_round);
+            (a, reference.sample(per_round))
+        } else {
+            let b = reference.sample(per_round);
+            (proved.sample(per_round), b)
+        };
+        ours.push(a);
+        theirs.push(b);
+        ratios.push(a / b);
+    }
+    println!(
+        "{name:<42}{calls:>10}{:>12.1}{:>12.1}{:>9.2}   {:.2} to {:.2}",
+        quantile(&mut ours, 2),
+        quantile(&mut theirs, 2),
+        quantile(&mut ratios, 2),
+        quantile(&mut ratios, 1),
+        quantile(&mut ratios, 3),
+    );
+}
+
+pub fn heading(first: &str, second: &str) {
+    println!("{first} against {second}; {ROUNDS} interleaved rounds; nanoseconds per call are medians");
+    println!("{:<42}{:>10}{:>12}{:>12}{:>9}   middle half", "work", "calls", "first", "second", "ratio");
+}
+
+/// The quarter-th quartile.
+fn quantile(values: &mut [f64], quarter: usize) -> f64 {
+    values.sort_by(f64::total_cmp);
+    values[(values.len() - 1) * quarter / 4]
+}

@@ -1,0 +1,309 @@
+//! Control commands, each rule on both sides of its boundary.
+
+use crate::script::*;
+use cards::build::*;
+
+pub fn cases() -> Vec<Case> {
+    let mut cases = Vec::new();
+    cases.extend(records());
+    cases.extend(queues_and_domains());
+    cases.extend(registrations());
+    cases.extend(keys());
+    cases.extend(pairs());
+    cases.extend(modifications());
+    cases.extend(moves());
+    cases.extend(removals());
+    cases
+}
+
+/// One refused or accepted command on the card of the two operators.
+fn one(name: &str, command: Vec<u8>, answer: u8) -> Case {
+    let mut script = Script::joined();
+    if answer == 0 {
+        script.done(command);
+    } else {
+        script.refused(command, answer);
+    }
+    script.named(name)
+}
+
+fn records() -> Vec<Case> {
+    let mut whole = Script::new();
+    whole.create(create_domain(), 0);
+    let mut cases = vec![
+        whole.named("paper-whole-case"),
+        one("command-empty", vec![], 1),
+        one("command-one-byte", vec![6], 1),
+        one("command-one-byte-other-class", vec![5], 1),
+        one("command-class-5", vec![5, 4], 13),
+        one("command-class-7", vec![7, 4], 13),
+    ];
+    let mut unknown = Script::joined();
+    for number in (0..=255).filter(|number| !matches!(number, 2..=5 | 7..=10 | 12)) {
+        unknown.refused(vec![6, number], 13).refused(vec![6, number, 0, 0, 0, 0], 13);
+    }
+    cases.push(unknown.named("command-unknown"));
+    let known = [
+        ("create-cq", create_queue(1)),
+        ("destroy-cq", destroy_queue(0)),
+        ("create-pd", create_domain()),
+        ("destroy-pd", destroy_domain(0)),
+        ("register", register(0, 7, 0, 1, 0)),
+        ("deregister", deregister(0)),
+        ("create-qp", create_pair(0, 2, 0, 0, 0)),
+        ("modify-qp", move_to(0, 6)),
+        ("destroy-qp", destroy_pair(0)),
+    ];
+    for (name, command) in known {
+        let mut script = Script::joined();
+        for length in (2..64).filter(|&length| length != command.len()) {
+            let mut changed = command.clone();
+            changed.resize(length, 0);
+            script.refused(changed, 1);
+        }
+        cases.push(script.named(format!("{name}-other-lengths")));
+    }
+    cases
+}
+
+fn queues_and_domains() -> Vec<Case> {
+    let mut places = Script::new();
+    for (n, count) in [1, 16].into_iter().enumerate() {
+        places.create(create_queue(count), n as u32);
+    }
+    for count in [0, 17, 256, 257, 1 << 16, u32::MAX] {
+        places.refused(create_queue(count), 4);
+    }
+    let mut domains = Script::new();
+    for n in 0..8 {
+        domains.create(create_domain(), n);
+    }
+    domains.refused(create_domain(), 8).done(destroy_domain(5)).done(destroy_domain(2));
+    domains.create(create_domain(), 2).create(create_domain(), 5).refused(create_domain(), 8);
+    let mut queues = Script::new();
+    for n in 0..8 {
+        queues.create(create_queue(4), n);
+    }
+    queues.refused(create_queue(4), 8).refused(create_queue(17), 4).done(destroy_queue(7)).done(destroy_queue(0));
+    queues.create(create_queue(4), 0).create(create_queue(4), 7).refused(create_queue(4), 8);
+    let mut again = Script::new();
+    again.create(create_domain(), 0).done(destroy_domain(0)).refused(destroy_domain(0), 2);
+    again.create(create_queue(1), 0).done(destroy_queue(0)).refused(destroy_queue(0), 2);
+    vec![
+        places.named("places-1-to-16"),
+        domains.named("domains-ninth-is-8-lowest-free"),
+        queues.named("queues-ninth-is-8-lowest-free"),
+        again.named("destroyed-twice"),
+    ]
+}
+
+/// Name, start, length, virt and answer of registrations over a memory of 4,096 bytes.
+const RANGES: [(&str, u64, u64, u64, u8); 16] = [
+    ("p10-start-3996", 3996, 100, 0, 0),
+    ("p10-start-3997", 3997, 100, 0, 11),
+    ("p11-virt-2^64-101", 0, 100, u64::MAX - 100, 0),
+    ("p11-virt-2^64-100", 0, 100, u64::MAX - 99, 11),
+    ("length-0", 0, 0, 0, 11),
+    ("length-0-at-end", 4096, 0, 0, 11),
+    ("whole-memory", 0, 4096, 0, 0),
+    ("memory-plus-one", 0, 4097, 0, 11),
+    ("last-byte", 4095, 1, 0, 0),
+    ("past-last-byte", 4096, 1, 0, 11),
+    ("start-wraps", u64::MAX, 2, 0, 11),
+    ("start-wraps-into-memory", u64::MAX - 99, 200, 0, 11),
+    ("length-2^64-1", 1, u64::MAX, 0, 11),
+    ("length-2^32", 0, 1 << 32, 0, 11),
+    ("virt-last", 0, 1, u64::MAX - 1, 0),
+    ("virt-2^64-1", 0, 1, u64::MAX, 11),
+];
+
+fn registrations() -> Vec<Case> {
+    let mut access = Script::joined();
+    for bits in 0..8 {
+        access.register(0, bits, 0, 1, 0, 256 * (2 + bits) + 1);
+    }
+    for bits in [8, 9, 15, 16, 128, 256, 1 << 31, u32::MAX] {
+        access.refused(register(0, bits, 0, 1, 0), 4);
+    }
+    let mut cases = vec![access.named("access-0-to-7")];
+    for (name, start, length, virt, answer) in RANGES {
+        let mut script = Script::joined();
+        if answer == 0 {
+            script.register(0, 7, start, length, virt, 513);
+        } else {
+            script.refused(register(0, 7, start, length, virt), answer);
+        }
+        cases.push(script.named(format!("register-{name}").replace('^', "-")));
+    }
+    let mut domains = Script::joined();
+    for pdn in [2, 7, 8, 255, 256, 1 << 31, u32::MAX] {
+        domains.refused(register(pdn, 7, 0, 1, 0), 2);
+    }
+    cases.push(domains.named("register-domain-not-live"));
+    cases
+}
+
+fn keys() -> Vec<Case> {
+    let mut again = Script::joined();
+    again.done(deregister(0)).refused(deregister(0), 2).register(0, 7, 256, 100, 4096, 2);
+    let key = |key| Send::new(1, 4).remote(0, 0).piece(4096, 1, key);
+    again.send(0, key(2).remote(B_VIRT, B_KEY), 0, 0).send(0, key(1).remote(B_VIRT, B_KEY), 0, 3);
+    let mut wrap = Script::new();
+    wrap.create(create_domain(), 0);
+    for n in 0..260u32 {
+        wrap.register(0, 7, 0, 1, 0, n % 255 + 1).done(deregister(0));
+    }
+    let mut slot31 = Script::new();
+    slot31.create(create_domain(), 0);
+    for n in 0..32 {
+        slot31.register(0, 7, 0, 1, 0, 256 * n + 1);
+    }
+    slot31.refused(register(0, 7, 0, 1, 0), 8);
+    for variant in 2..=255 {
+        slot31.done(deregister(31)).register(0, 7, 0, 1, 0, 256 * 31 + variant);
+    }
+    slot31.done(deregister(31)).register(0, 7, 0, 1, 0, 7937);
+    let mut unused = Script::joined();
+    unused.done(deregister(0)).refused(register(0, 8, 0, 1, 0), 4).refused(register(0, 7, 0, 0, 0), 11);
+    unused.refused(register(9, 7, 0, 1, 0), 2).register(0, 7, 0, 1, 0, 2);
+    let mut lowest = Script::joined();
+    for n in 2..32 {
+        lowest.register(0, 7, 0, 1, 0, 256 * n + 1);
+    }
+    lowest.refused(register(0, 7, 0, 1, 0), 8).done(deregister(31)).done(deregister(4));
+    lowest.register(0, 7, 0, 1, 0, 256 * 4 + 2).register(0, 7, 0, 1, 0, 256 * 31 + 2).refused(register(0, 7, 0, 1, 0), 8);
+    vec![
+        again.named("p8-dropped-and-registered-again"),
+        wrap.named("variants-past-255"),
+        slot31.named("p9-slot-31-variant-255"),
+        unused.named("refused-registration-takes-no-variant"),
+        lowest.named("regions-33rd-is-8-lowest-free"),
+    ]
+}
+
+fn pairs() -> Vec<Case> {
+    let mut cases = Vec::new();
+    let fields: [(&str, Vec<u8>, u8); 12] = [
+        ("type-0", create_pair(0, 0, 0, 0, 0), 4),
+        ("type-3", create_pair(0, 3, 0, 0, 0), 4),
+        ("type-4", create_pair(0, 4, 0, 0, 0), 4),
+        ("signal-2", create_pair(0, 2, 2, 0, 0), 4),
+        ("signal-255", create_pair(0, 2, 255, 0, 0), 4),
+        ("pd-dead", create_pair(2, 2, 0, 0, 0), 2),
+        ("pd-256", create_pair(256, 2, 0, 0, 0), 2),
+        ("send-cq-dead", create_pair(0, 2, 0, 2, 0), 2),
+        ("send-cq-256", create_pair(0, 2, 0, 256, 0), 2),
+        ("receive-cq-dead", create_pair(0, 2, 0, 0, 2), 2),
+        ("receive-cq-8", create_pair(0, 2, 0, 0, 8), 2),
+        ("all-dead-type-3", create_pair(9, 3, 2, 9, 9), 4),
+    ];
+    for (name, command, answer) in fields {
+        cases.push(one(&format!("create-qp-{name}"), command, answer));
+    }
+    let mut many = Script::joined();
+    let mut padded = create_pair(0, 2, 1, 0, 1);
+    padded[8..10].fill(0xff);
+    many.create(padded, 2);
+    for n in 3..8 {
+        many.create(create_pair(0, 2, 1, 0, 1), n);
+    }
+    many.refused(create_pair(0, 2, 1, 0, 1), 8).refused(create_pair(0, 3, 1, 0, 1), 4).refused(create_pair(7, 2, 1, 0, 1), 2);
+    many.done(destroy_pair(6)).done(destroy_pair(3)).create(create_pair(1, 2, 0, 1, 1), 3);
+    many.create(create_pair(1, 2, 0, 1, 1), 6).refused(create_pair(1, 2, 0, 1, 1), 8);
+    cases.push(many.named("pairs-ninth-is-8-lowest-free"));
+    cases
+}
+
+/// Name, command and answer of modifications of pair 0, which is ready to send.
+fn modify_fields() -> Vec<(&'static str, Vec<u8>, u8)> {
+    let with = MASK_STATE | MASK_DESTINATION;
+    vec![
+        ("mask-0", modify(0, 0, 6, [0; 3], 0), 4),
+        ("mask-bit-15-alone", modify(0, MASK_DESTINATION, 2, [0; 3], 1), 4),
+        ("mask-bit-1", modify(0, 3, 6, [0; 3], 0), 4),
+        ("mask-bit-2", modify(0, 5, 6, [0; 3], 0), 4),
+        ("mask-bit-14", modify(0, 1 << 14 | 1, 6, [0; 3], 0), 4),
+        ("mask-bit-16", modify(0, 1 << 16 | 1, 6, [0; 3], 0), 4),
+        ("mask-bit-31", modify(0, 1 << 31 | 1, 6, [0; 3], 0), 4),
+        ("state-4", move_to(0, 4), 4),
+        ("state-5", move_to(0, 5), 4),
+        ("state-7", move_to(0, 7), 4),
+        ("state-255", move_to(0, 255), 4),
+        ("padding-0", modify(0, 1, 6, [1, 0, 0], 0), 4),
+        ("padding-1", modify(0, 1, 6, [0, 1, 0], 0), 4),
+        ("padding-2", modify(0, 1, 6, [0, 0, 128], 0), 4),
+        ("bit-15-to-0", modify(0, with, 0, [0; 3], 1), 4),
+        ("bit-15-to-1", modify(0, with, 1, [0; 3], 1), 4),
+        ("bit-15-to-3", modify(0, with, 3, [0; 3], 1), 4),
+        ("bit-15-to-6", modify(0, with, 6, [0; 3], 1), 4),
+        ("to-2-without-bit-15", move_to(0, 2), 4),
+        ("destination-8", join(0, 8), 4),
+        ("destination-256", join(0, 256), 4),
+        ("destination-itself", join(0, 0), 4),
+        ("qp-9-destination-9", join(9, 9), 4),
+        ("qp-9-destination-7", join(9, 7), 2),
+        ("qp-5-dead-destination-5", join(5, 5), 4),
+        ("qp-dead", move_to(2, 6), 2),
+        ("qp-2^32-1", move_to(u32::MAX, 6), 2),
+        ("destination-ignored", modify(0, 1, 6, [0; 3], 0), 0),
+    ]
+}
+
+fn modifications() -> Vec<Case> {
+    let mut cases: Vec<Case> = Vec::new();
+    for (name, command, answer) in modify_fields() {
+        cases.push(one(&format!("modify-{name}").replace('^', "-"), command, answer));
+    }
+    let mut order = Script::joined();
+    order.create(create_pair(0, 2, 0, 0, 0), 2).done(move_to(2, 1));
+    order.refused(modify(2, MASK_STATE | MASK_DESTINATION, 3, [0; 3], 1), 4).refused(move_to(2, 3), 3);
+    cases.push(order.named("modify-4-before-3"));
+    cases
+}
+
+/// Every move between the five states.
+fn moves() -> Vec<Case> {
+    let path: [(u8, &[u8]); 5] = [(0, &[]), (1, &[1]), (2, &[1, 2]), (3, &[1, 2, 3]), (6, &[6])];
+    let command = |state| if state == 2 { join(2, 0) } else { move_to(2, state) };
+    let mut cases = Vec::new();
+    for (from, way) in path {
+        let mut script = Script::joined();
+        script.create(create_pair(0, 2, 0, 0, 0), 2);
+        for to in [0, 1, 2, 3, 6] {
+            script.done(move_to(2, 0));
+            for &state in way {
+                script.done(command(state));
+            }
+            if to == 0 || to == 6 || to == from + 1 && from < 3 {
+                script.done(command(to));
+            } else {
+                script.refused(command(to), 3);
+            }
+        }
+        cases.push(script.named(format!("moves-from-{from}")));
+    }
+    cases
+}
+
+fn removals() -> Vec<Case> {
+    let mut domain = Script::joined();
+    domain.refused(destroy_domain(0), 10).done(deregister(0)).refused(destroy_domain(0), 10);
+    domain.done(destroy_pair(0)).done(destroy_domain(0)).refused(destroy_domain(0), 2);
+    domain.done(destroy_pair(1)).refused(destroy_domain(1), 10).done(deregister(1)).done(destroy_domain(1));
+    let mut queue = Script::joined();
+    queue.create(create_queue(1), 2).create(create_queue(1), 3).create(create_pair(0, 2, 0, 2, 3), 2);
+    queue.refused(destroy_queue(2), 10).refused(destroy_queue(3), 10).done(move_to(2, 6)).refused(destroy_queue(3), 10);
+    queue.done(destroy_pair(2)).done(destroy_queue(2)).done(destroy_queue(3)).refused(destroy_queue(3), 2);
+    let mut numbers = Script::joined();
+    for number in [8, 255, 256, 1 << 16, u32::MAX] {
+        numbers.refused(destroy_queue(number), 2).refused(destroy_domain(number), 2).refused(destroy_pair(number), 2);
+    }
+    for number in [2, 32, 256, 257, u32::MAX] {
+        numbers.refused(deregister(number), 2);
+    }
+    vec![
+        domain.named("domain-in-use-by-region-or-pair"),
+        queue.named("queue-in-use-as-send-or-receive-queue"),
+        numbers.named("removals-of-numbers-past-the-tables"),
+    ]
+}

@@ -1,0 +1,18 @@
+//! Named lists of calls with the answers that document 01 gives them. Each runs on any card and can be written as a replay tape.
+
+mod control;
+mod posting;
+mod queues;
+mod run;
+mod script;
+mod tape;
+mod traps;
+
+pub use run::run;
+pub use script::{Case, Script, Step, MEMORY};
+
+/// Every case; names are unique.
+pub fn all() -> Vec<Case> {
+    let groups = [control::cases(), posting::cases(), queues::cases(), traps::cases(), tape::cases()];
+    groups.into_iter().flatten().collect()
+}

@@ -1,0 +1,239 @@
+//! How a case is written down.
+
+use cards::build::{self, Send};
+use reference::record::{Completion, Piece};
+use reference::replay::{Kind, MARK};
+
+/// The memory that every case runs over, zero at first, as on a tape.
+pub const MEMORY: usize = 4096;
+
+pub struct Case {
+    pub name: String,
+    pub steps: Vec<Step>,
+}
+
+pub enum Step {
+    /// A control command, its answer and the bytes that it writes to the ack.
+    Control {
+        command: Vec<u8>,
+        answer: u8,
+        ack: Vec<u8>,
+    },
+    Send {
+        qpn: u8,
+        record: Vec<u8>,
+        answer: u8,
+        status: u8,
+    },
+    Receive {
+        qpn: u8,
+        record: Vec<u8>,
+        answer: u8,
+    },
+    Flush {
+        qpn: u8,
+        answer: u8,
+    },
+    /// A poll, and the completion if it is answered 0.
+    Poll {
+        cqn: u8,
+        answer: u8,
+        completion: Option<Completion>,
+    },
+    /// What memory holds from here on; not on a tape.
+    Memory {
+        at: usize,
+        bytes: Vec<u8>,
+    },
+    /// Bytes that are no record; on a tape only.
+    Raw(Vec<u8>),
+}
+
+impl Case {
+    /// The calls as a replay tape.
+    pub fn tape(&self) -> Vec<u8> {
+        let mut tape = Vec::new();
+        for step in &self.steps {
+            match step {
+                Step::Control { command, .. } => put_record(&mut tape, Kind::Control, 0, command),
+                Step::Send { qpn, record, .. } => put_record(&mut tape, Kind::Send, *qpn, record),
+                Step::Receive { qpn, record, .. } => put_record(&mut tape, Kind::Receive, *qpn, record),
+                Step::Flush { qpn, .. } => put_record(&mut tape, Kind::Flush, *qpn, &[]),
+                Step::Poll { cqn, .. } => put_record(&mut tape, Kind::Poll, *cqn, &[]),
+                Step::Memory { .. } => {}
+                Step::Raw(bytes) => tape.extend(bytes),
+            }
+        }
+        tape
+    }
+}
+
+fn put_record(tape: &mut Vec<u8>, kind: Kind, number: u8, body: &[u8]) {
+    tape.extend(MARK);
+    tape.extend([kind.byte(), number]);
+    tape.extend((body.len() as u16).to_le_bytes());
+    tape.extend(body);
+}
+
+/// Writes a case, step by step.
+#[derive(Default)]
+pub struct Script {
+    steps: Vec<Step>,
+}
+
+/// Operator A: domain 0, queue 0, region 0 over memory 0 to 1,023, queue pair 0.
+pub const A_VIRT: u64 = 0x1_0000;
+pub const A_KEY: u32 = 1;
+/// Operator B: domain 1, queue 1, region 1 over memory 2,048 to 3,071, queue pair 1.
+pub const B_VIRT: u64 = 0x2_0000;
+pub const B_KEY: u32 = 257;
+pub const B_START: usize = 2048;
+pub const REGION: u32 = 1024;
+
+impl Script {
+    /// A fresh card.
+    pub fn new() -> Script {
+        Script::default()
+    }
+
+    /// Two operators, each with a domain, a queue of `places`, a region with all rights and a queue pair; the pairs are joined and
+    /// ready to send.
+    pub fn joined_with(places: u32, signal: u8) -> Script {
+        let mut script = Script::new();
+        for n in 0..2 {
+            script.create(build::create_domain(), n);
+            script.create(build::create_queue(places), n);
+        }
+        script.register(0, 7, 0, REGION.into(), A_VIRT, A_KEY);
+        script.register(1, 7, B_START as u64, REGION.into(), B_VIRT, B_KEY);
+        for n in 0..2 {
+            script.create(build::create_pair(n, 2, signal, n, n), n);
+        }
+        script.join_pairs(0, 1);
+        script
+    }
+
+    pub fn joined() -> Script {
+        Script::joined_with(16, 0)
+    }
+
+    pub fn named(self, name: impl Into<String>) -> Case {
+        Case { name: name.into(), steps: self.steps }
+    }
+
+    pub fn step(&mut self, step: Step) -> &mut Script {
+        self.steps.push(step);
+        self
+    }
+
+    // ---- control
+
+    /// A command answered 0 whose ack has no data.
+    pub fn done(&mut self, command: Vec<u8>) -> &mut Script {
+        self.step(Step::Control { command, answer: 0, ack: vec![0] })
+    }
+
+    /// A command answered 0 that gives this number.
+    pub fn create(&mut self, command: Vec<u8>, number: u32) -> &mut Script {
+        let ack = [&[0][..], &number.to_le_bytes()].concat();
+        self.step(Step::Control { command, answer: 0, ack })
+    }
+
+    /// A registration answered 0 that gives this key.
+    pub fn register(&mut self, pdn: u32, access: u32, start: u64, length: u64, virt: u64, key: u32) -> &mut Script {
+        let number = key >> 8;
+        let ack = [&[0][..], &number.to_le_bytes(), &key.to_le_bytes(), &key.to_le_bytes()].concat();
+        self.step(Step::Control { command: build::register(pdn, access, start, length, virt), answer: 0, ack })
+    }
+
+    pub fn refused(&mut self, command: Vec<u8>, answer: u8) -> &mut Script {
+        self.step(Step::Control { command, answer, ack: vec![1] })
+    }
+
+    /// Brings a pair from reset to ready to send.
+    pub fn ready(&mut self, qpn: u32, destination: u32) -> &mut Script {
+        self.done(build::move_to(qpn, 1));
+        self.done(build::join(qpn, destination));
+        self.done(build::move_to(qpn, 3))
+    }
+
+    pub fn join_pairs(&mut self, a: u32, b: u32) -> &mut Script {
+        self.ready(a, b);
+        self.ready(b, a)
+    }
+
+    /// Fills a completion queue that nobody else fills, by writes of no bytes on a pair that completes there.
+    pub fn fill_queue(&mut self, qpn: u8, writes: usize) -> &mut Script {
+        for n in 0..writes {
+            self.send(qpn, Send::new(900 + n as u64, 0).flags(2), 0, 0);
+        }
+        self
+    }
+
+    // ---- posting
+
+    pub fn send(&mut self, qpn: u8, send: Send, answer: u8, status: u8) -> &mut Script {
+        self.send_bytes(qpn, send.bytes(), answer, status)
+    }
+
+    pub fn send_bytes(&mut self, qpn: u8, record: Vec<u8>, answer: u8, status: u8) -> &mut Script {
+        self.step(Step::Send { qpn, record, answer, status })
+    }
+
+    pub fn receive(&mut self, qpn: u8, wr_id: u64, pieces: &[Piece], answer: u8) -> &mut Script {
+        self.receive_bytes(qpn, build::receive(wr_id, pieces), answer)
+    }
+
+    pub fn receive_bytes(&mut self, qpn: u8, record: Vec<u8>, answer: u8) -> &mut Script {
+        self.step(Step::Receive { qpn, record, answer })
+    }
+
+    pub fn flush(&mut self, qpn: u8, answer: u8) -> &mut Script {
+        self.step(Step::Flush { qpn, answer })
+    }
+
+    // ---- polling
+
+    pub fn poll_refused(&mut self, cqn: u8, answer: u8) -> &mut Script {
+        self.step(Step::Poll { cqn, answer, completion: None })
+    }
+
+    pub fn poll_empty(&mut self, cqn: u8) -> &mut Script {
+        self.poll_refused(cqn, 9)
+    }
+
+    /// A completion without immediate.
+    pub fn poll(&mut self, cqn: u8, wr_id: u64, status: u8, opcode: u8, length: u32, owner: u32) -> &mut Script {
+        self.poll_immediate(cqn, wr_id, [status, opcode], length, 0, owner)
+    }
+
+    pub fn poll_immediate(
+        &mut self,
+        cqn: u8,
+        wr_id: u64,
+        [status, opcode]: [u8; 2],
+        length: u32,
+        immediate: u32,
+        owner: u32,
+    ) -> &mut Script {
+        let completion = Completion { wr_id, status, opcode, length, immediate, owner };
+        self.step(Step::Poll { cqn, answer: 0, completion: Some(completion) })
+    }
+
+    // ---- memory
+
+    /// Puts bytes at an offset of operator A's or B's own region, by inline writes of the other one.
+    pub fn put(&mut self, writer: u8, offset: u64, bytes: &[u8]) -> &mut Script {
+        let (virt, key) = if writer == 0 { (B_VIRT, B_KEY) } else { (A_VIRT, A_KEY) };
+        self.send(writer, Send::new(800, 0).inline(bytes).remote(virt + offset, key), 0, 0);
+        self.poll(writer, 800, 0, 1, bytes.len() as u32, writer.into())
+    }
+
+    pub fn memory(&mut self, at: usize, bytes: &[u8]) -> &mut Script {
+        self.step(Step::Memory { at, bytes: bytes.to_vec() })
+    }
+
+    pub fn raw(&mut self, bytes: &[u8]) -> &mut Script {
+        self.step(Step::Raw(bytes.to_vec()))
+    }
+}

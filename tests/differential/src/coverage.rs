@@ -1,0 +1,198 @@
+//! Which answers, statuses, completions and steps a run has seen.
+
+use crate::side::Done;
+use generator::Call;
+use reference::layout::*;
+use reference::listing::{Listing, PairListing};
+use reference::record::{total, Completion, Local, SendRecord, READ};
+use std::collections::BTreeMap;
+
+#[derive(Default)]
+pub struct Coverage {
+    cells: BTreeMap<String, u64>,
+}
+
+/// Every answer that each call can give.
+const ANSWERS: [(&str, &[u8]); 6] = [
+    ("reset", &[0, 11, 15]),
+    ("control", &[0, 1, 2, 3, 4, 8, 10, 11, 12, 13, 15]),
+    ("send", &[0, 1, 2, 3, 4, 5, 6, 7, 15]),
+    ("receive", &[0, 1, 2, 3, 4, 8, 15]),
+    ("flush", &[0, 2, 3, 6, 9, 15]),
+    ("poll", &[0, 2, 9, 12, 15]),
+];
+
+/// Every answer that each command can give when the record, the buffers and the state pass.
+const COMMANDS: [(u8, &[u8]); 9] = [
+    (2, &[0, 1, 4, 8]),
+    (3, &[0, 1, 2, 10]),
+    (4, &[0, 1, 8]),
+    (5, &[0, 1, 2, 10]),
+    (7, &[0, 1, 2, 4, 8, 11]),
+    (8, &[0, 1, 2]),
+    (9, &[0, 1, 2, 4, 8]),
+    (10, &[0, 1, 2, 3, 4]),
+    (12, &[0, 1, 2]),
+];
+
+/// Every status of each opcode.
+const STATUSES: [(u8, &[u8]); 5] =
+    [(0, &[0, 1, 3, 8]), (1, &[0, 1, 3, 8]), (2, &[0, 1, 3, 7]), (3, &[0, 1, 3, 7]), (4, &[0, 1, 3, 8])];
+
+/// Every status of each completion opcode.
+const COMPLETIONS: [(u8, &[u8]); 5] = [(0, &[0, 1, 3, 7]), (1, &[0, 1, 3, 8]), (2, &[0, 1, 3, 8]), (3, &[0, 1, 3, 4]), (4, &[0])];
+
+const STEPS: [&str; 21] = [
+    "1 no destination",
+    "1 peer not live",
+    "1 peer not ready",
+    "1 peer names another",
+    "1 no receive waiting",
+    "2 no place in the send queue",
+    "2 no place in the receive queue",
+    "2 no two places in a shared queue",
+    "6 no bytes",
+    "6 inline",
+    "6 one piece",
+    "6 two pieces",
+    "6 three pieces",
+    "6 four pieces",
+    "6 total 4096",
+    "6 peer in another domain",
+    "6 peer in state 2",
+    "6 shared queue",
+    "6 list of two pieces",
+    "6 with a zero-length piece",
+    "6 unsignaled",
+];
+
+impl Coverage {
+    pub(crate) fn count(&mut self, card: Option<&Listing>, call: &Call, done: &Done) {
+        let answer = done.outcome.answer;
+        self.add(format!("{} answer {answer}", kind(call)));
+        match call {
+            Call::Control { command, .. } if command.len() >= 2 && command[0] == 6 => {
+                self.add(format!("command {} answer {answer}", command[1]));
+            }
+            Call::Send { qpn, record, .. } => {
+                if answer == 0 {
+                    self.add(format!("opcode {} status {}", record[8], done.outcome.status));
+                }
+                if let Some(card) = card {
+                    self.count_steps(card, *qpn, record, answer, done.outcome.status);
+                }
+            }
+            Call::Poll { .. } if answer == 0 => {
+                let completion = Completion::read(&done.written, 0);
+                self.add(format!("completion {} status {}", completion.opcode, completion.status));
+            }
+            _ => {}
+        }
+    }
+
+    fn add(&mut self, cell: String) {
+        *self.cells.entry(cell).or_default() += 1;
+    }
+
+    fn count_steps(&mut self, card: &Listing, qpn: u32, record: &[u8], answer: u8, status: u8) {
+        let Some(sender) = card.pairs.get(qpn as usize).and_then(Option::as_ref) else { return };
+        let Ok(send) = SendRecord::read(record) else { return };
+        let peer = card.pairs.get(usize::from(sender.pair.destination)).and_then(Option::as_ref);
+        match (answer, peer) {
+            (5, _) => self.add(format!("step {}", hold_of_peer(qpn, sender, peer))),
+            (6, Some(peer)) => self.add(format!("step {}", hold_of_place(card, &send, sender, peer))),
+            (0, Some(peer)) if status == 0 => self.count_success(&send, sender, peer),
+            _ => {}
+        }
+    }
+
+    fn count_success(&mut self, send: &SendRecord, sender: &PairListing, peer: &PairListing) {
+        let form = match send.local {
+            Local::Inline(_) => "inline",
+            Local::Pieces { count, .. } => ["no bytes", "one piece", "two pieces", "three pieces", "four pieces"][count],
+        };
+        let empty_piece = match &send.local {
+            Local::Pieces { pieces, count } => {
+                pieces[..*count].iter().any(|piece| piece.length == 0) && total(&pieces[..*count]) > 0
+            }
+            Local::Inline(_) => false,
+        };
+        let list = peer.waiting.first().map_or(0, |receive| receive.pieces.len());
+        let seen = [
+            (form, true),
+            ("no bytes", send.total() == 0),
+            ("total 4096", send.total() == MOST_MESSAGE as u64),
+            ("peer in another domain", sender.pair.domain != peer.pair.domain),
+            ("peer in state 2", peer.pair.state == READY_TO_RECEIVE),
+            ("shared queue", send.takes_receive() && sender.pair.send_queue == peer.pair.receive_queue),
+            ("list of two pieces", matches!(send.opcode, 2 | 3) && list == 2),
+            ("with a zero-length piece", empty_piece),
+            ("unsignaled", sender.pair.signal == 1 && send.flags & 2 == 0 && send.opcode <= READ),
+        ];
+        for (name, _) in seen.into_iter().filter(|(_, seen)| *seen) {
+            self.add(format!("step 6 {name}"));
+        }
+    }
+
+    /// Prints the table; gives back how many reachable cells were never seen.
+    pub fn print(&self) -> usize {
+        let mut missing = 0;
+        for (title, cells) in groups() {
+            println!("{title}");
+            for cell in cells {
+                let count = self.cells.get(&cell).copied().unwrap_or(0);
+                missing += usize::from(count == 0);
+                println!("  {cell:<44}{count:>10}{}", if count == 0 { "  NEVER SEEN" } else { "" });
+            }
+        }
+        missing
+    }
+}
+
+fn groups() -> Vec<(&'static str, Vec<String>)> {
+    let cells = |name: &str, what: &str, table: &[(u8, &[u8])]| -> Vec<String> {
+        table.iter().flat_map(|(n, list)| list.iter().map(move |k| format!("{name} {n} {what} {k}"))).collect()
+    };
+    let answers = ANSWERS.iter().flat_map(|(call, list)| list.iter().map(move |k| format!("{call} answer {k}"))).collect();
+    vec![
+        ("answers of each call", answers),
+        ("answers of each command", cells("command", "answer", &COMMANDS)),
+        ("statuses of each opcode", cells("opcode", "status", &STATUSES)),
+        ("completions polled", cells("completion", "status", &COMPLETIONS)),
+        ("steps of post send", STEPS.iter().map(|step| format!("step {step}")).collect()),
+    ]
+}
+
+fn kind(call: &Call) -> &'static str {
+    match call {
+        Call::Reset { .. } => "reset",
+        Call::Control { .. } => "control",
+        Call::Send { .. } => "send",
+        Call::Receive { .. } => "receive",
+        Call::Flush { .. } => "flush",
+        Call::Poll { .. } => "poll",
+    }
+}
+
+/// Why step 1 holds.
+fn hold_of_peer(qpn: u32, sender: &PairListing, peer: Option<&PairListing>) -> &'static str {
+    match peer {
+        _ if sender.pair.destination == NO_DESTINATION => "1 no destination",
+        None => "1 peer not live",
+        Some(peer) if !matches!(peer.pair.state, READY_TO_RECEIVE | READY_TO_SEND) => "1 peer not ready",
+        Some(peer) if u32::from(peer.pair.destination) != qpn => "1 peer names another",
+        Some(_) => "1 no receive waiting",
+    }
+}
+
+/// Why step 2 holds.
+fn hold_of_place(card: &Listing, send: &SendRecord, sender: &PairListing, peer: &PairListing) -> &'static str {
+    let full = |n: u8| card.queues[usize::from(n)].as_ref().is_some_and(|queue| queue.unread.len() == queue.places);
+    if full(sender.pair.send_queue) {
+        "2 no place in the send queue"
+    } else if send.takes_receive() && sender.pair.send_queue == peer.pair.receive_queue {
+        "2 no two places in a shared queue"
+    } else {
+        "2 no place in the receive queue"
+    }
+}

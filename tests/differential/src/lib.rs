@@ -1,0 +1,128 @@
+//! Plays long lists of calls on the reference and on another card and compares answer, status, ack, completion, every memory byte
+//! and every object of the state after each call; and that a refused call changed nothing.
+
+mod coverage;
+mod side;
+
+use cards::{Card, Reference};
+pub use coverage::Coverage;
+use generator::{damage, forget_destination, Call, Generator};
+use reference::layout::STATE_BYTES;
+use reference::listing::Listing;
+use side::Side;
+
+struct Run {
+    generator: Generator,
+    first: Side,
+    second: Side,
+    report: Report,
+}
+
+/// What a run has seen.
+pub struct Report {
+    pub calls: u64,
+    pub coverage: Coverage,
+    pub differences: Vec<String>,
+}
+
+/// Plays at least `calls` calls, or fewer if there are `most` differences before.
+pub fn run(other: &'static dyn Card, calls: u64, seed: u64, most: usize) -> Report {
+    let mut run = Run {
+        generator: Generator::new(seed),
+        report: Report { calls: 0, coverage: Coverage::default(), differences: Vec::new() },
+        first: Side::new(&Reference),
+        second: Side::new(other),
+    };
+    while run.report.calls < calls && run.report.differences.len() < most {
+        run.list();
+    }
+    run.report
+}
+
+impl Run {
+    /// One reset and the calls after it, up to the first difference.
+    fn list(&mut self) {
+        let memory_length = self.generator.begin();
+        let mut held = vec![0; STATE_BYTES];
+        let mut memory = vec![0; memory_length as usize];
+        self.generator.rng().fill(&mut held);
+        self.generator.rng().fill(&mut memory);
+        self.first.begin(&held, &memory);
+        self.second.begin(&held, &memory);
+        self.step(&Call::Reset { memory_length });
+        if self.generator.rng().percent(2) {
+            for call in self.generator.many_variants() {
+                self.step(&call);
+            }
+        }
+        let most = if memory_length > 1 << 16 { 60 } else { 600 };
+        let known = self.report.differences.len();
+        for _ in 0..most {
+            let Some(card) = Listing::of(&self.first.state) else { return };
+            if self.report.differences.len() > known {
+                return;
+            }
+            if self.generator.rng().percent(5) {
+                self.rewrite_memory();
+            }
+            let call = self.generator.next(&card);
+            if self.generator.rng().percent(10) {
+                self.damaged(&call);
+            }
+            self.step(&call);
+        }
+    }
+
+    /// The guest writes to its memory between two calls.
+    fn rewrite_memory(&mut self) {
+        let rng = self.generator.rng();
+        let length = self.first.memory.len();
+        let start = rng.index(length);
+        let end = (start + 1 + rng.index(256)).min(length);
+        rng.fill(&mut self.first.memory[start..end]);
+        self.second.memory[start..end].copy_from_slice(&self.first.memory[start..end]);
+    }
+
+    fn step(&mut self, call: &Call) {
+        self.report.calls += 1;
+        let before = Listing::of(&self.first.state);
+        let result = side::compare(&mut self.first, &mut self.second, call);
+        match result {
+            Ok(done) => {
+                self.generator.observe(call, done.outcome, &done.written);
+                self.report.coverage.count(before.as_ref(), call, &done);
+            }
+            Err(difference) => self.differ(call, difference),
+        }
+    }
+
+    /// The same call on a damaged copy of the state, the same bytes for both.
+    fn damaged(&mut self, call: &Call) {
+        let state = match call {
+            Call::Send { qpn, .. } if self.generator.rng().percent(20) => forget_destination(&self.first.state, *qpn),
+            _ => damage(self.generator.rng(), &self.first.state),
+        };
+        let mut first = self.first.on(&state);
+        let mut second = self.second.on(&state);
+        match side::compare(&mut first, &mut second, call) {
+            Ok(done) => self.report.coverage.count(Listing::of(&state).as_ref(), call, &done),
+            Err(difference) => self.differ(call, format!("on a damaged state, {difference}")),
+        }
+    }
+
+    fn differ(&mut self, call: &Call, difference: String) {
+        self.report.differences.push(format!("call {}: {difference}\n  {}", self.report.calls, describe(call)));
+    }
+}
+
+fn describe(call: &Call) -> String {
+    let hex = |bytes: &[u8]| -> String { bytes.iter().map(|byte| format!("{byte:02x}")).collect() };
+    match call {
+        Call::Reset { memory_length } => format!("reset, memory length {memory_length}"),
+        Call::Control { command, ack } => format!("control {}, ack of {ack} bytes", hex(command)),
+        Call::Send { qpn, record, memory } => format!("send on {qpn}, memory of {memory} bytes, record {}", hex(record)),
+        Call::Receive { qpn, record } => format!("receive on {qpn}, record {}", hex(record)),
+        Call::Flush { qpn } => format!("flush of {qpn}"),
+        Call::Poll { cqn, buffer } => format!("poll of {cqn}, buffer of {buffer} bytes"),
+    }
+}

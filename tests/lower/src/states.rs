@@ -1,0 +1,135 @@
+//! The test of answer 15 and the search for a free number, on reached, damaged and random states.
+
+use crate::tally::Tally;
+use cards::{Lower, ReferenceLower, Rng};
+use generator::{damage, fields, reached_state};
+use reference::layout::*;
+use reference::{fault, Fault};
+
+const REACHED: usize = 120;
+const DAMAGED: usize = 500;
+const RANDOM: usize = 20_000;
+const TABLES: [(&str, usize); 4] = [("pd", DOMAINS), ("cq", QUEUES), ("mr", REGIONS), ("qp", PAIRS)];
+
+pub fn compare(other: &dyn Lower, rng: &mut Rng, tally: &mut Tally) {
+    for fault in Fault::ALL {
+        tally.require("accepts", format!("{fault:?}"));
+    }
+    tally.require("accepts", "accepted");
+    for (table, count) in TABLES {
+        tally.require("free", format!("{table} none"));
+        tally.require("free", format!("{table} 0"));
+        tally.require("free", format!("{table} {}", count - 1));
+    }
+    tally.require("free", "not accepted");
+    for n in 0..REACHED {
+        let state = reached_state(rng.word(), if n % 4 == 0 { 20 * n } else { 10 + 5 * n });
+        one(other, &state, tally);
+        each_field(other, &state, tally);
+        for _ in 0..DAMAGED {
+            one(other, &damage(rng, &state), tally);
+        }
+    }
+    full_tables(other, tally);
+    lengths(other, &reached_state(rng.word(), 400), tally);
+    random(other, rng, tally);
+}
+
+fn one(other: &dyn Lower, state: &[u8], tally: &mut Tally) {
+    accepted(other, state, tally);
+    for table in 0..4 {
+        free(other, state, table, tally);
+    }
+}
+
+fn accepted(other: &dyn Lower, state: &[u8], tally: &mut Tally) {
+    let wanted = fault(state);
+    tally.count("accepts", wanted.map_or("accepted".into(), |fault| format!("{fault:?}")));
+    tally.same("accepts", other.accepts(state), wanted.is_none(), || format!("a state with {wanted:?}"));
+}
+
+fn free(other: &dyn Lower, state: &[u8], table: usize, tally: &mut Tally) {
+    let (name, count) = TABLES[table];
+    let wanted = ReferenceLower.free(state, table as u32);
+    tally.count(
+        "free",
+        match wanted as usize {
+            255 => "not accepted".into(),
+            n if n == count => format!("{name} none"),
+            n => format!("{name} {n}"),
+        },
+    );
+    tally.same("free", other.free(state, table as u32), wanted, || format!("table {name}"));
+}
+
+/// Each field in turn at each of its values, with the rest as it is.
+fn each_field(other: &dyn Lower, state: &[u8], tally: &mut Tally) {
+    let mut copy = state.to_vec();
+    for field in fields(state) {
+        for &value in &field.values {
+            field.set(&mut copy, value);
+            accepted(other, &copy, tally);
+        }
+        copy[field.at..field.at + field.width].copy_from_slice(&state[field.at..field.at + field.width]);
+    }
+}
+
+/// Tables with their first `n` numbers live, and with all live but number `n`.
+fn full_tables(other: &dyn Lower, tally: &mut Tally) {
+    for (table, (_, count)) in TABLES.into_iter().enumerate() {
+        for n in 0..=count {
+            let live: Vec<bool> = (0..count).map(|k| k < n).collect();
+            one(other, &with_live(table, &live), tally);
+            let live: Vec<bool> = (0..count).map(|k| k != n).collect();
+            one(other, &with_live(table, &live), tally);
+        }
+    }
+}
+
+/// A state in which the named table's rows are live as told; domain 0 and queue 0 are live for those that name them.
+fn with_live(table: usize, live: &[bool]) -> Vec<u8> {
+    let mut state = vec![0; STATE_BYTES];
+    reference::reset(&mut state, 4096);
+    if table > 1 {
+        state[DOMAIN_FLAGS] = 1;
+        state[QUEUE_ROWS] = 1;
+    }
+    for (n, &live) in live.iter().enumerate().filter(|(_, &live)| live) {
+        match table {
+            0 => state[DOMAIN_FLAGS + n] = live.into(),
+            1 => state[QUEUE_ROWS + n * QUEUE_ROW] = 1 + n as u8,
+            2 => {
+                state[REGION_FLAGS + n] = 1;
+                state[REGION_ROWS + n * REGION_ROW + 1] = 1;
+                put64(&mut state, REGION_ROWS + n * REGION_ROW + 16, 1);
+            }
+            _ => state[PAIR_ROWS + n * PAIR_ROW..][..7].copy_from_slice(&[1, 0, 0, 0, 0, 0, NO_DESTINATION]),
+        }
+    }
+    state
+}
+
+fn lengths(other: &dyn Lower, state: &[u8], tally: &mut Tally) {
+    let longer = [state, &[0; 64]].concat();
+    for length in 0..=longer.len() {
+        accepted(other, &longer[..length], tally);
+    }
+    free(other, &longer[..STATE_BYTES - 1], 2, tally);
+}
+
+fn random(other: &dyn Lower, rng: &mut Rng, tally: &mut Tally) {
+    let mut state = vec![0; STATE_BYTES];
+    for n in 0..RANDOM {
+        rng.fill(&mut state);
+        if n % 2 == 0 {
+            put64(&mut state, MEMORY_LENGTH, 1 + rng.below(MOST_MEMORY));
+            for byte in &mut state[DOMAIN_FLAGS..QUEUE_ROWS] {
+                *byte &= 1;
+            }
+        }
+        if n % 4 == 0 {
+            state[QUEUE_ROWS..PAIR_ROWS].fill(0);
+        }
+        accepted(other, &state, tally);
+    }
+}

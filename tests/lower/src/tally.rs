@@ -1,0 +1,58 @@
+//! Counts what was seen, and what differs.
+
+use std::collections::BTreeMap;
+
+/// How many differences are shown.
+const SHOWN: usize = 20;
+
+#[derive(Default)]
+pub struct Tally {
+    counts: BTreeMap<&'static str, BTreeMap<String, u64>>,
+    required: Vec<(&'static str, String)>,
+    differences: u64,
+}
+
+impl Tally {
+    /// The check fails if this outcome is never counted.
+    pub fn require(&mut self, check: &'static str, outcome: impl ToString) {
+        self.required.push((check, outcome.to_string()));
+    }
+
+    pub fn count(&mut self, check: &'static str, outcome: impl ToString) {
+        *self.counts.entry(check).or_default().entry(outcome.to_string()).or_default() += 1;
+    }
+
+    pub fn same<T: PartialEq + std::fmt::Debug>(&mut self, check: &'static str, found: T, wanted: T, input: impl Fn() -> String) {
+        if found == wanted {
+            return;
+        }
+        self.differences += 1;
+        if self.differences <= SHOWN as u64 {
+            println!("DIFFERS {check}: {found:?}, reference {wanted:?}, on {}", input());
+        }
+    }
+
+    /// Prints the counts; true if nothing differs and nothing is missing.
+    pub fn report(&self) -> bool {
+        for (check, outcomes) in &self.counts {
+            println!("{check}: {} comparisons", outcomes.values().sum::<u64>());
+            for (outcome, count) in outcomes {
+                println!("  {outcome:<28}{count:>10}");
+            }
+        }
+        let missing =
+            |(check, outcome): &&(&'static str, String)| !self.counts.get(check).is_some_and(|seen| seen.contains_key(outcome));
+        let missing: Vec<_> = self.required.iter().filter(missing).collect();
+        for (check, outcome) in &missing {
+            println!("NEVER SEEN {check}: {outcome}");
+        }
+        let checks = self.counts.len() + self.required.len();
+        println!(
+            "{} differences; {} of {} outcomes seen in {checks} checks",
+            self.differences,
+            self.required.len() - missing.len(),
+            self.required.len()
+        );
+        self.differences == 0 && missing.is_empty()
+    }
+}

@@ -1,0 +1,90 @@
+//! Writes the replay tapes with the answers that the reference gives, or checks that the folder holds exactly these.
+//!
+//! usage: make_tapes FOLDER
+//!        make_tapes --check FOLDER
+
+mod coverage;
+mod mixed;
+
+use coverage::Coverage;
+use reference::replay::replay;
+use std::collections::BTreeMap;
+use std::fs;
+use std::io;
+use std::path::Path;
+use std::process::ExitCode;
+
+fn main() -> ExitCode {
+    let words: Vec<String> = std::env::args().skip(1).collect();
+    let words: Vec<&str> = words.iter().map(String::as_str).collect();
+    let (check, folder) = match words[..] {
+        ["--check", folder] => (true, Path::new(folder)),
+        [folder] => (false, Path::new(folder)),
+        _ => {
+            eprintln!("usage: make_tapes [--check] FOLDER");
+            return ExitCode::from(2);
+        }
+    };
+    let tapes = tapes();
+    let mut coverage = Coverage::default();
+    for (tape, output) in tapes.values() {
+        coverage.count(tape, output);
+    }
+    let missing = coverage.report();
+    let differing = if check { differing_files(folder, &tapes) } else { write_files(folder, &tapes) };
+    match differing {
+        Ok(0) if missing == 0 => {
+            println!("{} tapes {}", tapes.len(), if check { "as generated" } else { "written" });
+            ExitCode::SUCCESS
+        }
+        Ok(count) => {
+            println!("{count} files differ, {missing} answers or statuses never seen");
+            ExitCode::FAILURE
+        }
+        Err(error) => {
+            println!("{}: {error}", folder.display());
+            ExitCode::FAILURE
+        }
+    }
+}
+
+/// Every tape by name, with its answers.
+fn tapes() -> BTreeMap<String, (Vec<u8>, Vec<u8>)> {
+    let named = cases::all().into_iter().map(|case| (case.name.clone(), case.tape()));
+    named.chain(mixed::tapes()).map(|(name, tape)| (name, (tape.clone(), replay(&tape)))).collect()
+}
+
+type Tapes = BTreeMap<String, (Vec<u8>, Vec<u8>)>;
+
+fn write_files(folder: &Path, tapes: &Tapes) -> io::Result<usize> {
+    fs::create_dir_all(folder)?;
+    for (name, (tape, output)) in tapes {
+        fs::write(folder.join(format!("{name}.tape")), tape)?;
+        fs::write(folder.join(format!("{name}.out")), output)?;
+    }
+    Ok(0)
+}
+
+/// How many files are missing, differ or are too many.
+fn differing_files(folder: &Path, tapes: &Tapes) -> io::Result<usize> {
+    let mut differing = 0;
+    let mut say = |name: &str| {
+        println!("DIFFERS {name}");
+        differing += 1;
+    };
+    for (name, (tape, output)) in tapes {
+        for (file, bytes) in [(format!("{name}.tape"), tape), (format!("{name}.out"), output)] {
+            if fs::read(folder.join(&file)).ok().as_ref() != Some(bytes) {
+                say(&file);
+            }
+        }
+    }
+    for entry in fs::read_dir(folder)? {
+        let file = entry?.file_name().to_string_lossy().into_owned();
+        let name = file.strip_suffix(".tape").or(file.strip_suffix(".out"));
+        if !name.is_some_and(|name| tapes.contains_key(name)) {
+            say(&file);
+        }
+    }
+    Ok(differing)
+}

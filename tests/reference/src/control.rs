@@ -1,0 +1,180 @@
+//! Control commands.
+
+use crate::answer::{Outcome, Refusal};
+use crate::card::{Card, Pair, Region};
+use crate::layout::*;
+use crate::record::Command;
+
+pub const ACK_BYTES: usize = 13;
+
+const MASK_STATE: u32 = 1 << 0;
+const MASK_DESTINATION: u32 = 1 << 15;
+const RELIABLE_CONNECTION: u8 = 2;
+
+/// The numbers that follow the ack byte.
+enum Ack {
+    Empty,
+    Number(usize),
+    Keys { number: usize, key: u32 },
+}
+
+/// Runs a control command and writes its ack.
+pub fn control(state: &mut [u8], command: &[u8], ack: &mut [u8]) -> Outcome {
+    let mut card = match Card::open(state) {
+        Ok(card) => card,
+        Err(refusal) => return refusal.into(),
+    };
+    if ack.len() < ACK_BYTES {
+        return Refusal::BufferTooShort.into();
+    }
+    match Command::read(command).and_then(|command| run(&mut card, command)) {
+        Ok(data) => {
+            write_ack(ack, &data);
+            Outcome::DONE
+        }
+        Err(refusal) => {
+            ack[0] = 1;
+            refusal.into()
+        }
+    }
+}
+
+fn write_ack(ack: &mut [u8], data: &Ack) {
+    ack[0] = 0;
+    match *data {
+        Ack::Empty => {}
+        Ack::Number(number) => put32(ack, 1, number as u32),
+        Ack::Keys { number, key } => {
+            put32(ack, 1, number as u32);
+            put32(ack, 5, key);
+            put32(ack, 9, key);
+        }
+    }
+}
+
+fn run(card: &mut Card, command: Command) -> Result<Ack, Refusal> {
+    match command {
+        Command::CreateQueue { places } => create_queue(card, places),
+        Command::DestroyQueue { number } => destroy_queue(card, number),
+        Command::CreateDomain => create_domain(card),
+        Command::DestroyDomain { number } => destroy_domain(card, number),
+        Command::Register { domain, access, start, length, virt } => register(card, domain, access, start, length, virt),
+        Command::Deregister { number } => deregister(card, number),
+        Command::CreatePair { domain, kind, signal, send_queue, receive_queue } => {
+            create_pair(card, domain, kind, signal, send_queue, receive_queue)
+        }
+        Command::ModifyPair { number, mask, state, padding, destination } => {
+            modify_pair(card, number, mask, state, padding, destination)
+        }
+        Command::DestroyPair { number } => destroy_pair(card, number),
+    }
+}
+
+fn create_queue(card: &mut Card, places: u32) -> Result<Ack, Refusal> {
+    if places == 0 || places as usize > MOST_PLACES {
+        return Err(Refusal::BadField);
+    }
+    let number = card.free_queue().ok_or(Refusal::Full)?;
+    card.set_queue(number, places as u8);
+    Ok(Ack::Number(number))
+}
+
+fn destroy_queue(card: &mut Card, number: u32) -> Result<Ack, Refusal> {
+    let number = card.queue(number)?;
+    let names_it = |pair: Pair| usize::from(pair.send_queue) == number || usize::from(pair.receive_queue) == number;
+    if live_pairs(card).any(names_it) {
+        return Err(Refusal::InUse);
+    }
+    card.set_queue(number, 0);
+    Ok(Ack::Empty)
+}
+
+fn create_domain(card: &mut Card) -> Result<Ack, Refusal> {
+    let number = card.free_domain().ok_or(Refusal::Full)?;
+    card.set_domain(number, true);
+    Ok(Ack::Number(number))
+}
+
+fn destroy_domain(card: &mut Card, number: u32) -> Result<Ack, Refusal> {
+    let number = card.domain(number)?;
+    let in_region = |n: usize| card.live_region(n) && usize::from(card.region(n).domain) == number;
+    if (0..REGIONS).any(in_region) || live_pairs(card).any(|pair| usize::from(pair.domain) == number) {
+        return Err(Refusal::InUse);
+    }
+    card.set_domain(number, false);
+    Ok(Ack::Empty)
+}
+
+fn register(card: &mut Card, domain: u32, access: u32, start: u64, length: u64, virt: u64) -> Result<Ack, Refusal> {
+    if access & !u32::from(LOCAL_WRITE | REMOTE_WRITE | REMOTE_READ) != 0 {
+        return Err(Refusal::BadField);
+    }
+    let domain = card.domain(domain)?;
+    let memory = card.memory_length();
+    let in_memory = start.checked_add(length).is_some_and(|end| end <= memory);
+    if length == 0 || !in_memory || virt.checked_add(length).is_none() {
+        return Err(Refusal::Range);
+    }
+    let number = card.free_region().ok_or(Refusal::Full)?;
+    let variant = match card.region(number).variant {
+        255 => 1,
+        last => last + 1,
+    };
+    card.set_region(number, &Region { access: access as u8, variant, domain: domain as u8, start, length, virt });
+    Ok(Ack::Keys { number, key: 256 * number as u32 + u32::from(variant) })
+}
+
+fn deregister(card: &mut Card, number: u32) -> Result<Ack, Refusal> {
+    let number = card.region_number(number)?;
+    card.drop_region(number);
+    Ok(Ack::Empty)
+}
+
+fn create_pair(card: &mut Card, domain: u32, kind: u8, signal: u8, send_queue: u32, receive_queue: u32) -> Result<Ack, Refusal> {
+    if kind != RELIABLE_CONNECTION || signal > 1 {
+        return Err(Refusal::BadField);
+    }
+    let pair = Pair {
+        domain: card.domain(domain)? as u8,
+        signal,
+        send_queue: card.queue(send_queue)? as u8,
+        receive_queue: card.queue(receive_queue)? as u8,
+        state: RESET,
+        destination: NO_DESTINATION,
+    };
+    let number = card.free_pair().ok_or(Refusal::Full)?;
+    card.create_pair(number, &pair);
+    Ok(Ack::Number(number))
+}
+
+fn modify_pair(card: &mut Card, number: u32, mask: u32, state: u8, padding: [u8; 3], destination: u32) -> Result<Ack, Refusal> {
+    let names_peer = mask & MASK_DESTINATION != 0;
+    let bad_mask = mask & !(MASK_STATE | MASK_DESTINATION) != 0 || mask & MASK_STATE == 0;
+    let bad_state = !matches!(state, RESET | INIT | READY_TO_RECEIVE | READY_TO_SEND | ERROR);
+    let bad_peer = names_peer && (destination as usize >= PAIRS || destination == number);
+    if bad_mask || bad_state || padding != [0; 3] || names_peer != (state == READY_TO_RECEIVE) || bad_peer {
+        return Err(Refusal::BadField);
+    }
+    let number = card.pair_number(number)?;
+    match (card.pair(number).state, state) {
+        (_, RESET) => {
+            card.set_destination(number, NO_DESTINATION);
+            card.drop_receives(number);
+        }
+        (INIT, READY_TO_RECEIVE) => card.set_destination(number, destination as u8),
+        (_, ERROR) | (RESET, INIT) | (READY_TO_RECEIVE, READY_TO_SEND) => {}
+        _ => return Err(Refusal::WrongState),
+    }
+    card.set_pair_state(number, state);
+    Ok(Ack::Empty)
+}
+
+fn destroy_pair(card: &mut Card, number: u32) -> Result<Ack, Refusal> {
+    let number = card.pair_number(number)?;
+    card.drop_pair(number);
+    Ok(Ack::Empty)
+}
+
+fn live_pairs<'c>(card: &'c Card) -> impl Iterator<Item = Pair> + 'c {
+    (0..PAIRS).filter(|&n| card.live_pair(n)).map(|n| card.pair(n))
+}

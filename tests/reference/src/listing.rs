@@ -1,0 +1,64 @@
+//! The objects of an accepted state, with nothing that has no meaning: neither the bytes of free slots nor the rings' first places.
+
+use crate::card::{Card, Pair, Region};
+use crate::layout::*;
+use crate::record::{Completion, Piece};
+
+#[derive(Clone, Debug, PartialEq, Eq)]
+pub struct Listing {
+    pub memory_length: u64,
+    pub domains: Vec<bool>,
+    pub queues: Vec<Option<QueueListing>>,
+    pub variants: Vec<u8>,
+    pub regions: Vec<Option<Region>>,
+    pub pairs: Vec<Option<PairListing>>,
+}
+
+#[derive(Clone, Debug, PartialEq, Eq)]
+pub struct QueueListing {
+    pub places: usize,
+    pub unread: Vec<Completion>,
+}
+
+#[derive(Clone, Debug, PartialEq, Eq)]
+pub struct PairListing {
+    pub pair: Pair,
+    pub waiting: Vec<ReceiveListing>,
+}
+
+#[derive(Clone, Debug, PartialEq, Eq)]
+pub struct ReceiveListing {
+    pub wr_id: u64,
+    pub pieces: Vec<Piece>,
+}
+
+impl Listing {
+    /// None if the state is not accepted.
+    pub fn of(state: &[u8]) -> Option<Listing> {
+        let mut copy = state.to_vec();
+        let card = Card::open(&mut copy).ok()?;
+        Some(Listing {
+            memory_length: card.memory_length(),
+            domains: (0..DOMAINS).map(|n| card.domain(n as u32).is_ok()).collect(),
+            queues: (0..QUEUES).map(|n| queue(&card, n)).collect(),
+            variants: (0..REGIONS).map(|n| card.region(n).variant).collect(),
+            regions: (0..REGIONS).map(|n| card.live_region(n).then(|| card.region(n))).collect(),
+            pairs: (0..PAIRS).map(|n| pair(&card, n)).collect(),
+        })
+    }
+}
+
+fn queue(card: &Card, number: usize) -> Option<QueueListing> {
+    card.queue(number as u32).ok()?;
+    let unread = (0..card.unread(number)).map(|index| card.completion(number, index)).collect();
+    Some(QueueListing { places: card.places(number), unread })
+}
+
+fn pair(card: &Card, number: usize) -> Option<PairListing> {
+    card.pair_number(number as u32).ok()?;
+    let receive = |index| {
+        let receive = card.receive(number, index);
+        ReceiveListing { wr_id: receive.wr_id, pieces: receive.pieces().to_vec() }
+    };
+    Some(PairListing { pair: card.pair(number), waiting: (0..card.waiting(number)).map(receive).collect() })
+}

@@ -1,0 +1,85 @@
+//! Answers as text.
+
+use crate::calls::{CONTROL, POLL};
+use crate::tape::{hex, number, Header, Record};
+
+pub const HEADER: Header =
+    Header { mark: [0x72, 0x6b], fault: |answer, _| if answer > 15 { Some("no answer of the table") } else { None } };
+
+const ANSWERS: [&str; 16] = [
+    "done",
+    "record length wrong",
+    "number not live",
+    "wrong QP state or move",
+    "bad field",
+    "held: peer not ready or no receive waiting",
+    "held: no completion place",
+    "lent memory's length isn't the reset length",
+    "table or receive queue full",
+    "nothing there",
+    "in use",
+    "range",
+    "answer buffer too short",
+    "unknown class or command",
+    "bad tape record",
+    "lent card state not acceptable",
+];
+
+pub fn describe(call: &Record, answer: &Record) -> String {
+    let name = ANSWERS[usize::from(answer.first)];
+    let status = match (call.first, answer.first) {
+        (2, 0) => format!(", status {} {}", answer.second, status(answer.second)),
+        _ if answer.second != 0 => format!(", status {}", answer.second),
+        _ => String::new(),
+    };
+    format!("{} {name}{status}{}", answer.first, written(call, answer))
+}
+
+fn status(status: u8) -> &'static str {
+    match status {
+        0 => "success",
+        1 => "local length",
+        3 => "local protection",
+        4 => "flushed",
+        7 => "remote invalid request",
+        8 => "remote access",
+        _ => "no status of the table",
+    }
+}
+
+/// The ack's numbers or the completion.
+fn written(call: &Record, answer: &Record) -> String {
+    let bytes = &answer.body[..];
+    match (call.first, bytes.len()) {
+        (_, 0) => String::new(),
+        (CONTROL, 1) => format!(", ack {}", bytes[0]),
+        (CONTROL, 5) => format!(", ack {} number {}", bytes[0], number(bytes, 1, 4)),
+        (CONTROL, 13) => {
+            format!(", ack {} mrn {} lkey {} rkey {}", bytes[0], number(bytes, 1, 4), number(bytes, 5, 4), number(bytes, 9, 4))
+        }
+        (POLL, 24) => completion(bytes),
+        _ => format!(", {}", hex(bytes)),
+    }
+}
+
+fn completion(bytes: &[u8]) -> String {
+    let opcode = match bytes[9] {
+        0 => "send",
+        1 => "write",
+        2 => "read",
+        3 => "receive",
+        4 => "receive of a write",
+        _ => "no opcode",
+    };
+    let zero = if bytes[10..12] == [0, 0] { String::new() } else { format!(" padding {}", hex(&bytes[10..12])) };
+    format!(
+        ", wr_id {} status {} {} opcode {} {opcode}{zero} length {} immediate {:#x} owner QP {}",
+        number(bytes, 0, 8),
+        bytes[8],
+        status(bytes[8]),
+        bytes[9],
+        number(bytes, 12, 4),
+        number(bytes, 16, 4),
+        number(bytes, 20, 4),
+    )
+}
