@@ -1,0 +1,122 @@
+-- Document 01, "Replay tape (house)": the records of a tape, the answer to each, and the whole output. Assumes nothing.
+use mathlib.Core.Bool.{Bool, cond, not, _&&_, _||_}
+use mathlib.Core.List.{List, [], _∷_, _++_}
+use Prim.Native.Nat.{ℕ, zero, suc, _+_, _*_, _/_, _%_}
+use lib.Dec.{eqb, ltb, leb}
+use lib.ListN.{length, take, drop, replicate}
+use Rattle.wire.specs.Le.{leAt}
+use Rattle.tables.specs.Accept.{accepts}
+use Rattle.tables.specs.Card.{Card}
+use Rattle.tables.specs.Image.{card}
+use Rattle.tables.specs.Records.{ackLeast, commandOf, completionCodec}
+use Rattle.tables.specs.Reset.{resetBytes}
+use Rattle.rules.specs.Answer.{number, status, isDone}
+use Rattle.rules.specs.Call.{Call}
+use Rattle.rules.specs.Calls.{Result, owed}
+use Rattle.rules.specs.Control.{commandAck}
+use Rattle.rules.specs.declared.Answer.{Answer}
+use Rattle.rules.specs.declared.Answer.the-variants.{Done, Held, Refused}
+use Rattle.engine.specs.Owed.{bytesAfter}
+use Rattle.tape.specs.declared.Header.{Header}
+use Rattle.tape.specs.declared.Header.the-variants.{Record, Bad, Cut}
+
+-- ---- a record: "mark 52 4B, kind .., QP or CQ number byte .., length 16 bits up to 640, body"
+
+abbrev pub headerSize : ℕ
+headerSize = 6
+
+-- "mark 52 4B"
+abbrev pub isMark : List ℕ → Bool
+isMark i = eqb (leAt 1 i 0) 82 && eqb (leAt 1 i 1) 75
+
+-- "kind (1 control, 2 send, 3 receive, 4 poll, 5 flush)"
+abbrev pub isKind : ℕ → Bool
+isKind k = leb 1 k && leb k 5
+
+-- "A bad .. length (over 640, or not 0 for 4 and 5)"
+abbrev pub isLength : (kind length : ℕ) → Bool
+isLength k n = leb n 640 && (ltb k 4 || eqb n 0)
+
+abbrev pub isGood : List ℕ → Bool
+isGood i = isMark i && isKind (leAt 1 i 2) && isLength (leAt 1 i 2) (leAt 2 i 4)
+
+-- what the first bytes of the input hold
+unfoldable pub headerOf : List ℕ → Header
+headerOf i = cond (ltb (length i) headerSize) Cut (cond (isGood i) (Record (leAt 1 i 2) (leAt 1 i 3) (leAt 2 i 4)) Bad)
+
+-- ---- the call that a record makes
+
+abbrev pub zeros : ℕ → List ℕ
+zeros n = replicate n 0
+
+-- "lends buffers that never give 12"; the number is "ignored for 1"
+abbrev pub callOf : (kind number : ℕ) → (body memory : List ℕ) → Call
+callOf k n b m =
+    cond (eqb k 1) (Call.control b (zeros ackLeast))
+    (cond (eqb k 2) (Call.send n b m)
+    (cond (eqb k 3) (Call.receive n b) (cond (eqb k 4) (Call.poll n (zeros (completionCodec .size))) (Call.flush n))))
+
+-- the memory after the call k on the state l; only a send is lent it
+abbrev pub memoryLeft : (l m : List ℕ) → Call → List ℕ
+memoryLeft l m (Call.reset n) = m
+memoryLeft l m (Call.control k a) = m
+memoryLeft l m (Call.send q x n) = owed card accepts l (Call.send q x n) .memory
+memoryLeft l m (Call.receive q x) = m
+memoryLeft l m (Call.flush q) = m
+memoryLeft l m (Call.poll n b) = m
+
+-- ---- its answer: "72 6B, answer, status, length 16 bits, bytes written (ack and its data, or a completion)"
+
+-- a control command writes its ack byte and numbers of 32 bits; one that is refused the ack byte, and none with 12 and 15
+abbrev pub ackWritten : Answer → Card → List ℕ → ℕ
+ackWritten (Done s) c k = 1 + 4 * length (commandAck c (commandOf k))
+ackWritten (Held x) c k = 1
+ackWritten (Refused n) c k = cond (eqb n 12 || eqb n 15) 0 1
+
+-- how many bytes of its answer buffer a call writes that answers r on the card c
+abbrev pub writtenBy : Answer → Card → Call → ℕ
+writtenBy r c (Call.reset n) = 0
+writtenBy r c (Call.control k a) = ackWritten r c k
+writtenBy r c (Call.send q x m) = 0
+writtenBy r c (Call.receive q x) = 0
+writtenBy r c (Call.flush q) = 0
+writtenBy r c (Call.poll n b) = cond (isDone r) (completionCodec .size) 0
+
+abbrev pub answerHead : Answer → (length : ℕ) → List ℕ
+answerHead r n = 114 ∷ 107 ∷ number r ∷ status r ∷ n % 256 ∷ n / 256 ∷ []
+
+unfoldable pub answerRecord : Answer → List ℕ → List ℕ
+answerRecord r w = answerHead r (length w) ++ w
+
+-- the answer to the call k on the state l
+unfoldable pub answerTo : (l : List ℕ) → Call → List ℕ
+answerTo l k =
+    let o : Result = owed card accepts l k in answerRecord (o .answer) (take (writtenBy (o .answer) (card l) k) (o .buffer))
+
+-- "72 6B 0E 00 00 00"
+abbrev pub badRecord : List ℕ
+badRecord = 114 ∷ 107 ∷ 14 ∷ 0 ∷ 0 ∷ 0 ∷ []
+
+-- ---- the whole output
+
+-- The output from a header on, where `more` is the output of what comes after its record: "A bad mark, kind or length .. or a cut
+-- record gives 72 6B 0E 00 00 00 and ends."
+abbrev pub playBy : (more : (l m input : List ℕ) → List ℕ) → Header → (l m rest : List ℕ) → List ℕ
+playBy more (Record k n s) l m rest =
+    let call : Call = callOf k n (take s rest) m in
+    cond (ltb (length rest) s) badRecord (answerTo l call ++ more (bytesAfter l call) (memoryLeft l m call) (drop s rest))
+playBy more Bad l m rest = badRecord
+playBy more Cut l m rest = badRecord
+
+-- of at most `records` records; "Clean end adds nothing."
+unfoldable pub play : (records : ℕ) → (l m input : List ℕ) → List ℕ
+play zero l m i = []
+play (suc n) l m [] = []
+play (suc n) l m (b ∷ i) = playBy (play n) (headerOf (b ∷ i)) l m (drop headerSize (b ∷ i))
+
+abbrev pub tapeMemory : ℕ
+tapeMemory = 4096
+
+-- "starts from a reset with 4,096 zero bytes of memory"; a tape has fewer records than bytes
+unfoldable pub output : (input : List ℕ) → List ℕ
+output i = play (length i) (resetBytes tapeMemory) (zeros tapeMemory) i
