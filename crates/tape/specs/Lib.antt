@@ -1,2 +1,3 @@
 pub mod Tape
 pub mod Heads
+pub mod Written

@@ -1,4 +1,5 @@
 -- Document 01, "Replay tape (house)": the records of a tape, the answer to each, and the whole output. Assumes nothing.
+use mathlib.Core.Path.{_≡_}
 use mathlib.Core.Bool.{Bool, cond, not, _&&_, _||_}
 use mathlib.Core.List.{List, [], _∷_, _++_}
 use Prim.Native.Nat.{ℕ, zero, suc, _+_, _*_, _/_, _%_}
@@ -96,6 +97,16 @@ answerTo l k =
 -- "72 6B 0E 00 00 00"
 abbrev pub badRecord : List ℕ
 badRecord = 114 ∷ 107 ∷ 14 ∷ 0 ∷ 0 ∷ 0 ∷ []
+
+-- the buffer `out` with the bytes written at its start
+abbrev pub placed : (bytes out : List ℕ) → List ℕ
+placed b out = b ++ drop (length b) out
+
+-- The call k, on the state l, leaves the state l′, and `out′` of the buffer `out` with its answer record of n bytes at the start.
+pub record Answers (k : Call) (l out : List ℕ) (n : ℕ) (l′ out′ : List ℕ) : Type 0 where
+  pub count : n ≡ length (answerTo l k)
+  pub bytes : out′ ≡ placed (answerTo l k) out
+  pub state : l′ ≡ bytesAfter l k
 
 -- ---- the whole output
 

@@ -1,10 +1,15 @@
 // The replay tape: reading a record's header, making its call, writing its answer. What a tape means: specs/Tape.antt.
 use rules::Answer;
 ghost use mathlib.Core.Path.{_≡_};
-ghost use mathlib.Core.List.{_++_};
-ghost use Prim.Native.Nat.{_+_, _≤_, _<_};
+ghost use mathlib.Core.Bool.{true};
+ghost use mathlib.Core.List.{[], _++_};
+ghost use Prim.Native.Nat.{_+_, _*_, _≤_};
 ghost use lib.ListN.{length, take, drop};
-ghost use Rattle.tape.specs.Tape.{isMark, isKind, isLength, headerOf, answerHead, answerRecord, badRecord};
+ghost use Rattle.tables.specs.Card.{Card};
+ghost use Rattle.tables.specs.Records.{commandOf};
+ghost use Rattle.rules.specs.Answer.{isDone};
+ghost use Rattle.rules.specs.Control.{commandAck};
+ghost use Rattle.tape.specs.Tape.{isMark, isKind, isLength, headerOf, ackWritten, answerHead, answerRecord, placed, badRecord};
 
 const HEADER: usize = 6;
 
@@ -65,6 +70,57 @@ fn put_head(out: &mut [u8], answer: Answer, size: u16)
     out[3] = rules::status_of(answer);
     out[4] = (size % 256) as u8;
     out[5] = (size / 256) as u8;
+}
+
+// Writes the answer record of a call that writes no bytes, and returns its length.
+fn put_bare(out: &mut [u8], answer: Answer) -> usize
+    requires { ⌜ 6 ≤ length (now out) ⌝ }
+    ensures { λ r. ⌜ r ≡ length (answerRecord answer []) ⌝ }
+    ensures { λ _. ⌜ now (out .exit) ≡ placed (answerRecord answer []) (now (out .entry)) ⌝ }
+{
+    put_head(out, answer, 0);
+    HEADER
+}
+
+// Writes the answer record of a call that wrote the first n of the bytes, and returns its length.
+fn put_answer(out: &mut [u8], answer: Answer, bytes: &[u8], n: usize) -> usize
+    requires { ⌜ (n ≤ length (now bytes)) × (n ≤ 24) × (30 ≤ length (now out)) ⌝ }
+    ensures { λ r. ⌜ r ≡ length (answerRecord answer (take n (now (bytes .entry)))) ⌝ }
+    ensures { λ _. ⌜ now (out .exit) ≡ placed (answerRecord answer (take n (now (bytes .entry)))) (now (out .entry)) ⌝ }
+{
+    put_head(out, answer, n as u16);
+    engine::transfer::copy_bytes(out, HEADER, bytes, 0, n);
+    HEADER + n
+}
+
+// How many ack bytes a command writes that is answered 0.
+fn ack_size(command: &[u8]) -> usize
+    requires { ⌜ 2 ≤ length (now command) ⌝ }
+    ensures { λ r. ⌜ ((c : Card) → r ≡ 1 + 4 * length (commandAck c (commandOf (now (command .entry))))) ⌝ }
+    ensures { λ r. ⌜ r ≤ 13 ⌝ }
+{
+    match wire::get8(command, 1) {
+        7 => 13,
+        3 | 5 | 8 | 10 | 12 => 1,
+        _ => 5,
+    }
+}
+
+fn ack_written(answer: Answer, command: &[u8]) -> usize
+    requires { ⌜ (isDone answer ≡ true → 2 ≤ length (now command)) ⌝ }
+    ensures { λ r. ⌜ ((c : Card) → r ≡ ackWritten answer c (now (command .entry))) ⌝ }
+    ensures { λ r. ⌜ r ≤ 13 ⌝ }
+{
+    match answer {
+        Answer::Done(_) => ack_size(command),
+        Answer::Held(_) => 1,
+        Answer::Refused(n) => {
+            if (n == 12) | (n == 15) {
+                return 0;
+            }
+            1
+        }
+    }
 }
 
 // Writes the answer record of a fault, which ends the tape.

@@ -1,0 +1,136 @@
+-- Answer records written: what stands in the buffer, and how many bytes a call wrote. Assumes nothing.
+use mathlib.Core.Path.{_≡_, refl, sym, ap, ap₂, _∙_}
+use mathlib.Core.Logic.{⊎-elim, inl, inr}
+use mathlib.Core.Bool.{Bool, true, false, cond, true≢false}
+use mathlib.Core.List.{List, [], _∷_, _++_}
+use mathlib.Core.Option.{Option, none, some}
+use Prim.Native.Nat.{ℕ, _+_, _*_, _≤_, _<_}
+use native.Mathlib.Omega.{arith}
+use lib.Dec.{eqb, ltb}
+use lib.ListN.{length, take, drop, length-append}
+use lib.Seq.{paste, length-take-le, drop-append-add, drop-drop}
+use borrow.Author.Tests.{ltb-false, ne-eqb}
+use types.Run.{OneOf}
+use Rattle.wire.specs.Checks.{Check, refusal, passed}
+use Rattle.wire.specs.Le.{leAt}
+use Rattle.tables.specs.Accept.{accepts}
+use Rattle.tables.specs.Card.{Card}
+use Rattle.tables.specs.Image.{card}
+use Rattle.tables.specs.declared.CreateQp.{CreateQp}
+use Rattle.tables.specs.declared.ModifyQp.{ModifyQp}
+use Rattle.tables.specs.declared.Registration.{Registration}
+use Rattle.tables.specs.Records.{Command, commandOf, numberCodec, registerCodec, createQpCodec, modifyQpCodec}
+use Rattle.rules.specs.Answer.{answered, isDone}
+use Rattle.rules.specs.Call.{Call}
+use Rattle.rules.specs.Calls.{checks, controlChecks, owed, owedChecks, settled}
+use Rattle.rules.specs.Control.{commandAck, commandChecks}
+use Rattle.rules.specs.declared.Answer.{Answer}
+use Rattle.rules.proofs.Answers.{answered-not-done}
+use Rattle.rules.proofs.Tests.{passed-before}
+use Rattle.engine.specs.Owed.{Owes}
+use Rattle.tape.specs.Tape.{answerHead, answerRecord, answerTo, writtenBy, placed, Answers}
+
+-- the head, then the first n of the bytes behind it
+module _ (r : Answer) (b : List ℕ) (n : ℕ) (within : n ≤ length b) where
+  pub record-size : 6 + n ≡ length (answerRecord r (take n b))
+  unfolding answerRecord
+  record-size =
+      let e : length (take n b) ≡ n = length-take-le n b within in
+      let f : length (answerHead r (length (take n b)) ++ take n b) ≡ 6 + length (take n b) = length-append (answerHead r (length (take n b))) (take n b) in
+      omega arith
+
+  pub record-placed : (out : List ℕ) → paste (answerHead r n ++ drop 6 out) 6 (drop 0 b) n ≡ placed (answerRecord r (take n b)) out
+  unfolding answerRecord
+  record-placed out =
+      let e : length (take n b) ≡ n = length-take-le n b within in
+      let s : 6 + n ≡ length (answerRecord r (take n b)) = record-size in
+      let d : drop (6 + n) (answerHead r n ++ drop 6 out) ≡ drop n (drop 6 out) = drop-append-add (answerHead r n) (drop 6 out) n in
+      let f : drop n (drop 6 out) ≡ drop (6 + n) out = drop-drop n 6 out in
+      ap₂ (λ (h t : List ℕ). h ++ take n b ++ t) (ap (λ (k : ℕ). answerHead r k) (sym e)) (d ∙ f ∙ ap (λ (k : ℕ). drop k out) s)
+
+-- ---- the size of an ack
+
+picked : (c : Card) (n : ℕ) (g : Registration) (p : CreateQp) (t : ModifyQp) (b2 b3 b5 b7 b8 b9 b10 b12 : Bool) →
+    (cond b2 5 (cond b3 1 (cond b5 1 (cond b7 13 (cond b8 1 (cond b9 5 (cond b10 1 (cond b12 1 5)))))))) ≡
+    1 + 4 * length (commandAck c (cond b2 (Command.createCq n) (cond b3 (Command.destroyCq n) (cond b5 (Command.destroyPd n) (cond b7 (Command.register g) (cond b8 (Command.deregister n) (cond b9 (Command.createQp p) (cond b10 (Command.modifyQp t) (cond b12 (Command.destroyQp n) Command.createPd)))))))))
+unfolding commandAck
+picked c n g p t true b3 b5 b7 b8 b9 b10 b12 = refl
+picked c n g p t false true b5 b7 b8 b9 b10 b12 = refl
+picked c n g p t false false true b7 b8 b9 b10 b12 = refl
+picked c n g p t false false false true b8 b9 b10 b12 = refl
+picked c n g p t false false false false true b9 b10 b12 = refl
+picked c n g p t false false false false false true b10 b12 = refl
+picked c n g p t false false false false false false true b12 = refl
+picked c n g p t false false false false false false false true = refl
+picked c n g p t false false false false false false false false = refl
+
+-- each command's ack, by the command byte
+abbrev pub ackSize : ℕ → ℕ
+ackSize n =
+    cond (eqb n 2) 5
+    (cond (eqb n 3) 1 (cond (eqb n 5) 1 (cond (eqb n 7) 13 (cond (eqb n 8) 1 (cond (eqb n 9) 5 (cond (eqb n 10) 1 (cond (eqb n 12) 1 5)))))))
+
+pub ack-size : (c : Card) (k : List ℕ) → ackSize (leAt 1 k 1) ≡ 1 + 4 * length (commandAck c (commandOf k))
+unfolding commandOf
+ack-size c k =
+    let n = leAt 1 k 1 in
+    picked c (numberCodec .read k 2) (registerCodec .read k 2) (createQpCodec .read k 2) (modifyQpCodec .read k 2)
+    (eqb n 2) (eqb n 3) (eqb n 5) (eqb n 7) (eqb n 8) (eqb n 9) (eqb n 10) (eqb n 12)
+
+same : (x y : Bool) → _≡_ {A = ℕ} 5 (cond x 5 (cond y 5 5))
+same true y = refl
+same false true = refl
+same false false = refl
+
+module _ (c : Card) (k : List ℕ) (n : ℕ) (byte : n ≡ leAt 1 k 1) where
+  sized : ackSize n ≡ 1 + 4 * length (commandAck c (commandOf k))
+  sized = ap (λ (x : ℕ). ackSize x) byte ∙ ack-size c k
+
+  -- a registration's number and keys
+  pub ack-keys : n ≡ 7 → 13 ≡ 1 + 4 * length (commandAck c (commandOf k))
+  ack-keys e = rw e at sized
+
+  -- no number
+  pub ack-bare : OneOf (3 ∷ 5 ∷ 8 ∷ 10 ∷ 12 ∷ []) n → 1 ≡ 1 + 4 * length (commandAck c (commandOf k))
+  ack-bare h =
+      ⊎-elim (λ e. rw e at sized)
+      (⊎-elim (λ e. rw e at sized) (⊎-elim (λ e. rw e at sized) (⊎-elim (λ e. rw e at sized) (λ e. rw e at sized)))) h
+
+  -- one number
+  pub ack-number : (n ≡ 7 → ⊥) → (OneOf (3 ∷ 5 ∷ 8 ∷ 10 ∷ 12 ∷ []) n → ⊥) → 5 ≡ 1 + 4 * length (commandAck c (commandOf k))
+  ack-number a b =
+      let e : 5 ≡ ackSize n =
+      rw (
+        ne-eqb n 3 (λ x. b (inl x)),
+        ne-eqb n 5 (λ x. b (inr (inl x))),
+        ne-eqb n 7 a,
+        ne-eqb n 8 (λ x. b (inr (inr (inl x)))),
+        ne-eqb n 10 (λ x. b (inr (inr (inr (inl x))))),
+        ne-eqb n 12 (λ x. b (inr (inr (inr (inr x))))),
+      )
+      (same (eqb n 2) (eqb n 9)) in
+      e ∙ sized
+
+-- a command answered 0 has its class and command bytes
+pub done-two : (l k a : List ℕ) {r : Answer} {l′ m′ b′ : List ℕ} → Owes l (Call.control k a) r l′ m′ b′ → isDone r ≡ true → 2 ≤ length k
+unfolding checks controlChecks
+done-two l k a {r} o d = by (refusal cs) refl
+  where
+    call : Call
+    call = Call.control k a
+
+    cs : List Check
+    cs = owedChecks card accepts l call
+
+    by : (x : Option ℕ) → refusal cs ≡ x → 2 ≤ length k
+    by none e = ltb-false (length k) 2 (passed-before (controlChecks k a) (commandChecks (card l) (commandOf k)) (passed cs e .1) .1 .0)
+    by (some n) e = absurd (true≢false (sym d ∙ ap isDone (o .meets .answer) ∙ ap (λ (x : Option ℕ). isDone (settled x (card l) call .answer)) e ∙ answered-not-done n))
+
+-- ---- from what a call owes to its answer record
+
+pub answers : {l l′ m′ b′ out out′ : List ℕ} {k : Call} {r : Answer} {s : ℕ} → Owes l k r l′ m′ b′ → (n : ℕ) → n ≡ writtenBy r (card l) k
+    → s ≡ length (answerRecord r (take n b′)) → out′ ≡ placed (answerRecord r (take n b′)) out → Answers k l out s l′ out′
+unfolding answerTo
+answers {l} {l′} {m′} {b′} {out} {out′} {k} {r} o n w size bytes =
+    let e : answerRecord r (take n b′) ≡ answerTo l k = rw (w, o .meets .answer, o .meets .buffer) in
+    record { count = size ∙ ap length e; bytes = bytes ∙ ap (λ (x : List ℕ). placed x out) e; state = o .bytes }
