@@ -102,10 +102,16 @@ pub fn compare(first: &mut Side, second: &mut Side, call: &Call) -> Result<Done,
         return Err(format!("memory byte {at} is {}, reference {}", second.memory[at], first.memory[at]));
     }
     if wanted.outcome.answer == 0 {
-        let (ours, theirs) = (Listing::of(&first.state), Listing::of(&second.state));
-        if ours.is_none() || ours != theirs {
-            return Err(format!("the state lists\n  {theirs:?}\n  reference\n  {ours:?}"));
-        }
+        same_objects(&first.state, &second.state)?;
     }
     Ok(wanted)
+}
+
+fn same_objects(wanted: &[u8], found: &[u8]) -> Result<(), String> {
+    match (Listing::of(wanted), Listing::of(found)) {
+        (Some(wanted), Some(found)) => {
+            wanted.difference(&found).map_or(Ok(()), |object| Err(format!("state: reference {object}")))
+        }
+        _ => Err(format!("leaves a state with {:?}, reference with {:?}", fault(found), fault(wanted))),
+    }
 }
