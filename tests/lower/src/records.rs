@@ -15,21 +15,31 @@ struct Reader {
     name: &'static str,
     read: Read,
     out: usize,
+    /// Whether the bytes past `out` must stay.
+    exact: bool,
     answers: &'static [u32],
 }
 
-const SEND: Reader =
-    Reader { name: "read send", read: |lower, record, out| lower.read_send(record, out), out: SEND_OUT, answers: &[0, 1, 4] };
+const SEND: Reader = Reader {
+    name: "read send",
+    read: |lower, record, out| lower.read_send(record, out),
+    out: SEND_OUT,
+    exact: true,
+    answers: &[0, 1, 4],
+};
 const RECEIVE: Reader = Reader {
     name: "read receive",
     read: |lower, record, out| lower.read_receive(record, out),
     out: RECEIVE_OUT,
+    exact: true,
     answers: &[0, 1, 4],
 };
+/// A longer buffer may get more of a command's fields than are compared here.
 const COMMAND: Reader = Reader {
     name: "read command",
     read: |lower, record, out| lower.read_command(record, out),
     out: COMMAND_OUT,
+    exact: false,
     answers: &[0, 1, 13],
 };
 
