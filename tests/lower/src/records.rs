@@ -66,9 +66,8 @@ impl Reader {
             let answer = (self.read)(&ReferenceLower, record, &mut wanted);
             let shown = (self.read)(other, record, &mut found);
             tally.count(self.name, format!("answer {answer}"));
-            tally.same(self.name, (shown, &found[..self.out.min(length)]), (answer, &wanted[..self.out.min(length)]), || {
-                hex(record)
-            });
+            let compared = if self.exact { length } else { self.out.min(length) };
+            tally.same(self.name, (shown, &found[..compared]), (answer, &wanted[..compared]), || hex(record));
         }
     }
 
