@@ -37,7 +37,7 @@ pub mod probe {
         pub fn probe_inline(record: *const u8, len: usize, out: *mut u8, out_len: usize) -> usize;
         pub fn probe_read_receive(record: *const u8, len: usize, out: *mut u8, out_len: usize) -> u32;
         pub fn probe_read_command(command: *const u8, len: usize, out: *mut u8, out_len: usize) -> u32;
-        pub fn probe_free(state: *const u8, len: usize, table: u32) -> u32;
+        pub fn probe_free(state: *const u8, len: usize, table: u32) -> usize;
     }
 }
 

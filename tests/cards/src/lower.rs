@@ -177,7 +177,7 @@ mod linked {
         }
 
         fn free(&self, state: &[u8], table: u32) -> u32 {
-            unsafe { probe_free(state.as_ptr(), state.len(), table) }
+            unsafe { probe_free(state.as_ptr(), state.len(), table) as u32 }
         }
     }
 }
