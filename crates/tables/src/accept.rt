@@ -22,7 +22,7 @@ ghost use lib.Dec.{leb};
 ghost use lib.ListN.{length};
 ghost use Rattle.wire.specs.Scan.{all, allBelow};
 ghost use Rattle.wire.specs.Table.{rowAt};
-ghost use Rattle.tables.specs.Accept.{accepts, cqLive, completionOk, receiveOk, regionOk, pairOk, pdOk, cqOk, mrOk, qpOk};
+ghost use Rattle.tables.specs.Accept.{accepts, cqLive, isStatus, isState, completionOk, receiveOk, regionOk, pairOk, pdOk, cqOk, mrOk, qpOk};
 ghost use Rattle.tables.specs.Image.{card, unread, posted, entriesAt, receivesAt};
 ghost use Rattle.tables.specs.Layout.{image, memoryT};
 ghost use Rattle.tables.specs.Limits.{pdCount, cqCount, mrCount, qpCount, mostPlaces, mostWaiting};
@@ -58,29 +58,69 @@ pub fn sum_within(a: u64, b: u64, limit: u64) -> bool
     if b <= limit { a <= limit - b } else { false }
 }
 
+fn is_status(s: u8) -> bool
+    ensures { λ x. ⌜ x ≡ isStatus s ⌝ }
+{
+    match s {
+        0 | 1 | 3 | 4 | 7 | 8 => true,
+        _ => false,
+    }
+}
+
 fn completion_ok(e: Completion) -> bool
     ensures { λ x. ⌜ x ≡ completionOk e ⌝ }
 {
-    let s = e.status;
+    if !is_status(e.status) {
+        return false;
+    }
+    if 4 < e.opcode {
+        return false;
+    }
+    if MOST_MESSAGE < e.length {
+        return false;
+    }
     let owner = e.owner as usize;
-    let status = (s <= 1) | (s == 3) | (s == 4) | (s == 7) | (s == 8);
-    status & (e.opcode <= 4) & (e.length <= MOST_MESSAGE) & (owner < QP_COUNT)
+    owner < QP_COUNT
 }
 
 fn region_ok(memory: u64, r: Region) -> bool
     ensures { λ x. ⌜ x ≡ regionOk memory r ⌝ }
 {
-    let in_memory = sum_within(r.start, r.length, memory);
-    let in_space = sum_within(r.virt, r.length, MOST_ADDRESS);
-    (r.access <= MOST_ACCESS) & (1 <= r.variant) & (1 <= r.length) & in_memory & in_space
+    if MOST_ACCESS < r.access {
+        return false;
+    }
+    if r.variant < 1 {
+        return false;
+    }
+    if r.length < 1 {
+        return false;
+    }
+    if !sum_within(r.start, r.length, memory) {
+        return false;
+    }
+    sum_within(r.virt, r.length, MOST_ADDRESS)
+}
+
+fn is_state(s: u8) -> bool
+    ensures { λ x. ⌜ x ≡ isState s ⌝ }
+{
+    (s <= 3) | (s == 6)
 }
 
 fn pair_ok(n: usize, p: QueuePair) -> bool
     ensures { λ x. ⌜ x ≡ pairOk n p ⌝ }
 {
-    let state = (p.state <= 3) | (p.state == 6);
+    if 1 < p.signal {
+        return false;
+    }
+    if !is_state(p.state) {
+        return false;
+    }
     let dest = p.dest as usize;
-    (p.signal <= 1) & state & (dest <= QP_COUNT) & !(dest == n)
+    if QP_COUNT < dest {
+        return false;
+    }
+    !(dest == n)
 }
 
 // The unread completions of queue n, whose head is h.
@@ -143,9 +183,14 @@ fn mr_ok(img: &[u8], memory: u64, n: usize) -> bool
     if live == 0 {
         return true;
     }
+    if live != 1 {
+        return false;
+    }
     let r = image::load_mr(img, n);
-    let pd = pd_live(img, r.pd as u32);
-    (live == 1) & pd & region_ok(memory, r)
+    if !pd_live(img, r.pd as u32) {
+        return false;
+    }
+    region_ok(memory, r)
 }
 
 fn qp_ok(img: &[u8], n: usize) -> bool

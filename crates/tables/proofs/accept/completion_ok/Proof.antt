@@ -1,0 +1,35 @@
+use borrow.Author.Tests.{eq-eqb, ne-eqb, le-leb, lt-leb, lt-ltb, le-ltb, not-true, not-false}
+use mathlib.Core.Path.{_≡_, sym, ap, _∙_}
+use native.Mathlib.Omega.{arith}
+use Prim.Native.Nat.{ℕ, _≤_, _<_, _+_}
+use mathlib.Core.Bool.{Bool, true, false}
+use lib.Dec.{leb, ltb, eqb}
+use Rattle.tables.specs.Limits.{mostAccess, mostMessage, mostAddress, qpCount}
+use borrow.Author.Needs.{needs}
+use Rattle.tables.proofs.accept.completion_ok.Statement.{statement}
+use Rattle.tables.proofs.accept.completion_ok.Tie as tie
+use Rattle.tables.proofs.accept.completion_ok.Reads as reads
+use Rattle.tables.proofs.accept.completion_ok.Lts as lts
+use Rattle.tables.proofs.accept.is_status.Reads as is-status-reads
+
+is-status-requires : tie.Need-is-status-requires
+is-status-requires c κs = search needs
+
+returns : tie.Need-returns
+returns c = rw (sym (c .before .is-status .ensures) ∙ not-true _ (c .if1 .taken))
+
+returns-2 : tie.Need-returns-2
+returns-2 c = let e = c .before .before .before .before .args .e in rw (sym (c .before .before .before .is-status .ensures) ∙ not-false _ (c .before .before .if1 .left), lt-leb (e .opcode) 4 (c .if2 .taken))
+
+returns-3 : tie.Need-returns-3
+returns-3 c = let e = c .before .before .before .before .before .before .args .e in rw (sym (c .before .before .before .before .before .is-status .ensures) ∙ not-false _ (c .before .before .before .before .if1 .left), le-leb (e .opcode) 4 (c .before .before .if2 .left), lt-leb (e .length) mostMessage (c .if3 .taken))
+
+cast-owner : tie.Need-cast-owner
+cast-owner c = search needs
+
+returns-4 : tie.Need-returns-4
+returns-4 c = let e = c .before .before .before .before .before .before .before .args .e in rw (sym (c .before .before .before .before .before .before .is-status .ensures) ∙ not-false _ (c .before .before .before .before .before .if1 .left), le-leb (e .opcode) 4 (c .before .before .before .if2 .left), le-leb (e .length) mostMessage (c .before .if3 .left))
+
+pub completion-ok-spec : {M : Type 1} → statement M
+completion-ok-spec =
+    tie.close (tie.spec is-status-requires returns returns-2 returns-3 cast-owner returns-4)
