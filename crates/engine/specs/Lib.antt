@@ -9,3 +9,5 @@ pub mod Moves
 pub mod Bytewise
 pub mod Bytes
 pub mod Owed
+pub mod Exported
+pub mod PollLaws
