@@ -10,37 +10,27 @@ use lib.Dec.{eqb, ltb}
 use borrow.Author.Tests.{eq-eqb, ne-eqb, lt-ltb, le-ltb}
 use Rattle.wire.specs.Checks.{refusal}
 use Rattle.wire.specs.Fields.{within, clear, apart}
-use Rattle.wire.specs.Ring.{ring-length}
 use Rattle.wire.specs.Table.{rowAt}
 use Rattle.tables.specs.Accept.{accepts, cqLive}
 use Rattle.tables.specs.Accepted.{Accepted, accepted}
-use Rattle.tables.specs.Card.{Card, tail, withCq}
-use Rattle.tables.specs.Image.{card, entriesAt, noCompletion, unread}
+use Rattle.tables.specs.Card.{Card}
+use Rattle.tables.specs.Image.{card}
 use Rattle.tables.specs.Layout.{cqT, entryT}
 use Rattle.tables.specs.Limits.{cqCount, mostPlaces}
 use Rattle.tables.specs.Objects.{cq-live, cq-out}
 use Rattle.tables.specs.Queue.{popBytes}
-use Rattle.tables.specs.QueueLaws.{queue-sound, queue-is, oldest-is, pop-card, pop-accepted}
+use Rattle.tables.specs.QueueLaws.{queue-sound, oldest-is, pop-card, pop-accepted}
 use Rattle.tables.specs.Records.{completionCodec}
 use Rattle.tables.specs.declared.QueueHead.{QueueHead}
-use Rattle.rules.specs.Answer.{answered}
 use Rattle.rules.specs.Call.{Call}
 use Rattle.rules.specs.Calls.{owedChecks, checks, bufferChecks, statusOf, effect, memoryAfter, bufferAfter}
-use Rattle.rules.specs.Lists.{isEmpty, rest}
-use Rattle.rules.specs.Queues.{pollChecks, polled, oldestEntry}
-use Rattle.rules.specs.declared.Answer.{Answer}
+use Rattle.rules.specs.Lists.{isEmpty}
+use Rattle.rules.specs.Queues.{pollChecks, polled}
 use Rattle.rules.specs.declared.Answer.the-variants.{Done, Refused}
 use Rattle.engine.specs.Bytes.{effectBytes}
 use Rattle.engine.specs.Owed.{Owes}
+use Rattle.engine.specs.QueueFacts.{unread-none, tail-is}
 use Rattle.engine.specs.Exported.{refused-owes, done-owes}
-
-pub empty-is : {A : Type 0} (xs : List A) → isEmpty xs ≡ eqb (length xs) 0
-empty-is [] = refl
-empty-is (x ∷ xs) = sym (ne-eqb (length (x ∷ xs)) 0 (λ e. omega arith))
-
-pub tail-is : {A : Type 0} (xs : List A) → tail xs ≡ rest xs
-tail-is [] = refl
-tail-is (x ∷ xs) = refl
 
 module _ (l : List ℕ) (n : ℕ) (b : List ℕ) where
   abbrev k : Call
@@ -77,16 +67,14 @@ module _ (l : List ℕ) (n : ℕ) (b : List ℕ) where
           live : cqLive (card l) n ≡ true
           live = cq-live l n below ∙ lt-ltb 0 (h .places) (omega arith)
 
-          unread-count : isEmpty (card l .cq n .entries) ≡ eqb (h .count) 0
-          unread-count =
-              empty-is (card l .cq n .entries)
-              ∙ rw (queue-is l (accepted l ok) n below places, ring-length noCompletion mostPlaces (entriesAt l n) (h .first) (h .count))
+          none-unread : isEmpty (card l .cq n .entries) ≡ eqb (h .count) 0
+          none-unread = unread-none l (accepted l ok) n below places
 
           pub poll-first : h .first < mostPlaces
           poll-first = queue-sound l (accepted l ok) n below places .first
 
           pub poll-empty : h .count ≡ 0 → Owes l k (Refused 9) l [] b
-          poll-empty e = refused-owes l k 9 (order ∙ rw (ok, le-ltb (length b) 24 fits, live, unread-count, eq-eqb (h .count) 0 e))
+          poll-empty e = refused-owes l k 9 (order ∙ rw (ok, le-ltb (length b) 24 fits, live, none-unread, eq-eqb (h .count) 0 e))
 
           pub poll-done : (h .count ≡ 0 → ⊥) → (l′ b′ : List ℕ) → l′ ≡ popBytes l n
               → b′ ≡ completionCodec .put b 0 (rowAt entryT l (mostPlaces * n + h .first)) → Owes l k (Done 0) l′ [] b′
@@ -95,5 +83,5 @@ module _ (l : List ℕ) (n : ℕ) (b : List ℕ) where
               let a : Accepted l = accepted l ok in
               let some-unread : 0 < h .count = omega arith in
               rw (w, ← (oldest-is l a n below places some-unread))
-              (done-owes l k (order ∙ rw (ok, le-ltb (length b) 24 fits, live, unread-count, ne-eqb (h .count) 0 c))
+              (done-owes l k (order ∙ rw (ok, le-ltb (length b) 24 fits, live, none-unread, ne-eqb (h .count) 0 c))
               (pop-card l a n below places some-unread ∙ rw (tail-is (card l .cq n .entries))) (pop-accepted l a n below places some-unread) l′ s)
