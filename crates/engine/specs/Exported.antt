@@ -1,5 +1,5 @@
 -- What a public call owes, by its tests: one that is refused or held, one that is done, and the same call from C. Assumes nothing.
-use mathlib.Core.Path.{_≡_, refl, sym, ap, _∙_}
+use mathlib.Core.Path.{_≡_, ap, _∙_}
 use mathlib.Core.List.{List}
 use mathlib.Core.Option.{none, some}
 use Prim.Native.Nat.{ℕ}
@@ -9,7 +9,7 @@ use Rattle.tables.specs.Accepted.{Accepted, accepting}
 use Rattle.tables.specs.Image.{card}
 use Rattle.rules.specs.Answer.{answered, codeOf}
 use Rattle.rules.specs.Call.{Call, memoryOf}
-use Rattle.rules.specs.Calls.{owed, owedChecks, statusOf, effect, memoryAfter, bufferAfter, bufferRefused}
+use Rattle.rules.specs.Calls.{owedChecks, statusOf, effect, memoryAfter, bufferAfter, bufferRefused}
 use Rattle.rules.specs.declared.Answer.{Answer}
 use Rattle.rules.specs.declared.Answer.the-variants.{Done}
 use Rattle.rules.proofs.Meeting.{refused-meets, done-meets}

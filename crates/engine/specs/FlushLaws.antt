@@ -1,8 +1,8 @@
 -- The cases of a flush. Assumes nothing.
 use mathlib.Core.Path.{_≡_, refl, sym, ap, _∙_}
-use mathlib.Core.Bool.{Bool, true, false, cond, not}
+use mathlib.Core.Bool.{true, false, cond, not}
 use mathlib.Core.List.{List, [], _∷_, _++_}
-use mathlib.Core.Option.{Option, none, some}
+use mathlib.Core.Option.{none, some}
 use Prim.Native.Nat.{ℕ, _+_, _*_, _<_, _≤_}
 use native.Mathlib.Nat.{mod-lt}
 use native.Mathlib.Omega.{arith}
@@ -15,12 +15,12 @@ use Rattle.wire.specs.Slots.{upd}
 use Rattle.wire.specs.Table.{Table, rowAt, putRow, finish, elsewhere, table-other}
 use Rattle.tables.specs.Accept.{accepts, cqLive, completionOk}
 use Rattle.tables.specs.Accepted.{Accepted, accepted}
-use Rattle.tables.specs.Card.{Card, Cq, Qp, Receive, withCq, withQp, withWaiting, tail}
+use Rattle.tables.specs.Card.{Card, Cq, Receive, withCq, withQp, withWaiting, tail}
 use Rattle.tables.specs.Image.{card, receiveOf}
 use Rattle.tables.specs.Layout.{image, cqT, entryT, qpT, waitingT, receiveT}
 use Rattle.tables.specs.Limits.{cqCount, qpCount, mostPlaces, mostWaiting}
 use Rattle.tables.specs.Objects.{qp-live, qp-out, cq-live, cq-below}
-use Rattle.tables.specs.Queue.{pushPlace, longer, pushBytes, takeBytes, push-length}
+use Rattle.tables.specs.Queue.{pushPlace, longer, pushBytes, takeBytes}
 use Rattle.tables.specs.QueueLaws.{queue-sound, push-card, push-accepted}
 use Rattle.tables.specs.Stores.{Fits}
 use Rattle.tables.specs.WaitingLaws.{pair-sound, first-is, take-card, take-accepted}
@@ -167,14 +167,11 @@ module _ (l : List ℕ) (q : ℕ) where
               mid-live : rowAt qpT mid q .live ≡ 1
               mid-live = ap (λ (r : QueuePair). r .live) mid-pair ∙ live
 
-              mid-some : 0 < rowAt waitingT mid q .count
-              mid-some = rw mid-waiting some-wait
-
               pub flush-length : length mid ≡ image
               flush-length = mid-accepted .sized
 
               pub flush-some : 0 < rowAt waitingT mid q .count
-              flush-some = mid-some
+              flush-some = rw mid-waiting some-wait
 
               wr-is : oldest (card l .qp q .waiting) .wr ≡ w .wr
               unfolding receiveOf
@@ -194,7 +191,7 @@ module _ (l : List ℕ) (q : ℕ) where
 
               taken : card (takeBytes mid q) ≡ after (tail (card l .qp q .waiting))
               taken =
-                  take-card mid mid-accepted q below mid-live mid-some
+                  take-card mid mid-accepted q below mid-live flush-some
                   ∙ ap (λ (c : Card). withQp c (upd (c .qp) q (withWaiting (c .qp q) (tail (c .qp q .waiting)))))
                   (push-card l a (p .rcq) flush-cq has-places (flushedEntry w q) e-fits free)
 
@@ -212,4 +209,4 @@ module _ (l : List ℕ) (q : ℕ) where
               unfolding statusOf memoryAfter bufferAfter effect effectBytes
               flush-done l′ s =
                   done-owes l k (by-waiting ∙ rw (ne-eqb (h .count) 0 waits, le-leb (u .count + 1) (u .places) (omega arith)))
-                  (ap card flush-bytes ∙ meant) (rw flush-bytes (take-accepted mid mid-accepted q below mid-live mid-some)) l′ (s ∙ sym flush-bytes)
+                  (ap card flush-bytes ∙ meant) (rw flush-bytes (take-accepted mid mid-accepted q below mid-live flush-some)) l′ (s ∙ sym flush-bytes)

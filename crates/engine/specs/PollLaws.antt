@@ -1,8 +1,8 @@
 -- The cases of a poll. Assumes nothing.
-use mathlib.Core.Path.{_≡_, refl, sym, ap, _∙_}
-use mathlib.Core.Bool.{Bool, true, false, cond, not}
-use mathlib.Core.List.{List, [], _∷_}
-use mathlib.Core.Option.{Option, none, some}
+use mathlib.Core.Path.{_≡_, refl, _∙_}
+use mathlib.Core.Bool.{true, false, cond, not}
+use mathlib.Core.List.{List, []}
+use mathlib.Core.Option.{none, some}
 use Prim.Native.Nat.{ℕ, _+_, _*_, _<_, _≤_}
 use native.Mathlib.Omega.{arith}
 use lib.ListN.{length}
@@ -13,7 +13,6 @@ use Rattle.wire.specs.Fields.{within, clear, apart}
 use Rattle.wire.specs.Table.{rowAt}
 use Rattle.tables.specs.Accept.{accepts, cqLive}
 use Rattle.tables.specs.Accepted.{Accepted, accepted}
-use Rattle.tables.specs.Card.{Card}
 use Rattle.tables.specs.Image.{card}
 use Rattle.tables.specs.Layout.{cqT, entryT}
 use Rattle.tables.specs.Limits.{cqCount, mostPlaces}

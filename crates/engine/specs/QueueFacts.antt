@@ -1,8 +1,8 @@
 -- What the tests of poll, post receive and flush see, as the rows of an accepted state say it. Assumes nothing.
-use mathlib.Core.Path.{_≡_, refl, sym, ap, _∙_}
-use mathlib.Core.Bool.{Bool, true, false}
-use mathlib.Core.List.{List, [], _∷_, map}
-use Prim.Native.Nat.{ℕ, _+_, _<_, _≤_}
+use mathlib.Core.Path.{_≡_, refl, sym, _∙_}
+use mathlib.Core.Bool.{true}
+use mathlib.Core.List.{List, [], _∷_}
+use Prim.Native.Nat.{ℕ, _+_, _<_}
 use native.Mathlib.Omega.{arith}
 use lib.ListN.{length, length-map}
 use lib.Dec.{eqb, leb}
@@ -10,7 +10,7 @@ use borrow.Author.Tests.{eq-eqb, ne-eqb}
 use Rattle.wire.specs.Ring.{ring-length}
 use Rattle.wire.specs.Table.{rowAt}
 use Rattle.tables.specs.Accepted.{Accepted}
-use Rattle.tables.specs.Card.{Card, tail}
+use Rattle.tables.specs.Card.{tail}
 use Rattle.tables.specs.Image.{card, posted, receiveOf, entriesAt, receivesAt, noCompletion, noRecord}
 use Rattle.tables.specs.Layout.{cqT, qpT, waitingT}
 use Rattle.tables.specs.Limits.{cqCount, qpCount, mostPlaces, mostWaiting}

@@ -12,7 +12,6 @@ use Rattle.wire.specs.Fields.{fieldsAt, fieldsAt-fit}
 use Rattle.wire.specs.Table.{rowAt}
 use Rattle.tables.specs.Accept.{accepts, receiveOk}
 use Rattle.tables.specs.Accepted.{Accepted, accepted}
-use Rattle.tables.specs.Card.{Card}
 use Rattle.tables.specs.Image.{card}
 use Rattle.tables.specs.Layout.{qpT, waitingT, receiveT}
 use Rattle.tables.specs.Limits.{qpCount, mostWaiting, mostReceiveSges}

@@ -25,9 +25,6 @@ ghost use Rattle.rules.specs.Call.{Call};
 ghost use Rattle.engine.specs.Owed.{Owes};
 ghost use Rattle.engine.specs.ReceiveLaws.{Joins};
 
-// The bytes of a completion in a buffer.
-const COMPLETION_SIZE: usize = 24;
-
 // A flushed receive's status and opcode.
 const FLUSHED: u8 = 4;
 
@@ -83,7 +80,7 @@ pub fn poll(state: &mut [u8], cqn: u32, buffer: &mut [u8]) -> Answer
     if !accept::accepted(state) {
         return Answer::Refused(15);
     }
-    if buffer.len() < COMPLETION_SIZE {
+    if buffer.len() < image::ENTRY_SIZE {
         return Answer::Refused(12);
     }
     poll_queue(state, cqn, buffer)

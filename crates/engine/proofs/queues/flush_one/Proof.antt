@@ -87,7 +87,8 @@ returns-5 c =
     let live : rowAt qpT l q .live ≡ 1 = rw r at (c .before .before .before .before .before .before .before .before .before .before .before .if2 .left) in
     let s = c .before .before .before .before .before .before .before .load-waiting .ensures in
     let t : c .before .before .load-cq .result ≡ rowAt cqT l (rowAt qpT l q .rcq) = rw (← r) (c .before .before .load-cq .ensures) in
-    flush-held l q (c .before .before .before .before .before .before .before .before .before .before .before .before .before .before .before .before .before .pre .0) (c .before .before .before .before .before .before .before .before .before .before .before .before .before .before .before .if1 .left) live (rw r at (c .before .before .before .before .before .before .before .before .before .if3 .left)) (rw s at (c .before .before .before .before .before .if4 .left)) (rw t at (c .if5 .taken))
+    let full : rowAt cqT l (rowAt qpT l q .rcq) .places ≤ rowAt cqT l (rowAt qpT l q .rcq) .count = omega (arith, rw t at (c .if5 .taken)) in
+    flush-held l q (c .before .before .before .before .before .before .before .before .before .before .before .before .before .before .before .before .before .pre .0) (c .before .before .before .before .before .before .before .before .before .before .before .before .before .before .before .if1 .left) live (rw r at (c .before .before .before .before .before .before .before .before .before .if3 .left)) (rw s at (c .before .before .before .before .before .if4 .left)) full
 
 oldest-receive-requires : tie.Need-oldest-receive-requires
 oldest-receive-requires c κs =
