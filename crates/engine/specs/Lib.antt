@@ -9,3 +9,9 @@ pub mod Moves
 pub mod Bytewise
 pub mod Bytes
 pub mod Owed
+pub mod Exported
+pub mod QueueFacts
+pub mod ResetLaws
+pub mod PollLaws
+pub mod ReceiveLaws
+pub mod FlushLaws
