@@ -9,3 +9,8 @@ pub mod Moves
 pub mod Bytewise
 pub mod Bytes
 pub mod Owed
+pub mod Control
+pub mod ControlLaws
+pub mod ControlEffect
+pub mod ControlPairs
+pub mod ControlCall

@@ -1,3 +1,4 @@
 // The engine: which bytes a request may touch, and how they are moved.
+pub mod control;
 pub mod permit;
 pub mod transfer;
