@@ -1,5 +1,6 @@
 -- Any control command: which command its bytes are, the tests before its own, and what the call owes. Assumes nothing.
 use mathlib.Core.Path.{_≡_, refl, sym, ap, _∙_}
+use mathlib.Core.Logic.{_⊎_, inl, inr}
 use mathlib.Core.Bool.{Bool, true, false, cond, not, _&&_, _||_}
 use mathlib.Core.List.{List, [], _∷_}
 use mathlib.Core.Option.{Option, none, some, Option·some-ne-none}
@@ -126,6 +127,11 @@ module _ (l k : List ℕ) where
       let z : dataSize (leAt 1 k 1) ≡ none =
       rw (← is, ne-eqb n 2 a, ne-eqb n 3 b, ne-eqb n 4 c, ne-eqb n 5 d, ne-eqb n 7 e, ne-eqb n 8 f, ne-eqb n 9 g, ne-eqb n 10 h, ne-eqb n 12 i) in
       record { outcome = rw z; bytes = rw z }
+
+  pub run-gap : (n : ℕ) → n ≡ leAt 1 k 1 → (n ≡ 6) ⊎ (n ≡ 11) → Chosen (Refused 13) l
+  unfolding dataSize
+  run-gap n is (inl e) = let z : dataSize (leAt 1 k 1) ≡ none = rw (← is, e) in record { outcome = rw z; bytes = rw z }
+  run-gap n is (inr e) = let z : dataSize (leAt 1 k 1) ≡ none = rw (← is, e) in record { outcome = rw z; bytes = rw z }
 
   -- ---- the tests before: the length, and the class
   abbrev Classed : Outcome → List ℕ → Type 0

@@ -14,11 +14,11 @@ use Rattle.wire.specs.Checks.{Check, _if_, refusal, has, only}
 use Rattle.wire.specs.Scan.{and-left, and-right, or-left, or-right}
 use Rattle.wire.specs.Table.{rowAt, putRow}
 use Rattle.tables.specs.Accept.{cqLive, isState}
-use Rattle.tables.specs.Card.{Card}
+use Rattle.tables.specs.Card.{Card, Qp}
 use Rattle.tables.specs.Image.{card}
 use Rattle.tables.specs.Layout.{memoryT, pdT, mrLiveT, mrT, cqT, qpT, waitingT}
 use Rattle.tables.specs.Limits.{pdCount, cqCount, mrCount, qpCount, mostPlaces, mostAddress, mostAccess}
-use Rattle.tables.specs.Objects.{memory-is, pd-below, cq-below, mr-variant}
+use Rattle.tables.specs.Objects.{memory-is, pd-below, cq-below, mr-variant, qp-below, qp-live, qp-row}
 use Rattle.tables.specs.Records.{Command}
 use Rattle.tables.specs.Search.{freePdn, freeCqn, freeMrn, freeQpn, pdInUse, cqInUse}
 use Rattle.tables.specs.declared.Ack.the-variants as ack
@@ -28,7 +28,7 @@ use Rattle.tables.specs.declared.QueuePair.{QueuePair}
 use Rattle.tables.specs.declared.Registration.{Registration}
 use Rattle.rules.specs.Control.{commandChecks, commandAck, nextVariant, newVariant, isMove, stateBit, destBit}
 use Rattle.engine.specs.Bytes.{commandBytes, emptyQueue, regionRow, newPair, noPair, noneWait, movedPair, movedHead}
-use Rattle.engine.specs.Control.{Ran, outcomeBy, inRange, createFine, createLive, modifyBad, lowPair, lowRegistration}
+use Rattle.engine.specs.Control.{Ran, outcomeBy, bare, inRange, createFine, createLive, modifyBad, lowPair, lowRegistration}
 use Rattle.engine.specs.declared.control.Outcome.{Outcome}
 use Rattle.engine.specs.declared.control.Outcome.the-variants.{Refused, Done}
 
@@ -40,6 +40,14 @@ module _ (l : List ℕ) (q : Command) where
   pub ran-done : refusal (commandChecks (card l) q) ≡ none → (r : Outcome) (l′ : List ℕ)
       → r ≡ outcomeBy none (commandAck (card l) q) → l′ ≡ commandBytes l q → Ran l (some q) r l′
   ran-done e r l′ a b = record { outcome = rw e a; bytes = rw e b }
+
+-- a command without data
+module _ (l k : List ℕ) (q : Command) where
+  pub bare-wrong : (length k ≡ 2 → ⊥) → Ran l (bare q k) (Refused 1) l
+  bare-wrong h = let e = ne-eqb (length k) 2 h in record { outcome = rw e; bytes = rw e }
+
+  pub bare-right : length k ≡ 2 → bare q k ≡ some q
+  bare-right h = rw (eq-eqb (length k) 2 h)
 
 low : (n : ℕ) → n < 256 → n % 256 ≡ n
 low n h = mod-eq-of-lt h
@@ -278,8 +286,14 @@ module _ (l : List ℕ) where
       modify-dead e = ran-refused l (Command.modifyQp r) 2 (modify-tests ∙ rw (good, e))
 
       module _ (live : card l .qp q .live ≡ true) where
-        pub modify-stays : isMove (card l .qp q .state) (r .state) ≡ false → Ran l (some (Command.modifyQp r)) (Refused 3) l
-        modify-stays e = ran-refused l (Command.modifyQp r) 3 (modify-tests ∙ rw (good, live, e))
+        state-is : card l .qp q .state ≡ rowAt qpT l q .state
+        state-is =
+            let b : q < qpCount = qp-below l q live in
+            let e : rowAt qpT l q .live ≡ 1 = eqb-true (rowAt qpT l q .live) 1 (sym (qp-live l q b) ∙ live) in
+            ap (λ (x : Qp). x .state) (qp-row l q b e)
+
+        pub modify-stays : isMove (rowAt qpT l q .state) (r .state) ≡ false → Ran l (some (Command.modifyQp r)) (Refused 3) l
+        modify-stays e = ran-refused l (Command.modifyQp r) 3 (modify-tests ∙ rw (good, live, state-is, e))
 
         -- a destination is named where it is stored
         low-dest : (x : ℕ) → cond (eqb (r .state) 2) (r .dest % 256) x ≡ cond (eqb (r .state) 2) (r .dest) x
@@ -293,12 +307,12 @@ module _ (l : List ℕ) where
             go true true e f =
                 let h : r .dest < qpCount = leb-false qpCount (r .dest) (or-left (leb qpCount (r .dest)) (eqb (r .dest) q) f) in low (r .dest) (omega arith)
 
-        pub modify-done : isMove (card l .qp q .state) (r .state) ≡ true → (l′ : List ℕ)
+        pub modify-done : isMove (rowAt qpT l q .state) (r .state) ≡ true → (l′ : List ℕ)
             → l′ ≡ putRow waitingT (putRow qpT l q (movedPair (rowAt qpT l q) (r .state) (r .dest % 256))) q (movedHead (rowAt waitingT l q) (r .state))
             → Ran l (some (Command.modifyQp r)) (Done ack.Done) l′
         unfolding commandAck commandBytes
         modify-done e l′ s =
-            ran-done l (Command.modifyQp r) (modify-tests ∙ rw (good, live, e)) (Done ack.Done) l′ refl (s ∙ rw (low-dest (rowAt qpT l q .dest)))
+            ran-done l (Command.modifyQp r) (modify-tests ∙ rw (good, live, state-is, e)) (Done ack.Done) l′ refl (s ∙ rw (low-dest (rowAt qpT l q .dest)))
 
   -- ---- destroy QP
   module _ (n : ℕ) where
