@@ -23,7 +23,6 @@ use Rattle.tables.specs.declared.ModifyQpRead.{ModifyQpRead}
 use Rattle.tables.specs.declared.ModifyQpRead.the-variants as modify
 use Rattle.tables.specs.declared.NumberRead.{NumberRead}
 use Rattle.tables.specs.declared.NumberRead.the-variants as number
-use Rattle.tables.specs.declared.QueuePair.{QueuePair}
 use Rattle.tables.specs.declared.RegisterRead.{RegisterRead}
 use Rattle.tables.specs.declared.RegisterRead.the-variants as register
 use Rattle.tables.specs.declared.Registration.{Registration}

@@ -1,15 +1,14 @@
 -- Any control command: which command its bytes are, the tests before its own, and what the call owes. Assumes nothing.
-use mathlib.Core.Path.{_≡_, refl, sym, ap, _∙_}
+use mathlib.Core.Path.{_≡_, refl, _∙_}
 use mathlib.Core.Logic.{_⊎_, inl, inr}
 use mathlib.Core.Bool.{Bool, true, false, cond, not, _&&_, _||_}
 use mathlib.Core.List.{List, [], _∷_}
 use mathlib.Core.Option.{Option, none, some, Option·some-ne-none}
 use Prim.Native.Nat.{ℕ, _+_, _≤_, _<_}
-use native.Mathlib.Omega.{arith}
 use lib.Dec.{eqb, ltb}
 use lib.ListN.{length}
 use borrow.Author.Tests.{lt-ltb, le-ltb, ne-eqb, eq-eqb, not-true}
-use Rattle.wire.specs.Checks.{Check, _if_, refusal}
+use Rattle.wire.specs.Checks.{_if_, refusal}
 use Rattle.wire.specs.Fields.{putFields}
 use Rattle.wire.specs.Le.{leAt}
 use Rattle.wire.specs.Scan.{all, and-left, and-right}

@@ -1,42 +1,37 @@
 -- A command that passes its tests: the card that the state then means is the rules', and the state stays accepted. Assumes nothing.
-use mathlib.Core.Path.{_≡_, refl, sym, ap, ap₂, _∙_}
-use mathlib.Core.Bool.{Bool, true, false, cond, not, _&&_, _||_, false≢true}
+use mathlib.Core.Path.{_≡_, refl, sym, ap, _∙_}
+use mathlib.Core.Bool.{Bool, true, false, cond, not, _&&_}
 use mathlib.Core.List.{List, [], _∷_}
-use mathlib.Core.Option.{Option, none, some}
-use Prim.Native.Nat.{ℕ, _+_, _*_, _≤_, _<_, _^_}
+use mathlib.Core.Option.{none}
+use Prim.Native.Nat.{ℕ, _+_, _≤_, _<_}
 use native.Mathlib.Omega.{arith}
 use lib.Bits.{bitAnd, and-le-r}
 use lib.Dec.{eqb, ltb, leb}
 use lib.ListN.{length}
-use borrow.Author.Tests.{leb-true, leb-false, ltb-false, lt-ltb, le-leb, eqb-true, eq-eqb, ne-eqb, not-true, not-false, eqb-false}
-use Rattle.wire.specs.Checks.{Check, _if_, refusal, Passed, passed, has, only}
-use Rattle.wire.specs.Fields.{Fit, fieldsAt, fieldsAt-fit}
+use borrow.Author.Tests.{leb-true, leb-false, ltb-false, lt-ltb, le-leb, eqb-true, eq-eqb, not-true, not-false, eqb-false}
+use Rattle.wire.specs.Checks.{_if_, refusal, Passed, passed, only}
+use Rattle.wire.specs.Fields.{Fit}
 use Rattle.wire.specs.Ring.{ringList}
-use Rattle.wire.specs.Scan.{all, lowest-passes, and-left, and-right, both-true, or-left, or-right}
-use Rattle.wire.specs.Slots.{upd, upd-twice}
-use Rattle.wire.specs.Table.{rowAt, putRow, finish, elsewhere, table-other, row-stored, putRow-length}
-use Rattle.tables.specs.Accept.{cqLive, isState, memoryOk, completionOk, receiveOk, regionOk, pairOk, mrSound, mrOk, qpSound, qpOk}
-use Rattle.tables.specs.Accepted.{Accepted, Queued, queueing, registered, registering, Paired, paired, pairing}
-use Rattle.tables.specs.Card.{Card, Cq, Mr, Qp, withMr, withQp, freeQp, freeMr}
-use Rattle.tables.specs.Image.{card, mrOf, cqOf, qpOf, liveQp, destOf, entriesAt, receivesAt, posted, receiveOf}
-use Rattle.tables.specs.Kept.{memory-same, mr-stored, mr-flagged, qp-stored, waiting-stored}
+use Rattle.wire.specs.Scan.{all, lowest-passes, and-left, and-right}
+use Rattle.wire.specs.Slots.{upd-twice}
+use Rattle.wire.specs.Table.{rowAt, putRow, finish, elsewhere, row-stored}
+use Rattle.tables.specs.Accept.{regionOk, mrOk}
+use Rattle.tables.specs.Accepted.{Accepted, queueing, registered, registering}
+use Rattle.tables.specs.Card.{withMr}
+use Rattle.tables.specs.Image.{card, mrOf, cqOf, entriesAt}
+use Rattle.tables.specs.Kept.{memory-same, mr-stored, mr-flagged}
 use Rattle.tables.specs.KeptNamed.{pd-made, pd-dropped, cq-made, cq-dropped}
-use Rattle.tables.specs.Layout.{image, memoryT, pdT, mrLiveT, mrT, cqT, entryT, qpT, waitingT, receiveT}
-use Rattle.tables.specs.Limits.{pdCount, cqCount, mrCount, qpCount, mostPlaces, mostWaiting, mostMemory, mostAddress, mostAccess}
-use Rattle.tables.specs.Objects.{memory-is, pd-below, cq-below, mr-below, mr-live, mr-variant, qp-below, qp-live, qp-row}
+use Rattle.tables.specs.Layout.{memoryT, pdT, mrLiveT, mrT, cqT}
+use Rattle.tables.specs.Limits.{pdCount, cqCount, mrCount, mostPlaces, mostMemory, mostAddress, mostAccess}
+use Rattle.tables.specs.Objects.{memory-is, pd-below, cq-below, mr-below, mr-live, mr-variant}
 use Rattle.tables.specs.Records.{Command}
-use Rattle.tables.specs.Search.{freePdn, freeCqn, freeMrn, freeQpn}
-use Rattle.tables.specs.Stores.{Fits, card-pd, card-mr-live, card-mr, card-cq, card-qp, card-waiting, pd-kept, cq-kept, receives-kept}
-use Rattle.tables.specs.WaitingLaws.{waiting-fits, pair-sound}
-use Rattle.tables.specs.declared.CreateQp.{CreateQp}
-use Rattle.tables.specs.declared.ModifyQp.{ModifyQp}
-use Rattle.tables.specs.declared.QueuePair.{QueuePair}
+use Rattle.tables.specs.Search.{freePdn, freeCqn, freeMrn}
+use Rattle.tables.specs.Stores.{Fits, card-pd, card-mr-live, card-mr, card-cq, pd-kept}
 use Rattle.tables.specs.declared.Region.{Region}
 use Rattle.tables.specs.declared.Registration.{Registration}
-use Rattle.tables.specs.declared.WaitingHead.{WaitingHead}
 use Rattle.rules.proofs.Variants.{next-small}
-use Rattle.rules.specs.Control.{commandChecks, commandEffect, nextVariant, newVariant, isMove, moved, stateBit, destBit}
-use Rattle.engine.specs.Bytes.{commandBytes, emptyQueue, regionRow, newPair, noPair, noneWait, movedPair, movedHead}
+use Rattle.rules.specs.Control.{commandChecks, commandEffect, nextVariant, newVariant}
+use Rattle.engine.specs.Bytes.{commandBytes, emptyQueue, regionRow}
 
 -- what a command that is done leaves of an accepted state
 pub record Kept (l : List ℕ) (q : Command) : Type 0 where

@@ -2,19 +2,19 @@
 use mathlib.Core.Path.{_≡_, refl, sym, ap, ap₂, _∙_}
 use mathlib.Core.Bool.{Bool, true, false, cond, not, _&&_, _||_, false≢true}
 use mathlib.Core.List.{List, [], _∷_}
-use mathlib.Core.Option.{Option, none, some}
+use mathlib.Core.Option.{none, some}
 use Prim.Native.Nat.{ℕ, _+_, _*_, _%_, _≤_, _<_}
 use native.Mathlib.Nat.{mod-eq-of-lt}
 use native.Mathlib.Omega.{arith}
 use lib.Bits.{bitAnd, and-le-r}
 use lib.Dec.{eqb, ltb, leb}
 use lib.ListN.{length}
-use borrow.Author.Tests.{le-leb, lt-leb, leb-true, leb-false, lt-ltb, le-ltb, eqb-true, ne-eqb, eq-eqb, not-true, not-false}
+use borrow.Author.Tests.{le-leb, lt-leb, leb-true, leb-false, lt-ltb, le-ltb, eqb-true, ne-eqb, eq-eqb}
 use Rattle.wire.specs.Checks.{Check, _if_, refusal, has, only}
 use Rattle.wire.specs.Scan.{and-left, and-right, or-left, or-right}
 use Rattle.wire.specs.Table.{rowAt, putRow}
 use Rattle.tables.specs.Accept.{cqLive, isState}
-use Rattle.tables.specs.Card.{Card, Qp}
+use Rattle.tables.specs.Card.{Qp}
 use Rattle.tables.specs.Image.{card}
 use Rattle.tables.specs.Layout.{memoryT, pdT, mrLiveT, mrT, cqT, qpT, waitingT}
 use Rattle.tables.specs.Limits.{pdCount, cqCount, mrCount, qpCount, mostPlaces, mostAddress, mostAccess}
@@ -24,7 +24,6 @@ use Rattle.tables.specs.Search.{freePdn, freeCqn, freeMrn, freeQpn, pdInUse, cq
 use Rattle.tables.specs.declared.Ack.the-variants as ack
 use Rattle.tables.specs.declared.CreateQp.{CreateQp}
 use Rattle.tables.specs.declared.ModifyQp.{ModifyQp}
-use Rattle.tables.specs.declared.QueuePair.{QueuePair}
 use Rattle.tables.specs.declared.Registration.{Registration}
 use Rattle.rules.specs.Control.{commandChecks, commandAck, nextVariant, newVariant, isMove, stateBit, destBit}
 use Rattle.engine.specs.Bytes.{commandBytes, emptyQueue, regionRow, newPair, noPair, noneWait, movedPair, movedHead}

@@ -1,27 +1,26 @@
 -- The commands of queue pairs that pass their tests: the card that the state then means is the rules', and the state stays accepted.
 -- Assumes nothing.
-use mathlib.Core.Path.{_≡_, refl, sym, ap, ap₂, _∙_}
+use mathlib.Core.Path.{_≡_, refl, sym, ap, _∙_}
 use mathlib.Core.Bool.{Bool, true, false, cond, not, _&&_, _||_, false≢true}
 use mathlib.Core.List.{List, [], _∷_, map}
-use mathlib.Core.Option.{Option, none, some}
-use Prim.Native.Nat.{ℕ, _+_, _*_, _≤_, _<_, _^_}
+use mathlib.Core.Option.{none, some}
+use Prim.Native.Nat.{ℕ, _+_, _≤_, _<_, _^_}
 use native.Mathlib.Omega.{arith}
 use lib.Dec.{eqb, ltb, leb}
-use lib.ListN.{length}
 use borrow.Author.Tests.{leb-true, leb-false, ltb-false, le-leb, eqb-true, eqb-false, eq-eqb, ne-eqb, not-true, not-false}
-use Rattle.wire.specs.Checks.{Check, _if_, refusal, Passed, passed, has, only}
+use Rattle.wire.specs.Checks.{_if_, refusal, Passed, passed, has, only}
 use Rattle.wire.specs.Fields.{Fit, fieldsAt, fieldsAt-fit}
 use Rattle.wire.specs.Ring.{ringList}
 use Rattle.wire.specs.Scan.{all, lowest-passes, and-left, and-right, or-left, or-right}
-use Rattle.wire.specs.Slots.{upd, upd-twice}
-use Rattle.wire.specs.Table.{rowAt, putRow, finish, elsewhere, table-other, row-stored, putRow-length}
+use Rattle.wire.specs.Slots.{upd-twice}
+use Rattle.wire.specs.Table.{rowAt, putRow, finish, elsewhere, row-stored}
 use Rattle.tables.specs.Accept.{cqLive, isState, receiveOk, pairOk, qpSound, qpOk}
-use Rattle.tables.specs.Accepted.{Accepted, Paired, paired, pairing}
-use Rattle.tables.specs.Card.{Card, Cq, Qp, Receive, withQp, freeQp}
+use Rattle.tables.specs.Accepted.{Accepted, paired, pairing}
+use Rattle.tables.specs.Card.{withQp}
 use Rattle.tables.specs.Image.{card, qpOf, liveQp, destOf, receivesAt, posted, receiveOf}
 use Rattle.tables.specs.Kept.{qp-stored, waiting-stored}
-use Rattle.tables.specs.Layout.{image, pdT, cqT, entryT, qpT, waitingT, receiveT}
-use Rattle.tables.specs.Limits.{pdCount, cqCount, qpCount, mostWaiting}
+use Rattle.tables.specs.Layout.{pdT, cqT, entryT, qpT, waitingT, receiveT}
+use Rattle.tables.specs.Limits.{qpCount, mostWaiting}
 use Rattle.tables.specs.Objects.{pd-below, cq-below, qp-below, qp-live, qp-row}
 use Rattle.tables.specs.Records.{Command}
 use Rattle.tables.specs.Search.{freeQpn}

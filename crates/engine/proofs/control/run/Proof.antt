@@ -7,12 +7,12 @@ use Rattle.engine.proofs.control.run.Reads as reads
 use Rattle.engine.proofs.control.run.Lts as lts
 use Rattle.engine.proofs.control.create_cq.Reads as create-cq-reads
 use Rattle.engine.proofs.control.create_pd.Reads as create-pd-reads
-use Rattle.engine.proofs.control.create_qp.Reads as create-qp-reads
+use Rattle.engine.proofs.control_qp.create_qp.Reads as create-qp-reads
 use Rattle.engine.proofs.control.deregister.Reads as deregister-reads
 use Rattle.engine.proofs.control.destroy_cq.Reads as destroy-cq-reads
 use Rattle.engine.proofs.control.destroy_pd.Reads as destroy-pd-reads
-use Rattle.engine.proofs.control.destroy_qp.Reads as destroy-qp-reads
-use Rattle.engine.proofs.control.modify_qp.Reads as modify-qp-reads
+use Rattle.engine.proofs.control_qp.destroy_qp.Reads as destroy-qp-reads
+use Rattle.engine.proofs.control_qp.modify_qp.Reads as modify-qp-reads
 use Rattle.engine.proofs.control.register.Reads as register-reads
 use Rattle.tables.proofs.records.read_create_qp.Reads as read-create-qp-reads
 use Rattle.tables.proofs.records.read_modify_qp.Reads as read-modify-qp-reads

@@ -1,10 +1,10 @@
 use borrow.Author.Needs.{needs}
-use Rattle.engine.proofs.control.move_pair.Statement.{statement}
-use Rattle.engine.proofs.control.move_pair.Tie as tie
-use Rattle.engine.proofs.control.move_pair.Reads as reads
-use Rattle.engine.proofs.control.move_pair.Lts as lts
-use Rattle.engine.proofs.control.moved_head.Reads as moved-head-reads
-use Rattle.engine.proofs.control.moved_pair.Reads as moved-pair-reads
+use Rattle.engine.proofs.control_qp.move_pair.Statement.{statement}
+use Rattle.engine.proofs.control_qp.move_pair.Tie as tie
+use Rattle.engine.proofs.control_qp.move_pair.Reads as reads
+use Rattle.engine.proofs.control_qp.move_pair.Lts as lts
+use Rattle.engine.proofs.control_qp.moved_head.Reads as moved-head-reads
+use Rattle.engine.proofs.control_qp.moved_pair.Reads as moved-pair-reads
 use Rattle.tables.proofs.image.load_qp.Reads as load-qp-reads
 use Rattle.tables.proofs.image.load_waiting.Reads as load-waiting-reads
 use Rattle.tables.proofs.image.store_qp.Reads as store-qp-reads

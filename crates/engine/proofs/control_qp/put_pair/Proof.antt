@@ -1,9 +1,9 @@
 use borrow.Author.Needs.{needs}
-use Rattle.engine.proofs.control.put_pair.Statement.{statement}
-use Rattle.engine.proofs.control.put_pair.Tie as tie
-use Rattle.engine.proofs.control.put_pair.Reads as reads
-use Rattle.engine.proofs.control.put_pair.Lts as lts
-use Rattle.engine.proofs.control.new_pair.Reads as new-pair-reads
+use Rattle.engine.proofs.control_qp.put_pair.Statement.{statement}
+use Rattle.engine.proofs.control_qp.put_pair.Tie as tie
+use Rattle.engine.proofs.control_qp.put_pair.Reads as reads
+use Rattle.engine.proofs.control_qp.put_pair.Lts as lts
+use Rattle.engine.proofs.control_qp.new_pair.Reads as new-pair-reads
 use Rattle.tables.proofs.image.store_qp.Reads as store-qp-reads
 use Rattle.tables.proofs.image.store_waiting.Reads as store-waiting-reads
 

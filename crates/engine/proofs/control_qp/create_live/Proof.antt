@@ -1,8 +1,8 @@
 use borrow.Author.Needs.{needs}
-use Rattle.engine.proofs.control.create_live.Statement.{statement}
-use Rattle.engine.proofs.control.create_live.Tie as tie
-use Rattle.engine.proofs.control.create_live.Reads as reads
-use Rattle.engine.proofs.control.create_live.Lts as lts
+use Rattle.engine.proofs.control_qp.create_live.Statement.{statement}
+use Rattle.engine.proofs.control_qp.create_live.Tie as tie
+use Rattle.engine.proofs.control_qp.create_live.Reads as reads
+use Rattle.engine.proofs.control_qp.create_live.Lts as lts
 use Rattle.tables.proofs.accept.cq_live.Reads as cq-live-reads
 use Rattle.tables.proofs.accept.pd_live.Reads as pd-live-reads
 

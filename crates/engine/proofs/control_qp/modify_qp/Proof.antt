@@ -4,14 +4,14 @@ use mathlib.Core.Path.{_≡_, refl, sym, ap, _∙_}
 use Rattle.tables.specs.Objects.{qp-below}
 use Rattle.engine.specs.ControlLaws.{modify-fields, modify-dead, modify-stays, modify-done}
 use borrow.Author.Needs.{needs}
-use Rattle.engine.proofs.control.modify_qp.Statement.{statement}
-use Rattle.engine.proofs.control.modify_qp.Tie as tie
-use Rattle.engine.proofs.control.modify_qp.Reads as reads
-use Rattle.engine.proofs.control.modify_qp.Lts as lts
-use Rattle.engine.proofs.control.is_move.Reads as is-move-reads
-use Rattle.engine.proofs.control.modify_bad.Reads as modify-bad-reads
-use Rattle.engine.proofs.control.move_pair.Reads as move-pair-reads
-use Rattle.engine.proofs.control.qp_live.Reads as qp-live-reads
+use Rattle.engine.proofs.control_qp.modify_qp.Statement.{statement}
+use Rattle.engine.proofs.control_qp.modify_qp.Tie as tie
+use Rattle.engine.proofs.control_qp.modify_qp.Reads as reads
+use Rattle.engine.proofs.control_qp.modify_qp.Lts as lts
+use Rattle.engine.proofs.control_qp.is_move.Reads as is-move-reads
+use Rattle.engine.proofs.control_qp.modify_bad.Reads as modify-bad-reads
+use Rattle.engine.proofs.control_qp.move_pair.Reads as move-pair-reads
+use Rattle.engine.proofs.control_qp.qp_live.Reads as qp-live-reads
 use Rattle.tables.proofs.image.load_qp.Reads as load-qp-reads
 
 enum-known-read : tie.Need-enum-known-read

@@ -1,9 +1,9 @@
 use Rattle.tables.specs.Objects.{qp-live, qp-out}
 use borrow.Author.Needs.{needs}
-use Rattle.engine.proofs.control.qp_live.Statement.{statement}
-use Rattle.engine.proofs.control.qp_live.Tie as tie
-use Rattle.engine.proofs.control.qp_live.Reads as reads
-use Rattle.engine.proofs.control.qp_live.Lts as lts
+use Rattle.engine.proofs.control_qp.qp_live.Statement.{statement}
+use Rattle.engine.proofs.control_qp.qp_live.Tie as tie
+use Rattle.engine.proofs.control_qp.qp_live.Reads as reads
+use Rattle.engine.proofs.control_qp.qp_live.Lts as lts
 use Rattle.tables.proofs.image.load_qp.Reads as load-qp-reads
 
 load-qp-requires : tie.Need-load-qp-requires

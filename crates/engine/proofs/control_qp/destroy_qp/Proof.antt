@@ -4,11 +4,11 @@ use mathlib.Core.Path.{_≡_, refl, sym, ap, _∙_}
 use Rattle.tables.specs.Objects.{qp-below}
 use Rattle.engine.specs.ControlLaws.{destroy-qp-dead, destroy-qp-done}
 use borrow.Author.Needs.{needs}
-use Rattle.engine.proofs.control.destroy_qp.Statement.{statement}
-use Rattle.engine.proofs.control.destroy_qp.Tie as tie
-use Rattle.engine.proofs.control.destroy_qp.Reads as reads
-use Rattle.engine.proofs.control.destroy_qp.Lts as lts
-use Rattle.engine.proofs.control.qp_live.Reads as qp-live-reads
+use Rattle.engine.proofs.control_qp.destroy_qp.Statement.{statement}
+use Rattle.engine.proofs.control_qp.destroy_qp.Tie as tie
+use Rattle.engine.proofs.control_qp.destroy_qp.Reads as reads
+use Rattle.engine.proofs.control_qp.destroy_qp.Lts as lts
+use Rattle.engine.proofs.control_qp.qp_live.Reads as qp-live-reads
 use Rattle.tables.proofs.image.store_qp.Reads as store-qp-reads
 
 enum-known-read : tie.Need-enum-known-read

@@ -2,13 +2,13 @@ use borrow.Author.Tests.{not-true, not-false}
 use mathlib.Core.Path.{_≡_, refl, sym, ap, _∙_}
 use Rattle.engine.specs.ControlLaws.{create-qp-fields, create-qp-dead, create-qp-full, create-qp-done}
 use borrow.Author.Needs.{needs}
-use Rattle.engine.proofs.control.create_qp.Statement.{statement}
-use Rattle.engine.proofs.control.create_qp.Tie as tie
-use Rattle.engine.proofs.control.create_qp.Reads as reads
-use Rattle.engine.proofs.control.create_qp.Lts as lts
-use Rattle.engine.proofs.control.create_fine.Reads as create-fine-reads
-use Rattle.engine.proofs.control.create_live.Reads as create-live-reads
-use Rattle.engine.proofs.control.put_pair.Reads as put-pair-reads
+use Rattle.engine.proofs.control_qp.create_qp.Statement.{statement}
+use Rattle.engine.proofs.control_qp.create_qp.Tie as tie
+use Rattle.engine.proofs.control_qp.create_qp.Reads as reads
+use Rattle.engine.proofs.control_qp.create_qp.Lts as lts
+use Rattle.engine.proofs.control_qp.create_fine.Reads as create-fine-reads
+use Rattle.engine.proofs.control_qp.create_live.Reads as create-live-reads
+use Rattle.engine.proofs.control_qp.put_pair.Reads as put-pair-reads
 use Rattle.tables.proofs.find.free_qpn.Reads as free-qpn-reads
 
 enum-known-read : tie.Need-enum-known-read
