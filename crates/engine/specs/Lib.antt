@@ -15,3 +15,8 @@ pub mod ResetLaws
 pub mod PollLaws
 pub mod ReceiveLaws
 pub mod FlushLaws
+pub mod Control
+pub mod ControlLaws
+pub mod ControlEffect
+pub mod ControlPairs
+pub mod ControlCall

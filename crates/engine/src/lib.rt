@@ -3,6 +3,8 @@ ghost use mathlib.Core.List.{[]};
 ghost use Rattle.rules.specs.Call.{Call};
 ghost use Rattle.engine.specs.Owed.{Exports};
 
+pub mod control;
+pub mod control_qp;
 pub mod permit;
 pub mod queues;
 pub mod transfer;
@@ -14,6 +16,13 @@ pub extern "C" fn lesungkap_reset(state: &mut [u8], memory: u64) -> u32
     ensures { λ r. ⌜ Exports (now (state .entry)) (Call.reset memory) r (now (state .exit)) [] [] ⌝ }
 {
     rules::code(queues::reset(state, memory))
+}
+
+#[no_mangle]
+pub extern "C" fn lesungkap_control(state: &mut [u8], command: &[u8], ack: &mut [u8]) -> u32
+    ensures { λ r. ⌜ Exports (now (state .entry)) (Call.control (now (command .entry)) (now (ack .entry))) r (now (state .exit)) [] (now (ack .exit)) ⌝ }
+{
+    rules::code(control::control(state, command, ack))
 }
 
 #[no_mangle]
