@@ -12,7 +12,11 @@ use borrow.Author.Tests.{eq-eqb, ne-eqb, lt-ltb, le-ltb}
 use Rattle.wire.specs.Fields.{Field, field, putFields}
 use Rattle.wire.specs.Le.{leAt}
 use Rattle.wire.specs.Rows.{rows}
+use Rattle.tables.specs.Accept.{accepts}
+use Rattle.tables.specs.Card.{Card}
+use Rattle.tables.specs.Image.{card}
 use Rattle.tables.specs.Limits.{mostSges}
+use Rattle.tables.specs.Search.{freePdn, freeCqn, freeMrn, freeQpn}
 use Rattle.tables.specs.Records.{controlClass, inlineLength, sgeCodec, sendSge}
 use Rattle.tables.specs.Reading.{numberRead, registerRead, createQpRead, modifyQpRead}
 use Rattle.tables.specs.declared.CreateQpRead.{CreateQpRead}
@@ -30,6 +34,13 @@ use Rattle.tables.specs.declared.SendRecord.{SendRecord}
 use Rattle.tables.specs.declared.SendRead.{SendRead}
 use Rattle.tables.specs.declared.SendRead.the-variants as send
 use Rattle.tables.specs.declared.Sge.{Sge}
+
+-- the lowest free number of a table, 0 to 3
+abbrev pub freeOf : (table : ℕ) → Card → ℕ
+freeOf t c = cond (eqb t 0) (freePdn c) (cond (eqb t 1) (freeCqn c) (cond (eqb t 2) (freeMrn c) (cond (eqb t 3) (freeQpn c) 255)))
+
+abbrev pub freeShown : List ℕ → (table : ℕ) → ℕ
+freeShown l t = cond (accepts l) (freeOf t (card l)) 255
 
 -- scatter/gather entries, one after the other from `at` on
 unfoldable pub putSges : List ℕ → ℕ → List Sge → List ℕ

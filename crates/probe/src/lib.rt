@@ -15,9 +15,11 @@ ghost use Prim.Native.Nat.{_≤_, _+_, _*_};
 ghost use lib.ListN.{length, take, drop};
 ghost use Rattle.wire.specs.Fields.{putFields};
 ghost use Rattle.tables.specs.Accept.{accepts};
+ghost use Rattle.tables.specs.Image.{card};
+ghost use Rattle.tables.specs.Layout.{image};
 ghost use Rattle.tables.specs.Reading.{numberRead, registerRead, createQpRead, modifyQpRead};
 ghost use Rattle.tables.specs.Records.{receiveRead, sendRead, sgeCodec};
-ghost use Rattle.probe.specs.Shown.{putSges, sendFields, sendValues, sendAnswer, sendOut, inlinePart, laid, receiveFields, receiveAnswer, receiveOut, bothSges, wordFields, toldAnswer, toldOut, numberTold, createPdTold, registerTold, createQpTold, modifyQpTold, isNumber, dataTold, commandTold};
+ghost use Rattle.probe.specs.Shown.{freeOf, freeShown, putSges, sendFields, sendValues, sendAnswer, sendOut, inlinePart, laid, receiveFields, receiveAnswer, receiveOut, bothSges, wordFields, toldAnswer, toldOut, numberTold, createPdTold, registerTold, createQpTold, modifyQpTold, isNumber, dataTold, commandTold};
 
 // 1 where the state is acceptable.
 #[no_mangle]
@@ -25,6 +27,30 @@ pub extern "C" fn probe_accepts(state: &[u8]) -> bool
     ensures { λ r. ⌜ r ≡ accepts (now (state .entry)) ⌝ }
 {
     tables::accept::accepted(state)
+}
+
+fn lowest_free(state: &[u8], table: u32) -> usize
+    requires { ⌜ length (now state) ≡ image ⌝ }
+    ensures { λ r. ⌜ r ≡ freeOf table (card (now (state .entry))) ⌝ }
+{
+    match table {
+        0 => tables::find::free_pdn(state),
+        1 => tables::find::free_cqn(state),
+        2 => tables::find::free_mrn(state),
+        3 => tables::find::free_qpn(state),
+        _ => 255,
+    }
+}
+
+// The lowest free number of a table, 0 to 3: domains, completion queues, regions, queue pairs. 255 of any other, or of a state that is not accepted.
+#[no_mangle]
+pub extern "C" fn probe_free(state: &[u8], table: u32) -> usize
+    ensures { λ r. ⌜ r ≡ freeShown (now (state .entry)) table ⌝ }
+{
+    if !tables::accept::accepted(state) {
+        return 255;
+    }
+    lowest_free(state, table)
 }
 
 // ---- work requests

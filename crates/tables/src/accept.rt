@@ -22,7 +22,7 @@ ghost use lib.Dec.{leb};
 ghost use lib.ListN.{length};
 ghost use Rattle.wire.specs.Scan.{all, allBelow};
 ghost use Rattle.wire.specs.Table.{rowAt};
-ghost use Rattle.tables.specs.Accept.{accepts, cqLive, completionOk, receiveOk, regionOk, pairOk, pdOk, cqOk, mrOk, qpOk};
+ghost use Rattle.tables.specs.Accept.{accepts, cqLive, isStatus, isState, completionOk, receiveOk, regionOk, pairOk, namesOk, receivesOk, pdOk, cqOk, mrOk, qpOk};
 ghost use Rattle.tables.specs.Image.{card, unread, posted, entriesAt, receivesAt};
 ghost use Rattle.tables.specs.Layout.{image, memoryT};
 ghost use Rattle.tables.specs.Limits.{pdCount, cqCount, mrCount, qpCount, mostPlaces, mostWaiting};
@@ -58,29 +58,69 @@ pub fn sum_within(a: u64, b: u64, limit: u64) -> bool
     if b <= limit { a <= limit - b } else { false }
 }
 
+fn is_status(s: u8) -> bool
+    ensures { λ x. ⌜ x ≡ isStatus s ⌝ }
+{
+    match s {
+        0 | 1 | 3 | 4 | 7 | 8 => true,
+        _ => false,
+    }
+}
+
 fn completion_ok(e: Completion) -> bool
     ensures { λ x. ⌜ x ≡ completionOk e ⌝ }
 {
-    let s = e.status;
+    if !is_status(e.status) {
+        return false;
+    }
+    if 4 < e.opcode {
+        return false;
+    }
+    if MOST_MESSAGE < e.length {
+        return false;
+    }
     let owner = e.owner as usize;
-    let status = (s <= 1) | (s == 3) | (s == 4) | (s == 7) | (s == 8);
-    status & (e.opcode <= 4) & (e.length <= MOST_MESSAGE) & (owner < QP_COUNT)
+    owner < QP_COUNT
 }
 
 fn region_ok(memory: u64, r: Region) -> bool
     ensures { λ x. ⌜ x ≡ regionOk memory r ⌝ }
 {
-    let in_memory = sum_within(r.start, r.length, memory);
-    let in_space = sum_within(r.virt, r.length, MOST_ADDRESS);
-    (r.access <= MOST_ACCESS) & (1 <= r.variant) & (1 <= r.length) & in_memory & in_space
+    if MOST_ACCESS < r.access {
+        return false;
+    }
+    if r.variant < 1 {
+        return false;
+    }
+    if r.length < 1 {
+        return false;
+    }
+    if !sum_within(r.start, r.length, memory) {
+        return false;
+    }
+    sum_within(r.virt, r.length, MOST_ADDRESS)
+}
+
+fn is_state(s: u8) -> bool
+    ensures { λ x. ⌜ x ≡ isState s ⌝ }
+{
+    (s <= 3) | (s == 6)
 }
 
 fn pair_ok(n: usize, p: QueuePair) -> bool
     ensures { λ x. ⌜ x ≡ pairOk n p ⌝ }
 {
-    let state = (p.state <= 3) | (p.state == 6);
+    if 1 < p.signal {
+        return false;
+    }
+    if !is_state(p.state) {
+        return false;
+    }
     let dest = p.dest as usize;
-    (p.signal <= 1) & state & (dest <= QP_COUNT) & !(dest == n)
+    if QP_COUNT < dest {
+        return false;
+    }
+    !(dest == n)
 }
 
 // The unread completions of queue n, whose head is h.
@@ -143,9 +183,45 @@ fn mr_ok(img: &[u8], memory: u64, n: usize) -> bool
     if live == 0 {
         return true;
     }
+    if live != 1 {
+        return false;
+    }
     let r = image::load_mr(img, n);
-    let pd = pd_live(img, r.pd as u32);
-    (live == 1) & pd & region_ok(memory, r)
+    if !pd_live(img, r.pd as u32) {
+        return false;
+    }
+    region_ok(memory, r)
+}
+
+// The domain and the completion queues that a queue pair names are live.
+fn names_ok(img: &[u8], p: QueuePair) -> bool
+    requires { ⌜ length (now img) ≡ image ⌝ }
+    ensures { λ x. ⌜ x ≡ namesOk (card (now (img .entry))) p ⌝ }
+{
+    if !pd_live(img, p.pd as u32) {
+        return false;
+    }
+    if !cq_live(img, p.scq as u32) {
+        return false;
+    }
+    cq_live(img, p.rcq as u32)
+}
+
+// The waiting receives of queue pair n.
+fn waiting_ok(img: &[u8], n: usize) -> bool
+    requires { ⌜ (n < qpCount) × (length (now img) ≡ image) ⌝ }
+    ensures { λ x. ⌜ x ≡ receivesOk (now (img .entry)) n ⌝ }
+{
+    let h = image::load_waiting(img, n);
+    let first = h.first as usize;
+    if MOST_WAITING <= first {
+        return false;
+    }
+    let count = h.count as usize;
+    if MOST_WAITING < count {
+        return false;
+    }
+    receives_ok(img, n, h)
 }
 
 fn qp_ok(img: &[u8], n: usize) -> bool
@@ -156,18 +232,16 @@ fn qp_ok(img: &[u8], n: usize) -> bool
     if p.live == 0 {
         return true;
     }
-    let h = image::load_waiting(img, n);
-    let first = h.first as usize;
-    if MOST_WAITING <= first {
+    if p.live != 1 {
         return false;
     }
-    let count = h.count as usize;
-    let pd = pd_live(img, p.pd as u32);
-    let scq = cq_live(img, p.scq as u32);
-    let rcq = cq_live(img, p.rcq as u32);
-    let pair = pair_ok(n, p);
-    let receives = receives_ok(img, n, h);
-    (p.live == 1) & pd & scq & rcq & pair & (count <= MOST_WAITING) & receives
+    if !names_ok(img, p) {
+        return false;
+    }
+    if !pair_ok(n, p) {
+        return false;
+    }
+    waiting_ok(img, n)
 }
 
 fn pds_ok(img: &[u8]) -> bool
@@ -252,9 +326,20 @@ pub fn accepted(img: &[u8]) -> bool
         return false;
     }
     let memory = image::load_memory(img);
-    let pds = pds_ok(img);
-    let cqs = cqs_ok(img);
-    let mrs = mrs_ok(img, memory);
-    let qps = qps_ok(img);
-    (1 <= memory) & (memory <= MOST_MEMORY) & pds & cqs & mrs & qps
+    if memory < 1 {
+        return false;
+    }
+    if MOST_MEMORY < memory {
+        return false;
+    }
+    if !pds_ok(img) {
+        return false;
+    }
+    if !cqs_ok(img) {
+        return false;
+    }
+    if !mrs_ok(img, memory) {
+        return false;
+    }
+    qps_ok(img)
 }

@@ -37,14 +37,15 @@ pub mod probe {
         pub fn probe_inline(record: *const u8, len: usize, out: *mut u8, out_len: usize) -> usize;
         pub fn probe_read_receive(record: *const u8, len: usize, out: *mut u8, out_len: usize) -> u32;
         pub fn probe_read_command(command: *const u8, len: usize, out: *mut u8, out_len: usize) -> u32;
-        pub fn probe_free(state: *const u8, len: usize, table: u32) -> u32;
+        pub fn probe_free(state: *const u8, len: usize, table: u32) -> usize;
     }
 }
 
-/// What a reader of the lower part fills on answer 0, if it is lent at least this many bytes.
+/// What a reader of the lower part needs to show a record on answer 0; with less it shows nothing.
 pub const SEND_OUT: usize = 96;
 pub const RECEIVE_OUT: usize = 48;
-pub const COMMAND_OUT: usize = 40;
+/// The command's number, then each field of its data, 8 bytes each; the three padding bytes of modify QP are one number.
+pub const COMMAND_OUT: usize = 48;
 
 /// `probe_free` of a state that is not accepted.
 pub const NOT_ACCEPTED: u32 = 255;

@@ -69,9 +69,8 @@ impl Lower for ReferenceLower {
             Err(refusal) => refusal as u32,
             Ok(read) => {
                 if out.len() >= COMMAND_OUT {
-                    out[..COMMAND_OUT].fill(0);
-                    out[0] = command[1];
-                    for (n, word) in words(&read).into_iter().take(COMMAND_OUT / 8 - 1).enumerate() {
+                    put64(out, 0, command[1].into());
+                    for (n, word) in words(&read).into_iter().enumerate() {
                         put64(out, 8 + 8 * n, word);
                     }
                 }
@@ -127,7 +126,7 @@ fn words(command: &Command) -> Vec<u64> {
             vec![domain.into(), kind.into(), signal.into(), send_queue.into(), receive_queue.into()]
         }
         Command::ModifyPair { number, mask, state, padding: [a, b, c], destination } => {
-            vec![number.into(), mask.into(), state.into(), a.into(), b.into(), c.into(), destination.into()]
+            vec![number.into(), mask.into(), state.into(), u32::from_le_bytes([a, b, c, 0]).into(), destination.into()]
         }
     }
 }
@@ -178,7 +177,7 @@ mod linked {
         }
 
         fn free(&self, state: &[u8], table: u32) -> u32 {
-            unsafe { probe_free(state.as_ptr(), state.len(), table) }
+            unsafe { probe_free(state.as_ptr(), state.len(), table) as u32 }
         }
     }
 }

@@ -2,6 +2,7 @@
 //! and every object of the state after each call; and that a refused call changed nothing.
 
 mod coverage;
+mod guarded;
 mod side;
 
 use cards::{Card, Reference};

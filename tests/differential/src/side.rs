@@ -1,5 +1,6 @@
 //! One card with what is lent to it, and the comparison of two.
 
+use crate::guarded::Guarded;
 use cards::Card;
 use generator::Call;
 use reference::listing::Listing;
@@ -10,81 +11,85 @@ const LEFT: u8 = 0xa5;
 
 pub struct Side {
     card: &'static dyn Card,
-    pub state: Vec<u8>,
-    pub memory: Vec<u8>,
+    pub state: Guarded,
+    pub memory: Guarded,
 }
 
 /// What a call gave back, and its ack or completion buffer.
 pub struct Done {
     pub outcome: Outcome,
-    pub written: Vec<u8>,
+    pub written: Guarded,
 }
 
 impl Side {
     pub fn new(card: &'static dyn Card) -> Side {
-        Side { card, state: Vec::new(), memory: Vec::new() }
+        Side { card, state: Guarded::new(&[]), memory: Guarded::new(&[]) }
     }
 
     pub fn begin(&mut self, state: &[u8], memory: &[u8]) {
-        self.state = state.to_vec();
-        self.memory = memory.to_vec();
+        self.state = Guarded::new(state);
+        self.memory = Guarded::new(memory);
     }
 
     /// The same card and memory with another state.
     pub fn on(&self, state: &[u8]) -> Side {
-        Side { card: self.card, state: state.to_vec(), memory: self.memory.clone() }
+        Side { card: self.card, state: Guarded::new(state), memory: self.memory.clone() }
     }
 
-    /// Makes the call; a refused one must change nothing but the ack byte that document 01 names.
+    /// Makes the call; nothing beside the lent buffers may change, and with a refusal nothing but the ack byte that document 01 names.
     fn play(&mut self, call: &Call) -> Result<Done, String> {
-        let (state, memory) = (self.state.clone(), self.memory.clone());
-        let done = self.call(call)?;
-        if done.outcome.answer == 0 {
+        let (state, memory) = (self.state.to_vec(), self.memory.to_vec());
+        let (done, other) = self.call(call);
+        let (name, answer) = (self.card.name(), done.outcome.answer);
+        if !(self.state.intact() && self.memory.intact() && done.written.intact() && other.intact()) {
+            return Err(format!("{name} answers {answer} and writes beside a lent buffer"));
+        }
+        if other.iter().any(|&byte| byte != LEFT) {
+            return Err(format!("{name} writes to a memory of another length"));
+        }
+        if answer == 0 {
             return Ok(done);
         }
-        let name = self.card.name();
-        if self.state != state || self.memory != memory {
-            return Err(format!("{name} answers {} and changes state or memory", done.outcome.answer));
+        if self.state[..] != state || self.memory[..] != memory {
+            return Err(format!("{name} answers {answer} and changes state or memory"));
         }
-        let ack = matches!(call, Call::Control { .. }) && !matches!(done.outcome.answer, 12 | 15);
+        let ack = matches!(call, Call::Control { .. }) && !matches!(answer, 12 | 15);
         let mut wanted = vec![LEFT; done.written.len()];
         if ack {
             wanted[0] = 1;
         }
-        if done.written != wanted {
-            return Err(format!("{name} answers {} and writes {:?}", done.outcome.answer, done.written));
+        if done.written[..] != wanted {
+            return Err(format!("{name} answers {answer} and writes {:?}", &done.written[..]));
         }
         Ok(done)
     }
 
-    fn call(&mut self, call: &Call) -> Result<Done, String> {
-        let mut written = Vec::new();
+    /// What the call gave back, and the memory of another length if it was lent one.
+    fn call(&mut self, call: &Call) -> (Done, Guarded) {
+        let mut written = Guarded::new(&[]);
+        let mut other = Guarded::new(&[]);
         let state = &mut self.state;
         let outcome = match call {
             Call::Reset { memory_length } => self.card.reset(state, *memory_length),
             Call::Control { command, ack } => {
-                written = vec![LEFT; *ack];
+                written = Guarded::filled(LEFT, *ack);
                 self.card.control(state, command, &mut written)
             }
             Call::Send { qpn, record, memory } if *memory == self.memory.len() => {
                 self.card.post_send(state, &mut self.memory, *qpn, record)
             }
             Call::Send { qpn, record, memory } => {
-                let mut other = vec![LEFT; *memory];
-                let outcome = self.card.post_send(state, &mut other, *qpn, record);
-                if other.iter().any(|&byte| byte != LEFT) {
-                    return Err(format!("{} writes to a memory of another length", self.card.name()));
-                }
-                outcome
+                other = Guarded::filled(LEFT, *memory);
+                self.card.post_send(state, &mut other, *qpn, record)
             }
             Call::Receive { qpn, record } => self.card.post_receive(state, *qpn, record),
             Call::Flush { qpn } => self.card.flush(state, *qpn),
             Call::Poll { cqn, buffer } => {
-                written = vec![LEFT; *buffer];
+                written = Guarded::filled(LEFT, *buffer);
                 self.card.poll(state, *cqn, &mut written)
             }
         };
-        Ok(Done { outcome, written })
+        (Done { outcome, written }, other)
     }
 }
 
@@ -95,17 +100,23 @@ pub fn compare(first: &mut Side, second: &mut Side, call: &Call) -> Result<Done,
     if found.outcome != wanted.outcome {
         return Err(format!("{:?}, reference {:?} ({:?})", found.outcome, wanted.outcome, fault(&first.state)));
     }
-    if found.written != wanted.written {
-        return Err(format!("writes {:?}, reference {:?}", found.written, wanted.written));
+    if found.written[..] != wanted.written[..] {
+        return Err(format!("writes {:?}, reference {:?}", &found.written[..], &wanted.written[..]));
     }
-    if let Some(at) = (0..first.memory.len()).find(|&at| first.memory[at] != second.memory[at]) {
+    if let Some(at) = first.memory.iter().zip(second.memory.iter()).position(|(a, b)| a != b) {
         return Err(format!("memory byte {at} is {}, reference {}", second.memory[at], first.memory[at]));
     }
     if wanted.outcome.answer == 0 {
-        let (ours, theirs) = (Listing::of(&first.state), Listing::of(&second.state));
-        if ours.is_none() || ours != theirs {
-            return Err(format!("the state lists\n  {theirs:?}\n  reference\n  {ours:?}"));
-        }
+        same_objects(&first.state, &second.state)?;
     }
     Ok(wanted)
+}
+
+fn same_objects(wanted: &[u8], found: &[u8]) -> Result<(), String> {
+    match (Listing::of(wanted), Listing::of(found)) {
+        (Some(wanted), Some(found)) => {
+            wanted.difference(&found).map_or(Ok(()), |object| Err(format!("state: reference {object}")))
+        }
+        _ => Err(format!("leaves a state with {:?}, reference with {:?}", fault(found), fault(wanted))),
+    }
 }

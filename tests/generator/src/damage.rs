@@ -18,10 +18,11 @@ impl Field {
     }
 }
 
-/// Every field of the layout; values for a region's range are taken against its other fields.
+/// Every field of the layout and some bytes that are not used; values for a region's range are taken against its other fields.
 pub fn fields(state: &[u8]) -> Vec<Field> {
     let mut list = Vec::new();
     put(&mut list, true, MEMORY_LENGTH, 8, &[0, 1, MOST_MEMORY, MOST_MEMORY + 1, u64::MAX]);
+    put(&mut list, true, MEMORY_LENGTH + 8, 8, &[0, u64::MAX]);
     for n in 0..DOMAINS + REGIONS {
         put(&mut list, true, DOMAIN_FLAGS + n, 1, &[0, 1, 2, 255]);
     }
@@ -43,11 +44,13 @@ fn queue_fields(list: &mut Vec<Field>, state: &[u8], number: usize) {
     put(list, true, row, 1, &[0, 1, 2, 15, 16, 17, 255]);
     put(list, live, row + 1, 1, &[0, 15, 16, 255]);
     put(list, live, row + 2, 1, &[0, 1, 2, 3, 8, 15, 16, 17, 255]);
+    put(list, live, row + 3, 1, &[0, 255]);
     for place in 0..MOST_PLACES {
         let live = live && (place + MOST_PLACES - usize::from(first) % MOST_PLACES) % MOST_PLACES < count.into();
         let row = COMPLETION_ROWS + (number * MOST_PLACES + place) * COMPLETION_BYTES;
         put(list, live, row + 8, 1, &[0, 1, 2, 3, 4, 5, 6, 7, 8, 9, 255]);
         put(list, live, row + 9, 1, &[0, 4, 5, 255]);
+        put(list, live, row + 10, 2, &[0, 1, 0xffff]);
         put(list, live, row + 12, 4, &[0, 4096, 4097, 1 << 31]);
         put(list, live, row + 20, 4, &[0, 7, 8, 256, 1 << 31]);
     }
@@ -63,6 +66,7 @@ fn pair_fields(list: &mut Vec<Field>, state: &[u8], number: usize) {
     put(list, live, row + 2, 1, &[0, 1, 2, 255]);
     put(list, live, row + 5, 1, &[0, 1, 2, 3, 4, 5, 6, 7, 255]);
     put(list, live, row + 6, 1, &[0, 1, 2, 3, 4, 5, 6, 7, 8, 9, 255]);
+    put(list, live, row + 7, 1, &[0, 255]);
     let waiting = WAITING_ROWS + number * WAITING_ROW;
     let (first, count) = (state[waiting], state[waiting + 1]);
     put(list, live, waiting, 1, &[0, 1, 2, 3, 4, 255]);
@@ -71,6 +75,7 @@ fn pair_fields(list: &mut Vec<Field>, state: &[u8], number: usize) {
         let live = live && (place + MOST_WAITING - usize::from(first) % MOST_WAITING) % MOST_WAITING < count.into();
         let row = RECEIVE_ROWS + (number * MOST_WAITING + place) * RECEIVE_ROW;
         put(list, live, row + 8, 4, &[0, 1, 2, 3, 256, u32::MAX.into()]);
+        put(list, live, row + 16, 8, &[0, u64::MAX]);
     }
 }
 
@@ -82,6 +87,7 @@ fn region_fields(list: &mut Vec<Field>, state: &[u8], number: usize) {
     put(list, live, row, 1, &[0, 1, 2, 3, 4, 5, 6, 7, 8, 255]);
     put(list, true, row + 1, 1, &[0, 1, 255]);
     put(list, live, row + 2, 1, &[0, 1, 2, 3, 4, 5, 6, 7, 8, 255]);
+    put(list, live, row + 4, 4, &[0, u32::MAX.into()]);
     let last_start = memory.wrapping_sub(length);
     put(list, live, row + 8, 8, &[0, last_start, last_start.wrapping_add(1), memory, 0u64.wrapping_sub(length), u64::MAX]);
     let last_length = memory.wrapping_sub(start);

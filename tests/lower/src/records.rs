@@ -56,9 +56,7 @@ impl Reader {
             let answer = (self.read)(&ReferenceLower, record, &mut wanted);
             let shown = (self.read)(other, record, &mut found);
             tally.count(self.name, format!("answer {answer}"));
-            tally.same(self.name, (shown, &found[..self.out.min(length)]), (answer, &wanted[..self.out.min(length)]), || {
-                hex(record)
-            });
+            tally.same(self.name, (shown, found), (answer, wanted), || hex(record));
         }
     }
 

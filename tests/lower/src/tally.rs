@@ -2,14 +2,14 @@
 
 use std::collections::BTreeMap;
 
-/// How many differences are shown.
-const SHOWN: usize = 20;
+/// How many differences of a check are shown.
+const SHOWN: u64 = 5;
 
 #[derive(Default)]
 pub struct Tally {
     counts: BTreeMap<&'static str, BTreeMap<String, u64>>,
     required: Vec<(&'static str, String)>,
-    differences: u64,
+    differences: BTreeMap<&'static str, u64>,
 }
 
 impl Tally {
@@ -26,8 +26,9 @@ impl Tally {
         if found == wanted {
             return;
         }
-        self.differences += 1;
-        if self.differences <= SHOWN as u64 {
+        let differences = self.differences.entry(check).or_default();
+        *differences += 1;
+        if *differences <= SHOWN {
             println!("DIFFERS {check}: {found:?}, reference {wanted:?}, on {}", input());
         }
     }
@@ -35,7 +36,8 @@ impl Tally {
     /// Prints the counts; true if nothing differs and nothing is missing.
     pub fn report(&self) -> bool {
         for (check, outcomes) in &self.counts {
-            println!("{check}: {} comparisons", outcomes.values().sum::<u64>());
+            let differences = self.differences.get(check).unwrap_or(&0);
+            println!("{check}: {} comparisons, {differences} differ", outcomes.values().sum::<u64>());
             for (outcome, count) in outcomes {
                 println!("  {outcome:<28}{count:>10}");
             }
@@ -46,13 +48,9 @@ impl Tally {
         for (check, outcome) in &missing {
             println!("NEVER SEEN {check}: {outcome}");
         }
-        let checks = self.counts.len() + self.required.len();
-        println!(
-            "{} differences; {} of {} outcomes seen in {checks} checks",
-            self.differences,
-            self.required.len() - missing.len(),
-            self.required.len()
-        );
-        self.differences == 0 && missing.is_empty()
+        let differences: u64 = self.differences.values().sum();
+        let (seen, required) = (self.required.len() - missing.len(), self.required.len());
+        println!("{differences} differences; {seen} of {required} outcomes seen");
+        differences == 0 && missing.is_empty()
     }
 }

@@ -3,6 +3,7 @@
 use crate::card::{Card, Pair, Region};
 use crate::layout::*;
 use crate::record::{Completion, Piece};
+use std::fmt::Debug;
 
 #[derive(Clone, Debug, PartialEq, Eq)]
 pub struct Listing {
@@ -46,6 +47,21 @@ impl Listing {
             pairs: (0..PAIRS).map(|n| pair(&card, n)).collect(),
         })
     }
+
+    /// The first object that the other listing has otherwise.
+    pub fn difference(&self, other: &Listing) -> Option<String> {
+        differing("memory length", &[self.memory_length], &[other.memory_length])
+            .or_else(|| differing("domain", &self.domains, &other.domains))
+            .or_else(|| differing("queue", &self.queues, &other.queues))
+            .or_else(|| differing("variant", &self.variants, &other.variants))
+            .or_else(|| differing("region", &self.regions, &other.regions))
+            .or_else(|| differing("pair", &self.pairs, &other.pairs))
+    }
+}
+
+fn differing<T: PartialEq + Debug>(what: &str, ours: &[T], theirs: &[T]) -> Option<String> {
+    let n = ours.iter().zip(theirs).position(|(a, b)| a != b)?;
+    Some(format!("{what} {n}: {:?}, other {:?}", ours[n], theirs[n]))
 }
 
 fn queue(card: &Card, number: usize) -> Option<QueueListing> {

@@ -97,8 +97,8 @@ impl Request<'_> {
         let local = &local[..count];
         match self.record.opcode {
             SEND | SEND_IMMEDIATE => match self.receive_spans(card, total) {
-                Ok(target) => {
-                    self.move_out(memory, local, &target);
+                Ok((target, count)) => {
+                    self.move_out(memory, local, &target[..count]);
                     self.succeed(card, total)
                 }
                 Err(ReceiverFailed(status)) => self.fail_both(card, status),
@@ -134,7 +134,7 @@ impl Request<'_> {
     }
 
     /// Step 5: where the first `total` bytes of the peer's oldest receive stand.
-    fn receive_spans(&self, card: &Card, total_bytes: usize) -> Result<[Span; MOST_RECEIVE_PIECES], ReceiverFailed> {
+    fn receive_spans(&self, card: &Card, total_bytes: usize) -> Result<([Span; MOST_RECEIVE_PIECES], usize), ReceiverFailed> {
         let receive = card.receive(self.peer, 0);
         if total_bytes as u64 > total(receive.pieces()) {
             return Err(ReceiverFailed(Status::LocalLength));
@@ -147,7 +147,7 @@ impl Request<'_> {
                 .ok_or(ReceiverFailed(Status::LocalProtection))?;
             left -= used;
         }
-        Ok(spans)
+        Ok((spans, receive.count))
     }
 
     /// Step 6 for a write or a send.

@@ -1,7 +1,10 @@
-use mathlib.Core.Path.{sym, _≡_}
+use borrow.Author.Tests.{eq-eqb, ne-eqb, not-true, not-false}
+use mathlib.Core.Path.{_≡_, sym, _∙_}
+use mathlib.Core.Bool.{true, false}
 use denote.Ref.{now}
 use Rattle.wire.specs.Table.{rowAt}
-use Rattle.tables.specs.Layout.{mrLiveT}
+use Rattle.tables.specs.Layout.{mrLiveT, mrT}
+use Rattle.tables.specs.Image.{card}
 use Rattle.tables.specs.Tests.{mr-free, mr-rest}
 use borrow.Author.Needs.{needs}
 use Rattle.tables.proofs.accept.mr_ok.Statement.{statement}
@@ -13,6 +16,14 @@ load-mr-live-requires c κs = search needs
 returns : tie.Need-returns
 returns c = let a = c .before .before .before .args in let e : rowAt mrLiveT (now (a .img)) (a .n) ≡ 0 = (cc) in sym (mr-free (now (a .img)) (a .n) e)
 
+returns-2 : tie.Need-returns-2
+returns-2 c =
+    let a = c .before .before .before .before .args in
+    let q = c .before .before .load-mr-live .ensures in
+    let e : rowAt mrLiveT (now (a .img)) (a .n) ≡ 0 → ⊥ = rw q at (c .before .if1 .left) in
+    let f : rowAt mrLiveT (now (a .img)) (a .n) ≡ 1 → ⊥ = rw q at (c .if2 .taken) in
+    rw (mr-rest (now (a .img)) (a .n) e, ne-eqb (rowAt mrLiveT (now (a .img)) (a .n)) 1 f)
+
 load-mr-requires : tie.Need-load-mr-requires
 load-mr-requires c κs = search needs
 
@@ -22,15 +33,26 @@ cast-pd-live c = search needs
 pd-live-requires : tie.Need-pd-live-requires
 pd-live-requires c κs = search needs
 
+returns-3 : tie.Need-returns-3
+returns-3 c =
+    let a = c .before .before .before .before .before .before .before .before .args in
+    let q = c .before .before .before .before .before .before .load-mr-live .ensures in
+    let e : rowAt mrLiveT (now (a .img)) (a .n) ≡ 0 → ⊥ = rw q at (c .before .before .before .before .before .if1 .left) in
+    let f : rowAt mrLiveT (now (a .img)) (a .n) ≡ 1 = (cc) in
+    let d : card (now (a .img)) .pd (rowAt mrT (now (a .img)) (a .n) .pd) ≡ false = rw (← c .before .before .before .load-mr .ensures) (sym (c .before .pd-live .ensures) ∙ not-true _ (c .if3 .taken)) in
+    rw (mr-rest (now (a .img)) (a .n) e, eq-eqb (rowAt mrLiveT (now (a .img)) (a .n)) 1 f, d)
+
 region-ok-requires : tie.Need-region-ok-requires
 region-ok-requires c κs = search needs
 
-returns-2 : tie.Need-returns-2
-returns-2 c =
-    let a = c .before .before .before .before .before .before .before .args in
-    let e : rowAt mrLiveT (now (a .img)) (a .n) ≡ 0 → ⊥ = λ z. c .before .before .before .before .if1 .left (cc) in
-    let s = mr-rest (now (a .img)) (a .n) e in
-    (cc)
+returns-4 : tie.Need-returns-4
+returns-4 c =
+    let a = c .before .before .before .before .before .before .before .before .before .args in
+    let q = c .before .before .before .before .before .before .before .load-mr-live .ensures in
+    let e : rowAt mrLiveT (now (a .img)) (a .n) ≡ 0 → ⊥ = rw q at (c .before .before .before .before .before .before .if1 .left) in
+    let f : rowAt mrLiveT (now (a .img)) (a .n) ≡ 1 = (cc) in
+    let d : card (now (a .img)) .pd (rowAt mrT (now (a .img)) (a .n) .pd) ≡ true = rw (← c .before .before .before .before .load-mr .ensures) (sym (c .before .before .pd-live .ensures) ∙ not-false _ (c .before .if3 .left)) in
+    rw (mr-rest (now (a .img)) (a .n) e, eq-eqb (rowAt mrLiveT (now (a .img)) (a .n)) 1 f, d) (cc)
 
 pub mr-ok-spec : {M : Type 1} → statement M
 mr-ok-spec =
@@ -38,8 +60,10 @@ mr-ok-spec =
     (tie.spec
     load-mr-live-requires
     returns
+    returns-2
     load-mr-requires
     cast-pd-live
     pd-live-requires
+    returns-3
     region-ok-requires
-    returns-2)
+    returns-4)
