@@ -9,3 +9,14 @@ pub mod Moves
 pub mod Bytewise
 pub mod Bytes
 pub mod Owed
+pub mod Exported
+pub mod QueueFacts
+pub mod ResetLaws
+pub mod PollLaws
+pub mod ReceiveLaws
+pub mod FlushLaws
+pub mod Control
+pub mod ControlLaws
+pub mod ControlEffect
+pub mod ControlPairs
+pub mod ControlCall

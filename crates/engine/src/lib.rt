@@ -1,3 +1,47 @@
-// The engine: which bytes a request may touch, and how they are moved.
+// The engine: which bytes a request may touch, and how they are moved; the card's calls, each also for a caller in C.
+ghost use mathlib.Core.List.{[]};
+ghost use Rattle.rules.specs.Call.{Call};
+ghost use Rattle.engine.specs.Owed.{Exports};
+
+pub mod control;
+pub mod control_qp;
 pub mod permit;
+pub mod queues;
 pub mod transfer;
+
+// ---- calls from C: each answers with its number in bits 0 to 7 and its status in bits 8 to 15
+
+#[no_mangle]
+pub extern "C" fn lesungkap_reset(state: &mut [u8], memory: u64) -> u32
+    ensures { λ r. ⌜ Exports (now (state .entry)) (Call.reset memory) r (now (state .exit)) [] [] ⌝ }
+{
+    rules::code(queues::reset(state, memory))
+}
+
+#[no_mangle]
+pub extern "C" fn lesungkap_control(state: &mut [u8], command: &[u8], ack: &mut [u8]) -> u32
+    ensures { λ r. ⌜ Exports (now (state .entry)) (Call.control (now (command .entry)) (now (ack .entry))) r (now (state .exit)) [] (now (ack .exit)) ⌝ }
+{
+    rules::code(control::control(state, command, ack))
+}
+
+#[no_mangle]
+pub extern "C" fn lesungkap_post_receive(state: &mut [u8], qpn: u32, posted: &[u8]) -> u32
+    ensures { λ r. ⌜ Exports (now (state .entry)) (Call.receive qpn (now (posted .entry))) r (now (state .exit)) [] [] ⌝ }
+{
+    rules::code(queues::post_receive(state, qpn, posted))
+}
+
+#[no_mangle]
+pub extern "C" fn lesungkap_flush(state: &mut [u8], qpn: u32) -> u32
+    ensures { λ r. ⌜ Exports (now (state .entry)) (Call.flush qpn) r (now (state .exit)) [] [] ⌝ }
+{
+    rules::code(queues::flush(state, qpn))
+}
+
+#[no_mangle]
+pub extern "C" fn lesungkap_poll(state: &mut [u8], cqn: u32, buffer: &mut [u8]) -> u32
+    ensures { λ r. ⌜ Exports (now (state .entry)) (Call.poll cqn (now (buffer .entry))) r (now (state .exit)) [] (now (buffer .exit)) ⌝ }
+{
+    rules::code(queues::poll(state, cqn, buffer))
+}

@@ -26,7 +26,7 @@ use Rattle.rules.specs.Calls.{checks, resetChecks, controlChecks, buffer
 
 -- ---- a fact of every test's number is one of the refusal's
 
-first-with : (f : ℕ → Bool) (cs : List Check) (n : ℕ) → all (λ c. f (c .no)) cs ≡ true → refusal cs ≡ some n → f n ≡ true
+pub first-with : (f : ℕ → Bool) (cs : List Check) (n : ℕ) → all (λ c. f (c .no)) cs ≡ true → refusal cs ≡ some n → f n ≡ true
 unfolding all
 first-with f [] n p e = let z : _≡_ {A = ℕ} 0 1 = cc in absurd (omega arith)
 first-with f (c ∷ cs) n p e = go (c .bad) (first-with f cs n (and-right (f (c .no)) (all (λ x. f (x .no)) cs) p)) e

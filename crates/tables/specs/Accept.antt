@@ -89,6 +89,13 @@ qpSound pd cq n p h ws =
 unfoldable pub qpOk : List ℕ → ℕ → Bool
 qpOk l n = qpSound (card l .pd) (cqLive (card l)) n (rowAt qpT l n) (rowAt waitingT l n) (receivesAt l n)
 
+-- the parts of a live queue pair's test: what it names, and its receives
+abbrev pub namesOk : Card → QueuePair → Bool
+namesOk c p = c .pd (p .pd) && cqLive c (p .scq) && cqLive c (p .rcq)
+
+unfoldable pub receivesOk : List ℕ → ℕ → Bool
+receivesOk l n = waitingOk (rowAt waitingT l n) && all receiveOk (posted (rowAt waitingT l n) (receivesAt l n))
+
 -- ---- the test
 
 unfoldable pub accepts : List ℕ → Bool

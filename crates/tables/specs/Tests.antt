@@ -6,13 +6,13 @@ use Prim.Native.Nat.{ℕ, _+_, _*_, _≤_, _<_}
 use native.Mathlib.Nat.{mul-one, add-zero}
 use native.Mathlib.Omega.{arith}
 use lib.Dec.{eqb, leb}
-use borrow.Author.Tests.{eq-eqb, ne-eqb, lt-ltb, le-ltb}
+use borrow.Author.Tests.{eq-eqb, ne-eqb, lt-ltb, le-ltb, lt-leb, le-leb}
 use Rattle.wire.specs.Blocks.{block-more, zero-word}
 use Rattle.wire.specs.Fields.{fieldsAt}
 use Rattle.wire.specs.Le.{leAt}
 use Rattle.wire.specs.Scan.{all, allBelow, all-at}
 use Rattle.wire.specs.Table.{rowAt, place}
-use Rattle.tables.specs.Accept.{cqLive, cqOk, mrOk, qpOk, completionOk, receiveOk, regionOk, pairOk}
+use Rattle.tables.specs.Accept.{cqLive, namesOk, receivesOk, cqOk, mrOk, qpOk, completionOk, receiveOk, regionOk, pairOk, waitingOk}
 use Rattle.tables.specs.Image.{card, unread, posted, entriesAt, receivesAt}
 use Rattle.tables.specs.Layout.{memoryT, mrLiveT, mrLiveBase, mrT, cqT, qpT, waitingT}
 use Rattle.tables.specs.Limits.{mostPlaces, mostWaiting}
@@ -61,28 +61,37 @@ module _ (l : List ℕ) (n : ℕ) where
   abbrev w : WaitingHead
   w = rowAt waitingT l n
 
-  -- the fields of a live queue pair, before its receives
-  abbrev fields : Bool
-  fields = eqb (p .live) 1 && card l .pd (p .pd) && cqLive (card l) (p .scq) && cqLive (card l) (p .rcq) && pairOk n p
-
-  abbrev receives : Bool
-  receives = all receiveOk (posted w (receivesAt l n))
-
   pub qp-free : p .live ≡ 0 → qpOk l n ≡ true
   unfolding qpOk
   qp-free e = rw (eq-eqb (p .live) 0 e)
 
-  pub qp-first : (p .live ≡ 0 → ⊥) → mostWaiting ≤ w .first → qpOk l n ≡ false
+  pub qp-flag : (p .live ≡ 0 → ⊥) → (p .live ≡ 1 → ⊥) → qpOk l n ≡ false
   unfolding qpOk
-  qp-first e b = rw (ne-eqb (p .live) 0 e, le-ltb (w .first) mostWaiting b) (go fields)
-    where
-      go : (a : Bool) → (a && (false && leb (w .count) mostWaiting) && receives) ≡ false
-      go true = refl
-      go false = refl
+  qp-flag e f = rw (ne-eqb (p .live) 0 e, ne-eqb (p .live) 1 f)
 
-  pub qp-rest : (p .live ≡ 0 → ⊥) → w .first < mostWaiting → qpOk l n ≡ (fields && leb (w .count) mostWaiting && receives)
-  unfolding qpOk
-  qp-rest e b = rw (ne-eqb (p .live) 0 e, lt-ltb (w .first) mostWaiting b)
+  -- the tests of a live queue pair: what it names, its own fields, its receives
+  pub qp-rest : p .live ≡ 1 → qpOk l n ≡ (namesOk (card l) p && pairOk n p && receivesOk l n)
+  unfolding qpOk receivesOk
+  qp-rest e = rw e (regroup (card l .pd (p .pd)) (cqLive (card l) (p .scq)) (cqLive (card l) (p .rcq)) (pairOk n p) (waitingOk w) (all receiveOk (posted w (receivesAt l n))))
+    where
+      regroup : (a b c d e f : Bool) → (a && b && c && d && e && f) ≡ (a && b && c && d && (e && f))
+      regroup true true true true e f = refl
+      regroup true true true false e f = refl
+      regroup true true false d e f = refl
+      regroup true false c d e f = refl
+      regroup false b c d e f = refl
+
+  pub waiting-first : mostWaiting ≤ w .first → receivesOk l n ≡ false
+  unfolding receivesOk
+  waiting-first b = rw (le-ltb (w .first) mostWaiting b)
+
+  pub waiting-count : w .first < mostWaiting → mostWaiting < w .count → receivesOk l n ≡ false
+  unfolding receivesOk
+  waiting-count b d = rw (lt-ltb (w .first) mostWaiting b, lt-leb (w .count) mostWaiting d)
+
+  pub waiting-rest : w .first < mostWaiting → w .count ≤ mostWaiting → receivesOk l n ≡ all receiveOk (posted w (receivesAt l n))
+  unfolding receivesOk
+  waiting-rest b d = rw (lt-ltb (w .first) mostWaiting b, le-leb (w .count) mostWaiting d)
 
 -- eight slots more: their flags are one zero word, or each was tested
 module _ (l : List ℕ) (g : ℕ) (before : allBelow (8 * g) (mrOk l) ≡ true) where

@@ -22,7 +22,7 @@ ghost use lib.Dec.{leb};
 ghost use lib.ListN.{length};
 ghost use Rattle.wire.specs.Scan.{all, allBelow};
 ghost use Rattle.wire.specs.Table.{rowAt};
-ghost use Rattle.tables.specs.Accept.{accepts, cqLive, isStatus, isState, completionOk, receiveOk, regionOk, pairOk, pdOk, cqOk, mrOk, qpOk};
+ghost use Rattle.tables.specs.Accept.{accepts, cqLive, isStatus, isState, completionOk, receiveOk, regionOk, pairOk, namesOk, receivesOk, pdOk, cqOk, mrOk, qpOk};
 ghost use Rattle.tables.specs.Image.{card, unread, posted, entriesAt, receivesAt};
 ghost use Rattle.tables.specs.Layout.{image, memoryT};
 ghost use Rattle.tables.specs.Limits.{pdCount, cqCount, mrCount, qpCount, mostPlaces, mostWaiting};
@@ -193,6 +193,37 @@ fn mr_ok(img: &[u8], memory: u64, n: usize) -> bool
     region_ok(memory, r)
 }
 
+// The domain and the completion queues that a queue pair names are live.
+fn names_ok(img: &[u8], p: QueuePair) -> bool
+    requires { ⌜ length (now img) ≡ image ⌝ }
+    ensures { λ x. ⌜ x ≡ namesOk (card (now (img .entry))) p ⌝ }
+{
+    if !pd_live(img, p.pd as u32) {
+        return false;
+    }
+    if !cq_live(img, p.scq as u32) {
+        return false;
+    }
+    cq_live(img, p.rcq as u32)
+}
+
+// The waiting receives of queue pair n.
+fn waiting_ok(img: &[u8], n: usize) -> bool
+    requires { ⌜ (n < qpCount) × (length (now img) ≡ image) ⌝ }
+    ensures { λ x. ⌜ x ≡ receivesOk (now (img .entry)) n ⌝ }
+{
+    let h = image::load_waiting(img, n);
+    let first = h.first as usize;
+    if MOST_WAITING <= first {
+        return false;
+    }
+    let count = h.count as usize;
+    if MOST_WAITING < count {
+        return false;
+    }
+    receives_ok(img, n, h)
+}
+
 fn qp_ok(img: &[u8], n: usize) -> bool
     requires { ⌜ (n < qpCount) × (length (now img) ≡ image) ⌝ }
     ensures { λ x. ⌜ x ≡ qpOk (now (img .entry)) n ⌝ }
@@ -201,18 +232,16 @@ fn qp_ok(img: &[u8], n: usize) -> bool
     if p.live == 0 {
         return true;
     }
-    let h = image::load_waiting(img, n);
-    let first = h.first as usize;
-    if MOST_WAITING <= first {
+    if p.live != 1 {
         return false;
     }
-    let count = h.count as usize;
-    let pd = pd_live(img, p.pd as u32);
-    let scq = cq_live(img, p.scq as u32);
-    let rcq = cq_live(img, p.rcq as u32);
-    let pair = pair_ok(n, p);
-    let receives = receives_ok(img, n, h);
-    (p.live == 1) & pd & scq & rcq & pair & (count <= MOST_WAITING) & receives
+    if !names_ok(img, p) {
+        return false;
+    }
+    if !pair_ok(n, p) {
+        return false;
+    }
+    waiting_ok(img, n)
 }
 
 fn pds_ok(img: &[u8]) -> bool
@@ -297,9 +326,20 @@ pub fn accepted(img: &[u8]) -> bool
         return false;
     }
     let memory = image::load_memory(img);
-    let pds = pds_ok(img);
-    let cqs = cqs_ok(img);
-    let mrs = mrs_ok(img, memory);
-    let qps = qps_ok(img);
-    (1 <= memory) & (memory <= MOST_MEMORY) & pds & cqs & mrs & qps
+    if memory < 1 {
+        return false;
+    }
+    if MOST_MEMORY < memory {
+        return false;
+    }
+    if !pds_ok(img) {
+        return false;
+    }
+    if !cqs_ok(img) {
+        return false;
+    }
+    if !mrs_ok(img, memory) {
+        return false;
+    }
+    qps_ok(img)
 }

@@ -3,12 +3,8 @@ use native.Mathlib.Omega.{arith}
 use native.Mathlib.Decide.{ℕ-discrete}
 use Prim.Native.Nat.{ℕ}
 use mathlib.Core.Path.{_≡_}
-use mathlib.Core.Bool.{true}
-use Rattle.tables.specs.Accept.{isStatus}
 use Rattle.tables.proofs.accept.is_status.Statement.{statement}
 use Rattle.tables.proofs.accept.is_status.Tie as tie
-use Rattle.tables.proofs.accept.is_status.Reads as reads
-use Rattle.tables.proofs.accept.is_status.Lts as lts
 
 returns : tie.Need-returns
 returns c = let s = c .before .before .args .s in rw (lt-leb s 1 (omega arith), ne-eqb s 3 (omega arith), ne-eqb s 4 (omega arith), ne-eqb s 7 (omega arith), ne-eqb s 8 (omega arith))

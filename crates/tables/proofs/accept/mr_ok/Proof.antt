@@ -1,23 +1,14 @@
-use borrow.Author.Tests.{eq-eqb, ne-eqb, le-leb, lt-leb, lt-ltb, le-ltb, not-true, not-false}
-use mathlib.Core.Path.{_≡_, sym, ap, _∙_}
-use native.Mathlib.Omega.{arith}
-use Prim.Native.Nat.{ℕ, _≤_, _<_, _+_}
-use mathlib.Core.Bool.{Bool, true, false}
-use lib.Dec.{leb, ltb, eqb}
+use borrow.Author.Tests.{eq-eqb, ne-eqb, not-true, not-false}
+use mathlib.Core.Path.{_≡_, sym, _∙_}
+use mathlib.Core.Bool.{true, false}
 use denote.Ref.{now}
 use Rattle.wire.specs.Table.{rowAt}
-use Rattle.tables.specs.Layout.{memoryT, mrLiveT, mrT}
+use Rattle.tables.specs.Layout.{mrLiveT, mrT}
 use Rattle.tables.specs.Image.{card}
 use Rattle.tables.specs.Tests.{mr-free, mr-rest}
 use borrow.Author.Needs.{needs}
 use Rattle.tables.proofs.accept.mr_ok.Statement.{statement}
 use Rattle.tables.proofs.accept.mr_ok.Tie as tie
-use Rattle.tables.proofs.accept.mr_ok.Reads as reads
-use Rattle.tables.proofs.accept.mr_ok.Lts as lts
-use Rattle.tables.proofs.accept.pd_live.Reads as pd-live-reads
-use Rattle.tables.proofs.accept.region_ok.Reads as region-ok-reads
-use Rattle.tables.proofs.image.load_mr.Reads as load-mr-reads
-use Rattle.tables.proofs.image.load_mr_live.Reads as load-mr-live-reads
 
 load-mr-live-requires : tie.Need-load-mr-live-requires
 load-mr-live-requires c κs = search needs

@@ -1,16 +1,9 @@
-use borrow.Author.Tests.{eq-eqb, ne-eqb, le-leb, lt-leb, lt-ltb, le-ltb, not-true, not-false}
-use mathlib.Core.Path.{_≡_, sym, ap, _∙_}
-use native.Mathlib.Omega.{arith}
-use Prim.Native.Nat.{ℕ, _≤_, _<_, _+_}
-use mathlib.Core.Bool.{Bool, true, false}
-use lib.Dec.{leb, ltb, eqb}
-use Rattle.tables.specs.Limits.{mostAccess, mostMessage, mostAddress, qpCount}
+use borrow.Author.Tests.{le-leb, lt-leb, not-true, not-false}
+use mathlib.Core.Path.{sym, _∙_}
+use Rattle.tables.specs.Limits.{mostAccess}
 use borrow.Author.Needs.{needs}
 use Rattle.tables.proofs.accept.region_ok.Statement.{statement}
 use Rattle.tables.proofs.accept.region_ok.Tie as tie
-use Rattle.tables.proofs.accept.region_ok.Reads as reads
-use Rattle.tables.proofs.accept.region_ok.Lts as lts
-use Rattle.tables.proofs.accept.sum_within.Reads as sum-within-reads
 
 returns : tie.Need-returns
 returns c = let r = c .before .before .args .r in rw (lt-leb (r .access) mostAccess (c .if1 .taken))
