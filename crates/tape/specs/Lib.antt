@@ -1,3 +1,4 @@
 pub mod Tape
 pub mod Heads
 pub mod Written
+pub mod Turns

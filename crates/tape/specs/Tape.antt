@@ -9,7 +9,7 @@ use Rattle.wire.specs.Le.{leAt}
 use Rattle.tables.specs.Accept.{accepts}
 use Rattle.tables.specs.Card.{Card}
 use Rattle.tables.specs.Image.{card}
-use Rattle.tables.specs.Records.{ackLeast, commandOf, completionCodec}
+use Rattle.tables.specs.Records.{ackLeast, commandOf}
 use Rattle.tables.specs.Reset.{resetBytes}
 use Rattle.rules.specs.Answer.{number, status, isDone}
 use Rattle.rules.specs.Call.{Call}
@@ -47,6 +47,10 @@ headerOf i = cond (ltb (length i) headerSize) Cut (cond (isGood i) (Record (leAt
 
 -- ---- the call that a record makes
 
+-- a completion's bytes
+abbrev pub completionSize : ℕ
+completionSize = 24
+
 abbrev pub zeros : ℕ → List ℕ
 zeros n = replicate n 0
 
@@ -55,7 +59,7 @@ abbrev pub callOf : (kind number : ℕ) → (body memory : List ℕ) → Call
 callOf k n b m =
     cond (eqb k 1) (Call.control b (zeros ackLeast))
     (cond (eqb k 2) (Call.send n b m)
-    (cond (eqb k 3) (Call.receive n b) (cond (eqb k 4) (Call.poll n (zeros (completionCodec .size))) (Call.flush n))))
+    (cond (eqb k 3) (Call.receive n b) (cond (eqb k 4) (Call.poll n (zeros completionSize)) (Call.flush n))))
 
 -- the memory after the call k on the state l; only a send is lent it
 abbrev pub memoryLeft : (l m : List ℕ) → Call → List ℕ
@@ -81,7 +85,7 @@ writtenBy r c (Call.control k a) = ackWritten r c k
 writtenBy r c (Call.send q x m) = 0
 writtenBy r c (Call.receive q x) = 0
 writtenBy r c (Call.flush q) = 0
-writtenBy r c (Call.poll n b) = cond (isDone r) (completionCodec .size) 0
+writtenBy r c (Call.poll n b) = cond (isDone r) completionSize 0
 
 abbrev pub answerHead : Answer → (length : ℕ) → List ℕ
 answerHead r n = 114 ∷ 107 ∷ number r ∷ status r ∷ n % 256 ∷ n / 256 ∷ []

@@ -9,7 +9,7 @@ use native.Mathlib.Omega.{arith}
 use lib.Dec.{eqb, ltb}
 use lib.ListN.{length, take, drop, length-append}
 use lib.Seq.{paste, length-take-le, drop-append-add, drop-drop}
-use borrow.Author.Tests.{ltb-false, ne-eqb}
+use borrow.Author.Tests.{ltb-false, ne-eqb, eq-eqb}
 use types.Run.{OneOf}
 use Rattle.wire.specs.Checks.{Check, refusal, passed}
 use Rattle.wire.specs.Le.{leAt}
@@ -19,16 +19,19 @@ use Rattle.tables.specs.Image.{card}
 use Rattle.tables.specs.declared.CreateQp.{CreateQp}
 use Rattle.tables.specs.declared.ModifyQp.{ModifyQp}
 use Rattle.tables.specs.declared.Registration.{Registration}
-use Rattle.tables.specs.Records.{Command, commandOf, numberCodec, registerCodec, createQpCodec, modifyQpCodec}
+use Rattle.tables.specs.Records.{ackLeast, Command, commandOf, numberCodec, registerCodec, createQpCodec, modifyQpCodec}
+use Rattle.tables.specs.Layout.{image}
+use Rattle.tables.specs.Reset.{resetBytes}
 use Rattle.rules.specs.Answer.{answered, isDone}
 use Rattle.rules.specs.Call.{Call}
-use Rattle.rules.specs.Calls.{checks, controlChecks, owed, owedChecks, settled}
+use Rattle.rules.specs.Calls.{checks, resetChecks, controlChecks, owed, owedChecks, settled}
 use Rattle.rules.specs.Control.{commandAck, commandChecks}
 use Rattle.rules.specs.declared.Answer.{Answer}
 use Rattle.rules.proofs.Answers.{answered-not-done}
 use Rattle.rules.proofs.Tests.{passed-before}
-use Rattle.engine.specs.Owed.{Owes}
-use Rattle.tape.specs.Tape.{answerHead, answerRecord, answerTo, writtenBy, placed, Answers}
+use Rattle.engine.specs.Bytes.{effectBytes}
+use Rattle.engine.specs.Owed.{Owes, bytesAfter}
+use Rattle.tape.specs.Tape.{answerHead, answerRecord, answerTo, writtenBy, placed, Answers, completionSize, zeros, callOf, tapeMemory}
 
 -- the head, then the first n of the bytes behind it
 module _ (r : Answer) (b : List ℕ) (n : ℕ) (within : n ≤ length b) where
@@ -112,9 +115,9 @@ module _ (c : Card) (k : List ℕ) (n : ℕ) (byte : n ≡ leAt 1 k 1) where
       e ∙ sized
 
 -- a command answered 0 has its class and command bytes
-pub done-two : (l k a : List ℕ) {r : Answer} {l′ m′ b′ : List ℕ} → Owes l (Call.control k a) r l′ m′ b′ → isDone r ≡ true → 2 ≤ length k
+pub done-two : {l k a : List ℕ} {r : Answer} {l′ m′ b′ : List ℕ} → Owes l (Call.control k a) r l′ m′ b′ → isDone r ≡ true → 2 ≤ length k
 unfolding checks controlChecks
-done-two l k a {r} o d = by (refusal cs) refl
+done-two {l} {k} {a} {r} o d = by (refusal cs) refl
   where
     call : Call
     call = Call.control k a
@@ -134,3 +137,26 @@ unfolding answerTo
 answers {l} {l′} {m′} {b′} {out} {out′} {k} {r} o n w size bytes =
     let e : answerRecord r (take n b′) ≡ answerTo l k = rw (w, o .meets .answer, o .meets .buffer) in
     record { count = size ∙ ap length e; bytes = bytes ∙ ap (λ (x : List ℕ). placed x out) e; state = o .bytes }
+
+-- the reset of a tape
+pub started : (l : List ℕ) {r : Answer} {l′ : List ℕ} → length l ≡ image → Owes l (Call.reset tapeMemory) r l′ [] [] → l′ ≡ resetBytes tapeMemory
+unfolding checks resetChecks effectBytes
+started l {r} {l′} h o = let e : l′ ≡ bytesAfter l (Call.reset tapeMemory) = o .bytes in rw (eq-eqb (length l) image h) at e
+
+-- ---- the call of each kind
+
+module _ (k n : ℕ) (b m : List ℕ) where
+  pub call-control : k ≡ 1 → callOf k n b m ≡ Call.control b (zeros ackLeast)
+  call-control e = rw e
+
+  pub call-send : k ≡ 2 → callOf k n b m ≡ Call.send n b m
+  call-send e = rw e
+
+  pub call-receive : k ≡ 3 → callOf k n b m ≡ Call.receive n b
+  call-receive e = rw e
+
+  pub call-poll : k ≡ 4 → callOf k n b m ≡ Call.poll n (zeros completionSize)
+  call-poll e = rw e
+
+  pub call-flush : (k ≡ 1 → ⊥) → (k ≡ 2 → ⊥) → (k ≡ 3 → ⊥) → (k ≡ 4 → ⊥) → callOf k n b m ≡ Call.flush n
+  call-flush a b c d = rw (ne-eqb k 1 a, ne-eqb k 2 b, ne-eqb k 3 c, ne-eqb k 4 d)

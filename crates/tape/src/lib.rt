@@ -1,17 +1,22 @@
 // The replay tape: reading a record's header, making its call, writing its answer. What a tape means: specs/Tape.antt.
 use rules::Answer;
 ghost use mathlib.Core.Path.{_≡_};
-ghost use mathlib.Core.Bool.{true};
+ghost use mathlib.Core.Bool.{true, cond};
 ghost use mathlib.Core.List.{[], _++_};
 ghost use Prim.Native.Nat.{_+_, _*_, _≤_};
 ghost use lib.ListN.{length, take, drop};
 ghost use Rattle.tables.specs.Card.{Card};
-ghost use Rattle.tables.specs.Records.{commandOf};
+ghost use Rattle.tables.specs.Layout.{image};
+ghost use Rattle.tables.specs.Records.{ackLeast, commandOf};
+ghost use Rattle.tables.specs.Reset.{resetBytes};
 ghost use Rattle.rules.specs.Answer.{isDone};
+ghost use Rattle.rules.specs.Call.{Call};
 ghost use Rattle.rules.specs.Control.{commandAck};
-ghost use Rattle.tape.specs.Tape.{isMark, isKind, isLength, headerOf, ackWritten, answerHead, answerRecord, placed, badRecord};
+ghost use Rattle.tape.specs.Tape.{isMark, isKind, isLength, headerOf, ackWritten, answerHead, answerRecord, placed, badRecord, completionSize, zeros, callOf, memoryLeft, Answers, tapeMemory};
 
 const HEADER: usize = 6;
+
+const MEMORY: u64 = 4096;
 
 // What the first bytes of the input hold: a header with its kind, number and body length, a bad one, or less than a header.
 pub enum Header {
@@ -121,6 +126,99 @@ fn ack_written(answer: Answer, command: &[u8]) -> usize
             1
         }
     }
+}
+
+fn completion_written(answer: Answer) -> usize
+    ensures { λ r. ⌜ (r ≡ cond (isDone answer) completionSize 0) × (r ≤ 24) ⌝ }
+{
+    match answer {
+        Answer::Done(_) => 24,
+        Answer::Held(_) => 0,
+        Answer::Refused(_) => 0,
+    }
+}
+
+// ---- one call for each kind of record, with its answer record written
+
+fn answer_control(state: &mut [u8], body: &[u8], out: &mut [u8]) -> usize
+    requires { ⌜ 30 ≤ length (now out) ⌝ }
+    ensures { λ r. ⌜ Answers (Call.control (now (body .entry)) (zeros ackLeast)) (now (state .entry)) (now (out .entry)) r (now (state .exit)) (now (out .exit)) ⌝ }
+{
+    let mut ack = [0u8; 13];
+    let answer = engine::control::control(state, body, &mut ack);
+    let n = ack_written(answer, body);
+    put_answer(out, answer, &ack, n)
+}
+
+fn answer_send(
+    state: &mut [u8],
+    memory: &mut [u8],
+    number: u8,
+    body: &[u8],
+    out: &mut [u8],
+) -> usize
+    requires { ⌜ 30 ≤ length (now out) ⌝ }
+    ensures { λ r. ⌜ Answers (Call.send number (now (body .entry)) (now (memory .entry))) (now (state .entry)) (now (out .entry)) r (now (state .exit)) (now (out .exit)) ⌝ }
+    ensures { λ _. ⌜ now (memory .exit) ≡ memoryLeft (now (state .entry)) (now (memory .entry)) (Call.send number (now (body .entry)) (now (memory .entry))) ⌝ }
+{
+    let answer = engine::send::post_send(state, memory, number as u32, body);
+    put_bare(out, answer)
+}
+
+fn answer_receive(state: &mut [u8], number: u8, body: &[u8], out: &mut [u8]) -> usize
+    requires { ⌜ 30 ≤ length (now out) ⌝ }
+    ensures { λ r. ⌜ Answers (Call.receive number (now (body .entry))) (now (state .entry)) (now (out .entry)) r (now (state .exit)) (now (out .exit)) ⌝ }
+{
+    let answer = engine::queues::post_receive(state, number as u32, body);
+    put_bare(out, answer)
+}
+
+fn answer_poll(state: &mut [u8], number: u8, out: &mut [u8]) -> usize
+    requires { ⌜ 30 ≤ length (now out) ⌝ }
+    ensures { λ r. ⌜ Answers (Call.poll number (zeros completionSize)) (now (state .entry)) (now (out .entry)) r (now (state .exit)) (now (out .exit)) ⌝ }
+{
+    let mut buffer = [0u8; 24];
+    let answer = engine::queues::poll(state, number as u32, &mut buffer);
+    let n = completion_written(answer);
+    put_answer(out, answer, &buffer, n)
+}
+
+fn answer_flush(state: &mut [u8], number: u8, out: &mut [u8]) -> usize
+    requires { ⌜ 30 ≤ length (now out) ⌝ }
+    ensures { λ r. ⌜ Answers (Call.flush number) (now (state .entry)) (now (out .entry)) r (now (state .exit)) (now (out .exit)) ⌝ }
+{
+    let answer = engine::queues::flush(state, number as u32);
+    put_bare(out, answer)
+}
+
+// Makes the call of a record of the given kind, number and body, writes its answer record and returns its length.
+pub fn answer_record(
+    state: &mut [u8],
+    memory: &mut [u8],
+    kind: u8,
+    number: u8,
+    body: &[u8],
+    out: &mut [u8],
+) -> usize
+    requires { ⌜ 30 ≤ length (now out) ⌝ }
+    ensures { λ r. ⌜ Answers (callOf kind number (now (body .entry)) (now (memory .entry))) (now (state .entry)) (now (out .entry)) r (now (state .exit)) (now (out .exit)) ⌝ }
+    ensures { λ _. ⌜ now (memory .exit) ≡ memoryLeft (now (state .entry)) (now (memory .entry)) (callOf kind number (now (body .entry)) (now (memory .entry))) ⌝ }
+{
+    match kind {
+        1 => answer_control(state, body, out),
+        2 => answer_send(state, memory, number, body, out),
+        3 => answer_receive(state, number, body, out),
+        4 => answer_poll(state, number, out),
+        _ => answer_flush(state, number, out),
+    }
+}
+
+// Resets the card for a tape: a memory of 4,096 bytes.
+pub fn start(state: &mut [u8])
+    requires { ⌜ length (now state) ≡ image ⌝ }
+    ensures { λ _. ⌜ now (state .exit) ≡ resetBytes tapeMemory ⌝ }
+{
+    engine::queues::reset(state, MEMORY);
 }
 
 // Writes the answer record of a fault, which ends the tape.

@@ -4,9 +4,6 @@ use Rattle.tape.specs.Written.{ack-keys, ack-bare, ack-number}
 use borrow.Author.Needs.{needs}
 use Rattle.tape.proofs.ack_size.Statement.{statement}
 use Rattle.tape.proofs.ack_size.Tie as tie
-use Rattle.tape.proofs.ack_size.Reads as reads
-use Rattle.tape.proofs.ack_size.Lts as lts
-use Rattle.wire.proofs.get8.Reads as get8-reads
 
 get8-requires : tie.Need-get8-requires
 get8-requires c κs = search needs

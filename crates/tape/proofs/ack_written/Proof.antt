@@ -4,9 +4,6 @@ use Rattle.rules.specs.Answer.{isDone}
 use borrow.Author.Needs.{needs}
 use Rattle.tape.proofs.ack_written.Statement.{statement}
 use Rattle.tape.proofs.ack_written.Tie as tie
-use Rattle.tape.proofs.ack_written.Reads as reads
-use Rattle.tape.proofs.ack_written.Lts as lts
-use Rattle.tape.proofs.ack_size.Reads as ack-size-reads
 
 enum-told : tie.Need-enum-told
 enum-told c = search needs

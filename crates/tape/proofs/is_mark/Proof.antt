@@ -1,9 +1,6 @@
 use borrow.Author.Needs.{needs}
 use Rattle.tape.proofs.is_mark.Statement.{statement}
 use Rattle.tape.proofs.is_mark.Tie as tie
-use Rattle.tape.proofs.is_mark.Reads as reads
-use Rattle.tape.proofs.is_mark.Lts as lts
-use Rattle.wire.proofs.get8.Reads as get8-reads
 
 get8-requires : tie.Need-get8-requires
 get8-requires c κs = search needs

@@ -6,10 +6,6 @@ use Rattle.tape.specs.Written.{record-size, record-placed}
 use borrow.Author.Needs.{needs}
 use Rattle.tape.proofs.put_answer.Statement.{statement}
 use Rattle.tape.proofs.put_answer.Tie as tie
-use Rattle.tape.proofs.put_answer.Reads as reads
-use Rattle.tape.proofs.put_answer.Lts as lts
-use Rattle.engine.proofs.transfer.copy_bytes.Reads as copy-bytes-reads
-use Rattle.tape.proofs.put_head.Reads as put-head-reads
 
 cast-put-head : tie.Need-cast-put-head
 cast-put-head c = search needs

@@ -3,9 +3,6 @@ use mathlib.Core.Path.{refl}
 use borrow.Author.Needs.{needs}
 use Rattle.tape.proofs.put_bare.Statement.{statement}
 use Rattle.tape.proofs.put_bare.Tie as tie
-use Rattle.tape.proofs.put_bare.Reads as reads
-use Rattle.tape.proofs.put_bare.Lts as lts
-use Rattle.tape.proofs.put_head.Reads as put-head-reads
 
 put-head-requires : tie.Need-put-head-requires
 put-head-requires c κs = search needs

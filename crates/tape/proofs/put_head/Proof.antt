@@ -5,10 +5,6 @@ use Rattle.tape.specs.Heads.{head-stored}
 use borrow.Author.Needs.{needs}
 use Rattle.tape.proofs.put_head.Statement.{statement}
 use Rattle.tape.proofs.put_head.Tie as tie
-use Rattle.tape.proofs.put_head.Reads as reads
-use Rattle.tape.proofs.put_head.Lts as lts
-use Rattle.rules.proofs.number_of.Reads as number-of-reads
-use Rattle.rules.proofs.status_of.Reads as status-of-reads
 
 slice-write-out : tie.Need-slice-write-out
 slice-write-out c = search needs

@@ -6,13 +6,6 @@ use Rattle.tape.specs.Tape.{isGood}
 use borrow.Author.Needs.{needs}
 use Rattle.tape.proofs.read_header.Statement.{statement}
 use Rattle.tape.proofs.read_header.Tie as tie
-use Rattle.tape.proofs.read_header.Reads as reads
-use Rattle.tape.proofs.read_header.Lts as lts
-use Rattle.tape.proofs.is_kind.Reads as is-kind-reads
-use Rattle.tape.proofs.is_length.Reads as is-length-reads
-use Rattle.tape.proofs.is_mark.Reads as is-mark-reads
-use Rattle.wire.proofs.get16.Reads as get16-reads
-use Rattle.wire.proofs.get8.Reads as get8-reads
 
 returns : tie.Need-returns
 returns c = header-cut (now (c .before .before .args .input)) (c .if1 .taken)

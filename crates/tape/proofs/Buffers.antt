@@ -1,0 +1,86 @@
+-- "lends buffers that never give 12": no call of a tape is answered 12, on any state. Assumes nothing.
+use mathlib.Core.Path.{_≡_, refl, sym}
+use mathlib.Core.Bool.{Bool, true, false, cond, not, true≢false}
+use mathlib.Core.List.{List, [], _∷_, _++_}
+use mathlib.Core.Option.{some}
+use Prim.Native.Nat.{ℕ}
+use lib.Dec.{eqb}
+use lib.ListN.{drop}
+use Rattle.wire.specs.Checks.{Check, _if_, refusal}
+use Rattle.wire.specs.Fields.{within, clear, apart}
+use Rattle.wire.specs.Scan.{all}
+use Rattle.tables.specs.Accept.{accepts}
+use Rattle.tables.specs.Card.{Card}
+use Rattle.tables.specs.Image.{card}
+use Rattle.tables.specs.Records.{Command, commandOf, ackLeast, sendChecks, receiveChecks}
+use Rattle.rules.specs.Call.{Call}
+use Rattle.rules.specs.Calls.{checks, controlChecks, bufferChecks, owedChecks}
+use Rattle.rules.specs.Control.{commandChecks}
+use Rattle.rules.specs.Queues.{joinChecks, flushChecks, pollChecks}
+use Rattle.rules.specs.Send.{deliveryChecks}
+use Rattle.rules.proofs.Answers.{first-with}
+use Rattle.rules.proofs.Ranges.{all-split}
+use Rattle.tape.specs.Tape.{completionSize, zeros, callOf}
+
+abbrev other : ℕ → Bool
+other n = not (eqb n 12)
+
+abbrev spare : Check → Bool
+spare t = other (t .no)
+
+command-spare : (c : Card) (k : Command) → all spare (commandChecks c k) ≡ true
+unfolding all commandChecks
+command-spare c (Command.createCq n) = refl
+command-spare c (Command.destroyCq n) = refl
+command-spare c Command.createPd = refl
+command-spare c (Command.destroyPd n) = refl
+command-spare c (Command.register g) = refl
+command-spare c (Command.deregister n) = refl
+command-spare c (Command.createQp r) = refl
+command-spare c (Command.modifyQp r) = refl
+command-spare c (Command.destroyQp q) = refl
+
+without : (cs : List Check) → all spare cs ≡ true → refusal cs ≡ some 12 → ⊥
+without cs a e = true≢false (sym (first-with other cs 12 a e))
+
+-- the call k on the state l
+abbrev Never : (l : List ℕ) → Call → Type 0
+Never l k = refusal (owedChecks card accepts l k) ≡ some 12 → ⊥
+
+module _ (l : List ℕ) where
+  abbrev unusable : Check
+  unusable = 15 if not (accepts l)
+
+  control-never : (b : List ℕ) → Never l (Call.control b (zeros ackLeast))
+  unfolding all checks controlChecks
+  control-never b e =
+      without (unusable ∷ (drop 1 (controlChecks b (zeros ackLeast)) ++ commandChecks (card l) (commandOf b)))
+      (rw (all-split spare (drop 1 (controlChecks b (zeros ackLeast))) (commandChecks (card l) (commandOf b)), command-spare (card l) (commandOf b)))
+      e
+
+  send-never : (q : ℕ) (x m : List ℕ) → Never l (Call.send q x m)
+  unfolding all checks sendChecks deliveryChecks
+  send-never q x m e = without (owedChecks card accepts l (Call.send q x m)) refl e
+
+  receive-never : (q : ℕ) (x : List ℕ) → Never l (Call.receive q x)
+  unfolding all checks receiveChecks joinChecks
+  receive-never q x e = without (owedChecks card accepts l (Call.receive q x)) refl e
+
+  flush-never : (q : ℕ) → Never l (Call.flush q)
+  unfolding all checks flushChecks
+  flush-never q e = without (owedChecks card accepts l (Call.flush q)) refl e
+
+  poll-never : (n : ℕ) → Never l (Call.poll n (zeros completionSize))
+  unfolding all checks bufferChecks pollChecks within clear apart
+  poll-never n e = without (unusable ∷ pollChecks (card l) n) refl e
+
+  either : (b : Bool) (x y : Call) → Never l x → Never l y → Never l (cond b x y)
+  either true x y p q = p
+  either false x y p q = q
+
+  pub never-short : (k n : ℕ) (b m : List ℕ) → Never l (callOf k n b m)
+  never-short k n b m =
+      either (eqb k 1) (Call.control b (zeros ackLeast)) _ (control-never b)
+      (either (eqb k 2) (Call.send n b m) _ (send-never n b m)
+      (either (eqb k 3) (Call.receive n b) _ (receive-never n b)
+      (either (eqb k 4) (Call.poll n (zeros completionSize)) (Call.flush n) (poll-never n) (flush-never n))))

@@ -1,0 +1,52 @@
+-- Document 01's whole case, the ends of a tape, and the edges of a header, computed. Assumes nothing.
+use mathlib.Core.Path.{_≡_, refl, ap₂, _∙_}
+use mathlib.Core.Bool.{true}
+use mathlib.Core.List.{List, [], _∷_, _++_}
+use Prim.Native.Nat.{ℕ}
+use native.Mathlib.Omega.{arith}
+use Rattle.wire.specs.Fields.{putFields}
+use Rattle.wire.specs.Le.{leAt, putLe}
+use Rattle.wire.specs.Scan.{lowest, lowestFrom}
+use Rattle.tables.specs.Accept.{accepts}
+use Rattle.tables.specs.Accepted.{accepting}
+use Rattle.tables.specs.Card.{fresh}
+use Rattle.tables.specs.Image.{card}
+use Rattle.tables.specs.Records.{commandOf, dataSize, ackLeast}
+use Rattle.tables.specs.Reset.{resetBytes, reset-card, reset-accepted}
+use Rattle.rules.specs.Call.{Call}
+use Rattle.rules.specs.Calls.{checks, controlChecks, statusOf, bufferAfter}
+use Rattle.rules.specs.Control.{commandChecks, commandAck}
+use Rattle.tape.specs.declared.Header.the-variants.{Record, Bad, Cut}
+use Rattle.tape.specs.Tape.{headerOf, zeros, answerRecord, answerTo, play, tapeMemory, output}
+use Rattle.tape.specs.Turns.{turn-record, turn-end}
+
+-- 52 4B 01 00 02 00 06 04
+abbrev wholeCase : List ℕ
+wholeCase = 82 ∷ 75 ∷ 1 ∷ 0 ∷ 2 ∷ 0 ∷ 6 ∷ 4 ∷ []
+
+first-domain : answerTo (resetBytes tapeMemory) (Call.control (6 ∷ 4 ∷ []) (zeros ackLeast)) ≡ 114 ∷ 107 ∷ 0 ∷ 0 ∷ 5 ∷ 0 ∷ 0 ∷ 0 ∷ 0 ∷ 0 ∷ 0 ∷ []
+unfolding answerTo answerRecord checks controlChecks commandChecks commandAck commandOf dataSize statusOf bufferAfter putFields putLe leAt lowest lowestFrom
+first-domain =
+    let l : List ℕ = resetBytes tapeMemory in
+    let c : card l ≡ fresh tapeMemory = reset-card tapeMemory (omega arith) (omega arith) in
+    let a : accepts l ≡ true = accepting l (reset-accepted tapeMemory (omega arith) (omega arith)) in
+    rw (a, c)
+
+-- "Whole case: 52 4B 01 00 02 00 06 04 gives 72 6B 00 00 05 00 00 00 00 00 00."
+pub whole-case : output wholeCase ≡ 114 ∷ 107 ∷ 0 ∷ 0 ∷ 5 ∷ 0 ∷ 0 ∷ 0 ∷ 0 ∷ 0 ∷ 0 ∷ []
+unfolding output headerOf leAt
+whole-case =
+    turn-record (resetBytes tapeMemory) (zeros tapeMemory) wholeCase {k = 1} {n = 0} {s = 2} refl (omega arith)
+    ∙ ap₂ (λ (a b : List ℕ). a ++ b) first-domain (turn-end _ _)
+
+pub header-edges : (headerOf (82 ∷ 75 ∷ 1 ∷ 0 ∷ 128 ∷ 2 ∷ []) ≡ Record 1 0 640) × (headerOf (82 ∷ 75 ∷ 1 ∷ 0 ∷ 129 ∷ 2 ∷ []) ≡ Bad)
+    × (headerOf (82 ∷ 75 ∷ 4 ∷ 255 ∷ 0 ∷ 0 ∷ []) ≡ Record 4 255 0) × (headerOf (82 ∷ 75 ∷ 5 ∷ 0 ∷ 1 ∷ 0 ∷ []) ≡ Bad)
+    × (headerOf (82 ∷ 75 ∷ 0 ∷ 0 ∷ 0 ∷ 0 ∷ []) ≡ Bad) × (headerOf (82 ∷ 75 ∷ 6 ∷ 0 ∷ 0 ∷ 0 ∷ []) ≡ Bad)
+    × (headerOf (75 ∷ 82 ∷ 1 ∷ 0 ∷ 2 ∷ 0 ∷ []) ≡ Bad) × (headerOf (82 ∷ 75 ∷ 1 ∷ 0 ∷ 2 ∷ []) ≡ Cut)
+unfolding headerOf leAt
+header-edges = (refl, refl, refl, refl, refl, refl, refl, refl)
+
+-- "Clean end adds nothing."
+pub empty-tape : output [] ≡ []
+unfolding output play
+empty-tape = refl

@@ -1,0 +1,163 @@
+-- A tape record by record: the output from each record on, which reads no further than the record. Assumes nothing.
+use mathlib.Core.Path.{_≡_, refl, sym, ap, _∙_}
+use mathlib.Core.Bool.{Bool, true, false, cond, _&&_, _||_}
+use mathlib.Core.List.{List, [], _∷_, _++_}
+use Prim.Native.Nat.{ℕ, zero, suc, _+_, _*_, min, _≤_, _<_}
+use native.Mathlib.Decide.{decLt}
+use native.Mathlib.Omega.{arith}
+use lib.Dec.{eqb, ltb, leb}
+use lib.ListN.{length, take, drop, length-take, length-drop, length-append}
+use lib.Seq.{getD-take}
+use borrow.Author.Tests.{le-ltb, lt-ltb, leb-true}
+use Rattle.wire.specs.Le.{leAt, leAt-same}
+use Rattle.wire.specs.Scan.{and-left, and-right}
+use Rattle.tables.specs.Accept.{accepts}
+use Rattle.tables.specs.Card.{Card}
+use Rattle.tables.specs.Image.{card}
+use Rattle.tables.specs.Records.{Command, commandOf}
+use Rattle.rules.specs.Answer.{isDone}
+use Rattle.rules.specs.Call.{Call}
+use Rattle.rules.specs.Calls.{Result, owed}
+use Rattle.rules.specs.Control.{commandAck}
+use Rattle.rules.specs.declared.Answer.{Answer}
+use Rattle.rules.specs.declared.Answer.the-variants.{Done, Held, Refused}
+use Rattle.engine.specs.Owed.{bytesAfter}
+use Rattle.tape.specs.declared.Header.{Header}
+use Rattle.tape.specs.declared.Header.the-variants.{Record, Bad, Cut}
+use Rattle.tape.specs.Tape.{isMark, isKind, isGood, isLength, ackWritten, writtenBy, answerHead, answerRecord, headerOf, callOf, memoryLeft, answerTo, Answers, badRecord, playBy, play}
+
+-- ---- a header is in its first six bytes
+
+module _ (i : List ℕ) where
+  front : (w at : ℕ) → at + w ≤ 6 → leAt w (take 6 i) at ≡ leAt w i at
+  front w at h = leAt-same w (take 6 i) i at (λ j a b. getD-take 6 i j 0 (omega arith))
+
+  pub header-front : headerOf (take 6 i) ≡ headerOf i
+  unfolding headerOf
+  header-front =
+      let n : length (take 6 i) ≡ min 6 (length i) = length-take 6 i in
+      let e : ltb (length (take 6 i)) 6 ≡ ltb (length i) 6 =
+      elim (decLt (length i) 6) [
+        | yes h ↦ lt-ltb (length (take 6 i)) 6 (omega arith) ∙ sym (lt-ltb (length i) 6 h)
+        | no h ↦ le-ltb (length (take 6 i)) 6 (omega arith) ∙ sym (le-ltb (length i) 6 (omega arith))
+      ] in
+      rw (e, front 1 0 (omega arith), front 1 1 (omega arith), front 1 2 (omega arith), front 1 3 (omega arith), front 2 4 (omega arith))
+
+-- ---- a record's body has at most 640 bytes
+
+taken : (a g : Bool) (k n s : ℕ) {k′ n′ s′ : ℕ} → cond a Cut (cond g (Record k n s) Bad) ≡ Record k′ n′ s′ → (g ≡ true) × (s ≡ s′)
+taken true g k n s e = absurd (let z : _≡_ {A = ℕ} 0 1 = cc in omega arith)
+taken false true k n s e = (refl, cc)
+taken false false k n s e = absurd (let z : _≡_ {A = ℕ} 0 1 = cc in omega arith)
+
+pub body-most : (i : List ℕ) {k n s : ℕ} → headerOf i ≡ Record k n s → s ≤ 640
+unfolding headerOf
+body-most i {k} {n} {s} e =
+    let t : (isGood i ≡ true) × (leAt 2 i 4 ≡ s) = taken (ltb (length i) 6) (isGood i) (leAt 1 i 2) (leAt 1 i 3) (leAt 2 i 4) e in
+    let g : isLength (leAt 1 i 2) (leAt 2 i 4) ≡ true = and-right (isMark i && isKind (leAt 1 i 2)) _ (t .0) in
+    let m : leAt 2 i 4 ≤ 640 = leb-true _ 640 (and-left (leb (leAt 2 i 4) 640) _ g) in
+    omega arith
+
+-- ---- an answer record has at most 30 bytes
+
+numbers-most : (c : Card) (q : Command) → length (commandAck c q) ≤ 3
+unfolding commandAck
+numbers-most c (Command.createCq n) = omega arith
+numbers-most c (Command.destroyCq n) = omega arith
+numbers-most c Command.createPd = omega arith
+numbers-most c (Command.destroyPd n) = omega arith
+numbers-most c (Command.register g) = omega arith
+numbers-most c (Command.deregister n) = omega arith
+numbers-most c (Command.createQp r) = omega arith
+numbers-most c (Command.modifyQp r) = omega arith
+numbers-most c (Command.destroyQp q) = omega arith
+
+picked-most : (b : Bool) {x y most : ℕ} → x ≤ most → y ≤ most → cond b x y ≤ most
+picked-most true p q = p
+picked-most false p q = q
+
+ack-most : (r : Answer) (c : Card) (k : List ℕ) → ackWritten r c k ≤ 24
+ack-most (Done s) c k = let h = numbers-most c (commandOf k) in omega arith
+ack-most (Held x) c k = omega arith
+ack-most (Refused n) c k = picked-most (eqb n 12 || eqb n 15) (omega arith) (omega arith)
+
+written-most : (r : Answer) (c : Card) (k : Call) → writtenBy r c k ≤ 24
+written-most r c (Call.reset n) = omega arith
+written-most r c (Call.control k a) = ack-most r c k
+written-most r c (Call.send q x m) = omega arith
+written-most r c (Call.receive q x) = omega arith
+written-most r c (Call.flush q) = omega arith
+written-most r c (Call.poll n b) = picked-most (isDone r) (omega arith) (omega arith)
+
+pub answer-most : (l : List ℕ) (k : Call) → length (answerTo l k) ≤ 30
+unfolding answerTo answerRecord
+answer-most l k =
+    let o : Result = owed card accepts l k in
+    let n : ℕ = writtenBy (o .answer) (card l) k in
+    let w : n ≤ 24 = written-most (o .answer) (card l) k in
+    let t : length (take n (o .buffer)) ≡ min n (length (o .buffer)) = length-take n (o .buffer) in
+    let e : length (answerTo l k) ≡ 6 + length (take n (o .buffer)) = length-append (answerHead (o .answer) (length (take n (o .buffer)))) (take n (o .buffer)) in
+    omega arith
+
+pub answers-most : {k : Call} {l out : List ℕ} {n : ℕ} {l′ out′ : List ℕ} → Answers k l out n l′ out′ → n ≤ 30
+answers-most {k} {l} a = let h = answer-most l k in let e = a .count in omega arith
+
+-- ---- the output does not depend on the bound on the records, where it is at least the input's length
+
+by-same : (f g : (l m i : List ℕ) → List ℕ) (h : Header) (l m r : List ℕ)
+    → ((l m : List ℕ) (s : ℕ) → f l m (drop s r) ≡ g l m (drop s r)) → playBy f h l m r ≡ playBy g h l m r
+by-same f g (Record k n s) l m r e =
+    let call : Call = callOf k n (take s r) m in
+    ap (λ (x : List ℕ). cond (ltb (length r) s) badRecord (answerTo l call ++ x)) (e (bytesAfter l call) (memoryLeft l m call) s)
+by-same f g Bad l m r e = refl
+by-same f g Cut l m r e = refl
+
+enough : (n n′ : ℕ) (l m i : List ℕ) → length i ≤ n → length i ≤ n′ → play n l m i ≡ play n′ l m i
+unfolding play
+enough zero zero l m i h h′ = refl
+enough zero (suc n′) l m [] h h′ = refl
+enough zero (suc n′) l m (b ∷ i) h h′ = absurd (omega arith)
+enough (suc n) zero l m [] h h′ = refl
+enough (suc n) zero l m (b ∷ i) h h′ = absurd (omega arith)
+enough (suc n) (suc n′) l m [] h h′ = refl
+enough (suc n) (suc n′) l m (b ∷ i) h h′ =
+    by-same (play n) (play n′) (headerOf (b ∷ i)) l m (drop 5 i)
+    (λ l m s. enough n n′ l m (drop s (drop 5 i)) (simp length-drop (omega arith)) (simp length-drop (omega arith)))
+
+-- ---- each turn of the program
+
+abbrev pub played : (l m input : List ℕ) → List ℕ
+played l m i = play (length i) l m i
+
+-- "Clean end adds nothing."
+pub turn-end : (l m : List ℕ) → played l m [] ≡ []
+unfolding play
+turn-end l m = refl
+
+module _ (l m : List ℕ) where
+  pub turn-bad : (i : List ℕ) → headerOf i ≡ Bad → played l m i ≡ badRecord
+  unfolding play headerOf
+  turn-bad [] e = absurd (let z : _≡_ {A = ℕ} 0 1 = cc in omega arith)
+  turn-bad (b ∷ i) e = rw e
+
+  pub turn-cut : (i : List ℕ) → 0 < length i → headerOf i ≡ Cut → played l m i ≡ badRecord
+  unfolding play
+  turn-cut [] h e = absurd (omega arith)
+  turn-cut (b ∷ i) h e = rw e
+
+  pub turn-short : (i : List ℕ) {k n s : ℕ} → headerOf i ≡ Record k n s → length (drop 6 i) < s → played l m i ≡ badRecord
+  unfolding play headerOf
+  turn-short [] e h = absurd (let z : _≡_ {A = ℕ} 0 1 = cc in omega arith)
+  turn-short (b ∷ i) {k} {n} {s} e h = rw (e, lt-ltb (length (drop 5 i)) s h)
+
+  pub turn-record : (i : List ℕ) {k n s : ℕ} → headerOf i ≡ Record k n s → s ≤ length (drop 6 i)
+      → let call = callOf k n (take s (drop 6 i)) m in
+      played l m i ≡ answerTo l call ++ played (bytesAfter l call) (memoryLeft l m call) (drop s (drop 6 i))
+  unfolding play headerOf
+  turn-record [] e h = absurd (let z : _≡_ {A = ℕ} 0 1 = cc in omega arith)
+  turn-record (b ∷ i) {k} {n} {s} e h =
+      let r = drop 5 i in
+      let call : Call = callOf k n (take s r) m in
+      rw (e, le-ltb (length r) s h)
+      (ap (λ (x : List ℕ). answerTo l call ++ x)
+      (enough (length i) (length (drop s r)) (bytesAfter l call) (memoryLeft l m call) (drop s r) (simp length-drop (omega arith)) (omega arith)))
