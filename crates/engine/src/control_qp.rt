@@ -35,6 +35,8 @@ const RC: u8 = 2;
 
 const RTR: u8 = 2;
 
+const NO_DEST: u8 = 8;
+
 fn create_fine(r: CreateQp) -> bool
     ensures { λ x. ⌜ x ≡ createFine r ⌝ }
 {
@@ -52,7 +54,6 @@ fn create_live(state: &[u8], r: CreateQp) -> bool
     pd & scq & rcq
 }
 
-// A new queue pair; dest 8 is no destination.
 fn new_pair(r: CreateQp) -> QueuePair
     ensures { λ p. ⌜ p ≡ newPair (lowPair r) ⌝ }
 {
@@ -63,10 +64,11 @@ fn new_pair(r: CreateQp) -> QueuePair
         scq: (r.scq % 256) as u8,
         rcq: (r.rcq % 256) as u8,
         state: 0,
-        dest: 8,
+        dest: NO_DEST,
     }
 }
 
+// Number n is a new queue pair, on which no receive waits.
 fn put_pair(state: &mut [u8], n: usize, r: CreateQp)
     requires { ⌜ (n < qpCount) × (length (now state) ≡ image) ⌝ }
     ensures { λ _. ⌜ now (state .exit) ≡ putRow qpT (putRow waitingT (now (state .entry)) n noneWait) n (newPair (lowPair r)) ⌝ }
@@ -107,7 +109,8 @@ fn modify_bad(r: ModifyQp) -> bool
     let state = (r.state <= 3) | (r.state == 6);
     let padding = (r.pad0 == 0) & (r.pad1 == 0) & (r.pad2 == 0);
     let ready = r.state == RTR;
-    let dest = (8 <= r.dest) | (r.dest == r.qpn);
+    let number = r.dest as usize;
+    let dest = (QP_COUNT <= number) | (r.dest == r.qpn);
     let fields = unknown | !state_bit | !state | !padding;
     fields | (dest_bit & !ready) | (!dest_bit & ready) | (dest_bit & dest)
 }
@@ -137,7 +140,7 @@ fn moved_pair(p: QueuePair, to: u8, dest: u8) -> QueuePair
     let mut r = p;
     r.state = to;
     if to == 0 {
-        r.dest = 8;
+        r.dest = NO_DEST;
         return r;
     }
     if to == RTR {
