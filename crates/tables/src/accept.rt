@@ -61,10 +61,22 @@ pub fn sum_within(a: u64, b: u64, limit: u64) -> bool
 fn is_status(s: u8) -> bool
     ensures { λ x. ⌜ x ≡ isStatus s ⌝ }
 {
-    match s {
-        0 | 1 | 3 | 4 | 7 | 8 => true,
-        _ => false,
+    if s == 0 {
+        return true;
     }
+    if s == 1 {
+        return true;
+    }
+    if s == 3 {
+        return true;
+    }
+    if s == 4 {
+        return true;
+    }
+    if s == 7 {
+        return true;
+    }
+    s == 8
 }
 
 fn completion_ok(e: Completion) -> bool

@@ -60,7 +60,7 @@ pop-completion-requires c κs =
     let p = c .before .before .before .before .before .before .before .before .before .before .before .before .before .before .before .before .pre in
     let q = c .before .before .before .before .before .before .before .before .before .before .before .load-cq .ensures in
     let e : rowAt cqT (now (a .state)) (a .cqn) .count ≡ 0 → ⊥ = rw q at (c .before .before .before .before .before .before .before .if3 .left) in
-    (c .before .before .before .before .before .before .before .before .before .before .before .before .before .if1 .left, p .1, omega arith)
+    (omega (arith, c .before .before .before .before .before .before .before .before .before .before .before .before .before .if1 .left), p .1, omega arith)
 
 same-length-3 : tie.Need-same-length-3
 same-length-3 c = search needs
