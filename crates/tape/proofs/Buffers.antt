@@ -1,7 +1,7 @@
 -- "lends buffers that never give 12": no call of a tape is answered 12, on any state. Assumes nothing.
 use mathlib.Core.Path.{_≡_, refl, sym}
 use mathlib.Core.Bool.{Bool, true, false, cond, not, true≢false}
-use mathlib.Core.List.{List, [], _∷_, _++_}
+use mathlib.Core.List.{List, _∷_, _++_}
 use mathlib.Core.Option.{some}
 use Prim.Native.Nat.{ℕ}
 use lib.Dec.{eqb}
@@ -13,6 +13,7 @@ use Rattle.tables.specs.Accept.{accepts}
 use Rattle.tables.specs.Card.{Card}
 use Rattle.tables.specs.Image.{card}
 use Rattle.tables.specs.Records.{Command, commandOf, ackLeast, sendChecks, receiveChecks}
+use Rattle.tables.specs.Reset.{zeros}
 use Rattle.rules.specs.Call.{Call}
 use Rattle.rules.specs.Calls.{checks, controlChecks, bufferChecks, owedChecks}
 use Rattle.rules.specs.Control.{commandChecks}
@@ -20,7 +21,7 @@ use Rattle.rules.specs.Queues.{joinChecks, flushChecks, pollChecks}
 use Rattle.rules.specs.Send.{deliveryChecks}
 use Rattle.rules.proofs.Answers.{first-with}
 use Rattle.rules.proofs.Ranges.{all-split}
-use Rattle.tape.specs.Tape.{completionSize, zeros, callOf}
+use Rattle.tape.specs.Tape.{completionSize, callOf}
 
 abbrev other : ℕ → Bool
 other n = not (eqb n 12)

@@ -12,12 +12,12 @@ use Rattle.tables.specs.Accepted.{accepting}
 use Rattle.tables.specs.Card.{fresh}
 use Rattle.tables.specs.Image.{card}
 use Rattle.tables.specs.Records.{commandOf, dataSize, ackLeast}
-use Rattle.tables.specs.Reset.{resetBytes, reset-card, reset-accepted}
+use Rattle.tables.specs.Reset.{zeros, resetBytes, reset-card, reset-accepted}
 use Rattle.rules.specs.Call.{Call}
 use Rattle.rules.specs.Calls.{checks, controlChecks, statusOf, bufferAfter}
 use Rattle.rules.specs.Control.{commandChecks, commandAck}
 use Rattle.tape.specs.declared.Header.the-variants.{Record, Bad, Cut}
-use Rattle.tape.specs.Tape.{headerOf, zeros, answerRecord, answerTo, play, tapeMemory, output}
+use Rattle.tape.specs.Tape.{headerOf, answerRecord, answerTo, play, tapeMemory, output}
 use Rattle.tape.specs.Turns.{turn-record, turn-end}
 
 -- 52 4B 01 00 02 00 06 04

@@ -1,16 +1,16 @@
 -- Document 01, "Replay tape (house)": the records of a tape, the answer to each, and the whole output. Assumes nothing.
 use mathlib.Core.Path.{_≡_}
-use mathlib.Core.Bool.{Bool, cond, not, _&&_, _||_}
+use mathlib.Core.Bool.{Bool, cond, _&&_, _||_}
 use mathlib.Core.List.{List, [], _∷_, _++_}
 use Prim.Native.Nat.{ℕ, zero, suc, _+_, _*_, _/_, _%_}
 use lib.Dec.{eqb, ltb, leb}
-use lib.ListN.{length, take, drop, replicate}
+use lib.ListN.{length, take, drop}
 use Rattle.wire.specs.Le.{leAt}
 use Rattle.tables.specs.Accept.{accepts}
 use Rattle.tables.specs.Card.{Card}
 use Rattle.tables.specs.Image.{card}
 use Rattle.tables.specs.Records.{ackLeast, commandOf}
-use Rattle.tables.specs.Reset.{resetBytes}
+use Rattle.tables.specs.Reset.{zeros, resetBytes}
 use Rattle.rules.specs.Answer.{number, status, isDone}
 use Rattle.rules.specs.Call.{Call}
 use Rattle.rules.specs.Calls.{Result, owed}
@@ -50,9 +50,6 @@ headerOf i = cond (ltb (length i) headerSize) Cut (cond (isGood i) (Record (leAt
 -- a completion's bytes
 abbrev pub completionSize : ℕ
 completionSize = 24
-
-abbrev pub zeros : ℕ → List ℕ
-zeros n = replicate n 0
 
 -- "lends buffers that never give 12"; the number is "ignored for 1"
 abbrev pub callOf : (kind number : ℕ) → (body memory : List ℕ) → Call

@@ -4,9 +4,9 @@ use mathlib.Core.Logic.{⊎-elim, inl, inr}
 use mathlib.Core.Bool.{Bool, true, false, cond, true≢false}
 use mathlib.Core.List.{List, [], _∷_, _++_}
 use mathlib.Core.Option.{Option, none, some}
-use Prim.Native.Nat.{ℕ, _+_, _*_, _≤_, _<_}
+use Prim.Native.Nat.{ℕ, _+_, _*_, _≤_}
 use native.Mathlib.Omega.{arith}
-use lib.Dec.{eqb, ltb}
+use lib.Dec.{eqb}
 use lib.ListN.{length, take, drop, length-append}
 use lib.Seq.{paste, length-take-le, drop-append-add, drop-drop}
 use borrow.Author.Tests.{ltb-false, ne-eqb, eq-eqb}
@@ -21,17 +21,17 @@ use Rattle.tables.specs.declared.ModifyQp.{ModifyQp}
 use Rattle.tables.specs.declared.Registration.{Registration}
 use Rattle.tables.specs.Records.{ackLeast, Command, commandOf, numberCodec, registerCodec, createQpCodec, modifyQpCodec}
 use Rattle.tables.specs.Layout.{image}
-use Rattle.tables.specs.Reset.{resetBytes}
+use Rattle.tables.specs.Reset.{zeros, resetBytes}
 use Rattle.rules.specs.Answer.{answered, isDone}
 use Rattle.rules.specs.Call.{Call}
-use Rattle.rules.specs.Calls.{checks, resetChecks, controlChecks, owed, owedChecks, settled}
+use Rattle.rules.specs.Calls.{checks, resetChecks, controlChecks, owedChecks, settled}
 use Rattle.rules.specs.Control.{commandAck, commandChecks}
 use Rattle.rules.specs.declared.Answer.{Answer}
 use Rattle.rules.proofs.Answers.{answered-not-done}
 use Rattle.rules.proofs.Tests.{passed-before}
 use Rattle.engine.specs.Bytes.{effectBytes}
 use Rattle.engine.specs.Owed.{Owes, bytesAfter}
-use Rattle.tape.specs.Tape.{answerHead, answerRecord, answerTo, writtenBy, placed, Answers, completionSize, zeros, callOf, tapeMemory}
+use Rattle.tape.specs.Tape.{answerHead, answerRecord, answerTo, writtenBy, placed, Answers, completionSize, callOf, tapeMemory}
 
 -- the head, then the first n of the bytes behind it
 module _ (r : Answer) (b : List ℕ) (n : ℕ) (within : n ≤ length b) where

@@ -8,11 +8,11 @@ ghost use lib.ListN.{length, take, drop};
 ghost use Rattle.tables.specs.Card.{Card};
 ghost use Rattle.tables.specs.Layout.{image};
 ghost use Rattle.tables.specs.Records.{ackLeast, commandOf};
-ghost use Rattle.tables.specs.Reset.{resetBytes};
+ghost use Rattle.tables.specs.Reset.{zeros, resetBytes};
 ghost use Rattle.rules.specs.Answer.{isDone};
 ghost use Rattle.rules.specs.Call.{Call};
 ghost use Rattle.rules.specs.Control.{commandAck};
-ghost use Rattle.tape.specs.Tape.{isMark, isKind, isLength, headerOf, ackWritten, answerHead, answerRecord, placed, badRecord, completionSize, zeros, callOf, memoryLeft, Answers, tapeMemory};
+ghost use Rattle.tape.specs.Tape.{isMark, isKind, isLength, headerOf, ackWritten, answerHead, answerRecord, placed, badRecord, completionSize, callOf, memoryLeft, Answers, tapeMemory};
 
 const HEADER: usize = 6;
 
