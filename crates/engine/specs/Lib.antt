@@ -1,11 +1,10 @@
-pub mod Touch
-pub mod Permit
+pub mod Grants
 pub mod Ranges
 pub mod Find
 pub mod Sges
 pub mod Inside
 pub mod Places
 pub mod Moves
-pub mod Bytewise
+pub mod Bridge
 pub mod Bytes
 pub mod Owed
