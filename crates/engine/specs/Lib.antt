@@ -7,4 +7,6 @@ pub mod Places
 pub mod Moves
 pub mod Bridge
 pub mod Bytes
+pub mod SendCard
+pub mod SendLimits
 pub mod Owed
