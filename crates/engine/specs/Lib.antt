@@ -10,3 +10,4 @@ pub mod Bytes
 pub mod SendCard
 pub mod SendLimits
 pub mod Owed
+pub mod SendDone
