@@ -11,3 +11,6 @@ pub mod SendCard
 pub mod SendLimits
 pub mod Owed
 pub mod SendDone
+pub mod Send
+pub mod SendMeet
+pub mod SendSettle

@@ -1,26 +1,26 @@
 -- What the stores of post send mean: the card after each, and that the state stays accepted. Assumes nothing.
 use mathlib.Core.Path.{_≡_, refl, sym, ap, subst, _∙_}
-use mathlib.Core.Bool.{Bool, true, false, cond, not, _&&_, _||_, false≢true}
-use mathlib.Core.List.{List, [], _∷_, _++_, map}
+use mathlib.Core.Bool.{Bool, true, false, cond, not, _&&_, false≢true}
+use mathlib.Core.List.{List, [], _∷_}
 use Prim.Native.Nat.{ℕ, _+_, _<_, _≤_}
 use native.Mathlib.Omega.{arith}
-use lib.Dec.{eqb, ltb, leb}
+use lib.Dec.{eqb, leb}
 use lib.ListN.{length, length-map}
 use borrow.Author.Tests.{eq-eqb, eqb-true, lt-ltb}
 use Rattle.wire.specs.Fields.{Fit, fieldsAt, fieldsAt-fit}
 use Rattle.wire.specs.Ring.{ring-length}
-use Rattle.wire.specs.Scan.{and-left, and-right, both-true}
+use Rattle.wire.specs.Scan.{and-left, and-right}
 use Rattle.wire.specs.Slots.{upd}
-use Rattle.wire.specs.Table.{rowAt, putRow}
-use Rattle.tables.specs.Accept.{cqLive, completionOk, isState, pairOk, qpSound}
-use Rattle.tables.specs.Accepted.{Accepted, Paired, pairing}
+use Rattle.wire.specs.Table.{rowAt}
+use Rattle.tables.specs.Accept.{cqLive, completionOk, isState, pairOk}
+use Rattle.tables.specs.Accepted.{Accepted, pairing}
 use Rattle.tables.specs.Card.{Card, Cq, Qp, Receive, withCq, withQp, tail}
-use Rattle.tables.specs.Image.{card, cqOf, qpOf, liveQp, receiveOf, posted, noCompletion, noRecord, entriesAt, receivesAt}
+use Rattle.tables.specs.Image.{card, cqOf, qpOf, receiveOf, posted, noCompletion, noRecord, entriesAt, receivesAt}
 use Rattle.tables.specs.Kept.{qp-stored}
 use Rattle.tables.specs.Layout.{cqT, entryT, qpT, waitingT}
 use Rattle.tables.specs.Limits.{cqCount, qpCount, mostPlaces, mostWaiting}
 use Rattle.tables.specs.Objects.{cq-is, cq-below, qp-below, qp-live, qp-row}
-use Rattle.tables.specs.Queue.{pushBytes, takeBytes}
+use Rattle.tables.specs.Queue.{pushBytes}
 use Rattle.tables.specs.QueueLaws.{queue-is, push-card, push-accepted}
 use Rattle.tables.specs.Stores.{Fits, card-qp}
 use Rattle.tables.specs.WaitingLaws.{pair-sound, waiting-is, take-card, take-accepted}

@@ -1,9 +1,9 @@
 -- Post send as a whole: the card that its bytes mean, and what it owes its reader after each ending of its tests. Assumes nothing.
 use mathlib.Core.Path.{_≡_, refl, sym, ap, subst, _∙_}
-use mathlib.Core.Bool.{Bool, true, false, cond, not, _&&_, _||_, true≢false}
-use mathlib.Core.List.{List, [], _∷_, _++_}
+use mathlib.Core.Bool.{Bool, true, false, cond, not, _&&_, true≢false}
+use mathlib.Core.List.{List, [], _∷_}
 use mathlib.Core.Option.{Option, none, some, Option·some-ne-none}
-use Prim.Native.Nat.{ℕ, _+_, _*_, _^_, _<_, _≤_}
+use Prim.Native.Nat.{ℕ, _+_, _*_, _^_, _<_}
 use native.Mathlib.Omega.{arith}
 use lib.Dec.{eqb}
 use lib.ListN.{length}
@@ -17,14 +17,12 @@ use Rattle.tables.specs.Accepted.{Accepted, accepted, accepting}
 use Rattle.tables.specs.Card.{Card, Qp, withCq, withQp}
 use Rattle.tables.specs.Image.{card, receiveOf}
 use Rattle.tables.specs.Layout.{receiveT, waitingT}
-use Rattle.tables.specs.Limits.{qpCount, mostWaiting}
+use Rattle.tables.specs.Limits.{mostWaiting}
 use Rattle.tables.specs.Objects.{qp-below}
 use Rattle.tables.specs.Records.{sendCodec, sendChecks, sendRead, sendReadBy}
 use Rattle.tables.specs.Stores.{Fits}
 use Rattle.tables.specs.WaitingLaws.{first-is}
-use Rattle.tables.specs.declared.SendRead.{SendRead}
 use Rattle.tables.specs.declared.SendRead.the-variants as send
-use Rattle.tables.specs.declared.SendRecord.{SendRecord}
 use Rattle.rules.specs.Answer.{answered}
 use Rattle.rules.specs.declared.Answer.{Answer}
 use Rattle.rules.specs.declared.Answer.the-variants.{Done, Refused}

@@ -1,12 +1,12 @@
 -- A post send that passes its tests: what they tell of the two queue pairs, and that each completion which it puts has a place and is
 -- within its limits. Assumes nothing.
-use mathlib.Core.Path.{_≡_, refl, sym, ap, _∙_}
+use mathlib.Core.Path.{_≡_, refl, sym}
 use mathlib.Core.Bool.{Bool, true, false, cond, not, _&&_, _||_, false≢true}
-use mathlib.Core.List.{List, [], _∷_, _++_}
+use mathlib.Core.List.{[], _∷_, _++_}
 use mathlib.Core.Option.{Option, none, some}
 use Prim.Native.Nat.{ℕ, _+_, _^_, _<_, _≤_}
 use native.Mathlib.Omega.{arith}
-use lib.Dec.{eqb, ltb, leb}
+use lib.Dec.{eqb, leb}
 use lib.ListN.{length, length-append}
 use borrow.Author.Tests.{leb-true, lt-ltb}
 use Rattle.wire.specs.Checks.{Passed}
@@ -19,7 +19,7 @@ use Rattle.tables.specs.Limits.{qpCount, mostMessage}
 use Rattle.tables.specs.Stores.{Fits}
 use Rattle.tables.specs.declared.Completion.{Completion}
 use Rattle.rules.specs.Lists.{isEmpty, orElse, names}
-use Rattle.rules.specs.Send.{Put, peerOf, takenBy, canReceive, ready, room, hasPlaces, deliveryChecks, statusBy, sendStatus, consumes, pushed, senderOpcode, receiverOpcode, lengthBy, senderPut, receiverPut, sendPuts, ownUse, farUse}
+use Rattle.rules.specs.Send.{peerOf, takenBy, canReceive, ready, room, hasPlaces, deliveryChecks, statusBy, sendStatus, consumes, pushed, lengthBy, senderPut, receiverPut, sendPuts, ownUse, farUse}
 use Rattle.rules.specs.Permit.{permitsAll}
 use Rattle.rules.specs.Touch.{Request, takes, fills, total, sgeTotal, ownBytes, farBytes}
 use Rattle.engine.specs.SendCard.{Can, CanAll}
@@ -111,7 +111,7 @@ imm-small false n h = omega arith
 
 -- a completion within its limits
 module _ (e : Completion) (wr : e .wr < 2 ^ 64) (status : isStatus (e .status) ≡ true) (small : leb (e .status) 8 ≡ true) (opcode : leb (e .opcode) 4 ≡ true)
-  (size : leb (e .length) mostMessage ≡ true) (imm : e .imm < 2 ^ 32) (owner : e .owner < qpCount) where
+    (size : leb (e .length) mostMessage ≡ true) (imm : e .imm < 2 ^ 32) (owner : e .owner < qpCount) where
   entry-fits : Fits entryT e
   unfolding entryT Fit
   entry-fits =
@@ -138,7 +138,7 @@ or-not true b e f = e
 or-not false b e f = absurd (false≢true f)
 
 module _ (c : Card) (q : ℕ) (r : Request) (g : Going c q (r .opcode)) (own : q < qpCount) (far : peerOf c q < qpCount)
-  (wr : r .wr < 2 ^ 64) (imm : r .imm < 2 ^ 32) (taken : takes (r .opcode) ≡ true → takenBy c q .wr < 2 ^ 64) where
+    (wr : r .wr < 2 ^ 64) (imm : r .imm < 2 ^ 32) (taken : takes (r .opcode) ≡ true → takenBy c q .wr < 2 ^ 64) where
   abbrev s : ℕ
   s = sendStatus c q r
 

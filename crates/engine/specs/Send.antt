@@ -1,0 +1,109 @@
+-- Post send over the state's rows, as the code computes it. Laws that this is what the rules say: SendMeet, SendStatus, SendMove,
+-- SendSettle. Assumes nothing.
+use mathlib.Core.Path.{_≡_}
+use mathlib.Core.Bool.{Bool, true, false, cond, not, _&&_, _||_}
+use mathlib.Core.List.{List, [], _∷_}
+use mathlib.Core.Option.{Option, none, some}
+use Prim.Native.Nat.{ℕ, _+_, _<_, _≤_}
+use lib.Dec.{eqb, leb}
+use lib.ListN.{length}
+use Rattle.wire.specs.Checks.{refusal}
+use Rattle.wire.specs.Table.{rowAt}
+use Rattle.tables.specs.Image.{card}
+use Rattle.tables.specs.Layout.{image, cqT, qpT, waitingT}
+use Rattle.tables.specs.Limits.{cqCount, qpCount, mostPlaces}
+use Rattle.tables.specs.Records.{isSignaled, receiveSges}
+use Rattle.tables.specs.declared.Completion.{Completion}
+use Rattle.tables.specs.declared.QueueHead.{QueueHead}
+use Rattle.tables.specs.declared.QueuePair.{QueuePair}
+use Rattle.tables.specs.declared.ReceiveRecord.{ReceiveRecord}
+use Rattle.tables.specs.declared.SendRecord.{SendRecord}
+use Rattle.rules.specs.Answer.{answered}
+use Rattle.rules.specs.declared.Answer.the-variants.{Held}
+use Rattle.rules.specs.declared.Cause.the-variants.{Peer, Place}
+use Rattle.rules.specs.Send.{Put, deliveryChecks, consumes, senderOpcode, receiverOpcode}
+use Rattle.rules.specs.Touch.{Request, takes, sgeTotal}
+use Rattle.engine.specs.Bytes.{pushAll, errorBytes, consumeBytes}
+use Rattle.engine.specs.declared.send.Ends.{Ends}
+use Rattle.engine.specs.declared.send.Meeting.{Meeting}
+use Rattle.engine.specs.declared.send.Meeting.the-variants.{Pairs, Stopped}
+
+-- ---- steps 1 and 2
+
+-- the queue pair is live, in state 2 or 3, and names q back
+abbrev pub answers : QueuePair → (q : ℕ) → Bool
+answers p q = eqb (p .live) 1 && (eqb (p .state) 2 || eqb (p .state) 3) && eqb (p .dest) q
+
+-- places in the send queue h and, where a receive is taken, in the receive queue k, which may be the same
+abbrev pub placesBy : (h k : QueueHead) → (same : Bool) → (opcode : ℕ) → Bool
+placesBy h k same o = leb (h .count + cond (takes o && same) 2 1) (h .places) && (not (takes o) || leb (k .count + 1) (k .places))
+
+abbrev pub peerMeeting : List ℕ → Ends → (opcode : ℕ) → Meeting
+peerMeeting l e o =
+    cond (takes o && eqb (rowAt waitingT l (e .own .dest) .count) 0) (Stopped (Held Peer))
+    (cond (not (placesBy (rowAt cqT l (e .own .scq)) (rowAt cqT l (e .far .rcq)) (eqb (e .own .scq) (e .far .rcq)) o)) (Stopped (Held Place)) (Pairs e))
+
+-- a request of which only the opcode is told
+abbrev pub bare : (opcode : ℕ) → Request
+bare o = record { wr = 0; opcode = o; signaled = false; inline = false; bytes = []; imm = 0; address = 0; key = 0; sges = [] }
+
+abbrev pub endsAt : List ℕ → (q : ℕ) → Ends
+endsAt l q = record { q = q; own = rowAt qpT l q; far = rowAt qpT l (rowAt qpT l q .dest) }
+
+abbrev pub metBy : Option ℕ → Ends → Meeting
+metBy none e = Pairs e
+metBy (some n) e = Stopped (answered 0 (some n))
+
+-- the tests of the queue pair q and its peer, for the opcode o
+abbrev pub meeting : List ℕ → (q o : ℕ) → Meeting
+meeting l q o = metBy (refusal (deliveryChecks (card l) q (bare o))) (endsAt l q)
+
+-- ---- the stores
+
+-- st is the status, n the number of bytes of the message
+abbrev pub senderEntry : Ends → SendRecord → (st n : ℕ) → Completion
+senderEntry e s st n =
+    record { wr = s .wr; status = st; opcode = senderOpcode (s .opcode); length = cond (eqb st 0) n 0; imm = 0; owner = e .q }
+
+abbrev pub receiverStatus : ReceiveRecord → (st n : ℕ) → ℕ
+receiverStatus w st n = cond (eqb st 0) 0 (cond (leb n (sgeTotal (receiveSges w))) 3 1)
+
+abbrev pub receiverEntry : Ends → SendRecord → ReceiveRecord → (st n : ℕ) → Completion
+receiverEntry e s w st n =
+    record {
+      wr = w .wr;
+      status = receiverStatus w st n;
+      opcode = receiverOpcode (s .opcode);
+      length = cond (eqb st 0) n 0;
+      imm = cond (eqb st 0 && (eqb (s .opcode) 1 || eqb (s .opcode) 3)) (s .imm) 0;
+      owner = e .own .dest;
+    }
+
+abbrev pub putFirst : Ends → SendRecord → (st n : ℕ) → List Put
+putFirst e s st n =
+    cond (not (eqb st 0) || eqb (e .own .signal) 0 || isSignaled s) (record { cqn = e .own .scq; entry = senderEntry e s st n } ∷ []) []
+
+abbrev pub putSecond : Ends → SendRecord → ReceiveRecord → (st n : ℕ) → List Put
+putSecond e s w st n = cond (consumes (s .opcode) st) (record { cqn = e .far .rcq; entry = receiverEntry e s w st n } ∷ []) []
+
+-- the bytes after the completions, after the sender's error, and after all
+abbrev pub putBytes : List ℕ → Ends → SendRecord → ReceiveRecord → (st n : ℕ) → List ℕ
+putBytes l e s w st n = pushAll (pushAll l (putFirst e s st n)) (putSecond e s w st n)
+
+abbrev pub failedBytes : List ℕ → Ends → SendRecord → ReceiveRecord → (st n : ℕ) → List ℕ
+failedBytes l e s w st n = errorBytes (not (eqb st 0)) (putBytes l e s w st n) (e .q)
+
+abbrev pub settled : List ℕ → Ends → SendRecord → ReceiveRecord → (st n : ℕ) → List ℕ
+settled l e s w st n =
+    errorBytes (eqb st 7) (consumeBytes (consumes (s .opcode) st) (failedBytes l e s w st n) (e .own .dest)) (e .own .dest)
+
+-- what the stores ask
+pub record Settling (l : List ℕ) (e : Ends) (s : SendRecord) (w : ReceiveRecord) (st n : ℕ) : Type 0 where
+  pub size : length l ≡ image
+  pub own : e .q < qpCount
+  pub far : e .own .dest < qpCount
+  pub count : w .count ≤ 2
+  pub first : e .own .scq < cqCount
+  pub free : rowAt cqT l (e .own .scq) .count < mostPlaces
+  pub second : consumes (s .opcode) st ≡ true → (e .far .rcq < cqCount) × (rowAt cqT (pushAll l (putFirst e s st n)) (e .far .rcq) .count < mostPlaces)
+  pub waits : consumes (s .opcode) st ≡ true → 0 < rowAt waitingT (failedBytes l e s w st n) (e .own .dest) .count

@@ -1,0 +1,313 @@
+// Post send: document 01, "Posting and delivering". Definitions and laws: specs/Send*.antt.
+use crate::permit;
+use crate::transfer;
+use rules::Answer;
+use rules::Cause;
+use tables::Completion;
+use tables::QueueHead;
+use tables::QueuePair;
+use tables::ReceiveRecord;
+use tables::SendRead;
+use tables::SendRecord;
+use tables::Sge;
+use tables::accept;
+use tables::image;
+use tables::limits::QP_COUNT;
+use tables::queue;
+use tables::records;
+ghost use mathlib.Core.Path.{_≡_};
+ghost use mathlib.Core.Bool.{true, false, cond, not, _&&_, _||_};
+ghost use mathlib.Core.List.{[]};
+ghost use mathlib.Core.Option.{none};
+ghost use Prim.Native.Nat.{_<_, _≤_, _+_};
+ghost use lib.Dec.{eqb, leb};
+ghost use lib.ListN.{length, take};
+ghost use Rattle.wire.specs.Checks.{refusal};
+ghost use Rattle.wire.specs.Table.{rowAt};
+ghost use Rattle.tables.specs.Accept.{accepts};
+ghost use Rattle.tables.specs.Image.{card};
+ghost use Rattle.tables.specs.Layout.{image, memoryT, cqT, waitingT};
+ghost use Rattle.tables.specs.Limits.{cqCount, qpCount, mostMessage, mostPlaces};
+ghost use Rattle.tables.specs.Records.{receiveSges};
+ghost use Rattle.rules.specs.Call.{send};
+ghost use Rattle.rules.specs.Send.{senderOpcode, receiverOpcode, consumes, sendStatus, sendMemory};
+ghost use Rattle.rules.specs.Touch.{takes, fills, sgeTotal, requestOf};
+ghost use Rattle.engine.specs.Bytes.{pushAll, errorBytes, consumeBytes, sendBytes};
+ghost use Rattle.engine.specs.Owed.{Owes};
+ghost use Rattle.engine.specs.SendDone.{Ran};
+ghost use Rattle.engine.specs.Send.{answers, placesBy, peerMeeting, meeting, receiverStatus, putFirst, putSecond, settled, Settling};
+
+// A sender and its peer, whose number is the sender's destination.
+pub struct Ends {
+    pub q: usize,
+    pub own: QueuePair,
+    pub far: QueuePair,
+}
+
+// What the tests of the two queue pairs end with: the pairs, or the answer.
+pub enum Meeting {
+    Pairs(Ends),
+    Stopped(Answer),
+}
+
+// ---- steps 1 and 2
+
+// Opcodes 1 to 3 take a receive of the peer.
+fn takes_receive(opcode: u8) -> bool
+    ensures { λ r. ⌜ r ≡ takes opcode ⌝ }
+{
+    (1 <= opcode) & (opcode <= 3)
+}
+
+// Opcodes 2 and 3 fill it.
+fn fills_receive(opcode: u8) -> bool
+    ensures { λ r. ⌜ r ≡ fills opcode ⌝ }
+{
+    (2 <= opcode) & (opcode <= 3)
+}
+
+// Whether a queue pair is ready and names q back.
+fn answers_to(far: QueuePair, q: usize) -> bool
+    ensures { λ r. ⌜ r ≡ answers far q ⌝ }
+{
+    (far.live == 1) & ((far.state == 2) | (far.state == 3)) & (far.dest as usize == q)
+}
+
+fn has_room(h: QueueHead, n: u32) -> bool
+    requires { ⌜ n ≤ 2 ⌝ }
+    ensures { λ r. ⌜ r ≡ leb (h .count + n) (h .places) ⌝ }
+{
+    h.count as u32 + n <= h.places as u32
+}
+
+fn places_needed(both: bool) -> u32
+    ensures { λ r. ⌜ r ≡ cond both 2 1 ⌝ }
+{
+    if both {
+        return 2;
+    }
+    1
+}
+
+// A place for each completion: in the send queue s, and where a receive is taken in the receive queue r, which may be the same.
+fn has_places(state: &[u8], s: u8, r: u8, opcode: u8) -> bool
+    requires { ⌜ (s < cqCount) × (r < cqCount) × (length (now state) ≡ image) ⌝ }
+    ensures { λ b. ⌜ b ≡ placesBy (rowAt cqT (now (state .entry)) s) (rowAt cqT (now (state .entry)) r) (eqb s r) opcode ⌝ }
+{
+    let first = image::load_cq(state, s as usize);
+    let second = image::load_cq(state, r as usize);
+    let taken = takes_receive(opcode);
+    let n = places_needed(taken & (s == r));
+    let own = has_room(first, n);
+    let far = has_room(second, 1);
+    own & (!taken | far)
+}
+
+// The tests of a peer that is ready: a receive that waits, and places for the completions.
+fn meet_peer(state: &[u8], e: Ends, opcode: u8) -> Meeting
+    requires { ⌜ (e .own .scq < cqCount) × (e .far .rcq < cqCount) × (e .own .dest < qpCount) × (length (now state) ≡ image) ⌝ }
+    ensures { λ r. ⌜ r ≡ peerMeeting (now (state .entry)) e opcode ⌝ }
+{
+    let h = image::load_waiting(state, e.own.dest as usize);
+    if takes_receive(opcode) & (h.count == 0) {
+        return Meeting::Stopped(Answer::Held(Cause::Peer));
+    }
+    if !has_places(state, e.own.scq, e.far.rcq, opcode) {
+        return Meeting::Stopped(Answer::Held(Cause::Place));
+    }
+    Meeting::Pairs(e)
+}
+
+// The tests of the two queue pairs.
+fn meet(state: &[u8], qpn: u32, opcode: u8) -> Meeting
+    requires { ⌜ (accepts (now state) ≡ true) × (length (now state) ≡ image) ⌝ }
+    ensures { λ r. ⌜ r ≡ meeting (now (state .entry)) qpn opcode ⌝ }
+{
+    let q = qpn as usize;
+    if QP_COUNT <= q {
+        return Meeting::Stopped(Answer::Refused(2));
+    }
+    let own = image::load_qp(state, q);
+    if own.live != 1 {
+        return Meeting::Stopped(Answer::Refused(2));
+    }
+    if own.state != 3 {
+        return Meeting::Stopped(Answer::Refused(3));
+    }
+    let d = own.dest as usize;
+    if QP_COUNT <= d {
+        return Meeting::Stopped(Answer::Held(Cause::Peer));
+    }
+    let far = image::load_qp(state, d);
+    if !answers_to(far, q) {
+        return Meeting::Stopped(Answer::Held(Cause::Peer));
+    }
+    let e = Ends { q, own, far };
+    meet_peer(state, e, opcode)
+}
+
+// ---- the stores
+
+fn choose(b: bool, x: u8, y: u8) -> u8
+    ensures { λ r. ⌜ r ≡ cond b x y ⌝ }
+{
+    if b {
+        return x;
+    }
+    y
+}
+
+fn sender_opcode(opcode: u8) -> u8
+    ensures { λ r. ⌜ r ≡ senderOpcode opcode ⌝ }
+{
+    choose(opcode == 4, 2, choose(fills_receive(opcode), 0, 1))
+}
+
+fn receiver_opcode(opcode: u8) -> u8
+    ensures { λ r. ⌜ r ≡ receiverOpcode opcode ⌝ }
+{
+    choose(opcode == 1, 4, 3)
+}
+
+fn kept_if(b: bool, n: u32) -> u32
+    ensures { λ r. ⌜ r ≡ cond b n 0 ⌝ }
+{
+    if b {
+        return n;
+    }
+    0
+}
+
+// A receive's entries; it has at most two.
+fn receive_sges(w: ReceiveRecord) -> [Sge; 4]
+    requires { ⌜ w .count ≤ 2 ⌝ }
+    ensures { λ r. ⌜ take (w .count) r ≡ receiveSges w ⌝ }
+{
+    let none = Sge {
+        address: 0,
+        length: 0,
+        key: 0,
+    };
+    let a = Sge {
+        address: w.address0,
+        length: w.length0,
+        key: w.key0,
+    };
+    let b = Sge {
+        address: w.address1,
+        length: w.length1,
+        key: w.key1,
+    };
+    [a, b, none, none]
+}
+
+// The receiver's status: the message does not fit, or a byte of the receive is not permitted.
+fn receiver_status(st: u8, n: u32, w: ReceiveRecord) -> u8
+    requires { ⌜ w .count ≤ 2 ⌝ }
+    ensures { λ r. ⌜ r ≡ receiverStatus w st n ⌝ }
+{
+    if st == 0 {
+        return 0;
+    }
+    let room = permit::sges_total(receive_sges(w), w.count as usize);
+    if room < n as u64 {
+        return 1;
+    }
+    3
+}
+
+// The sender's completion, where one is put.
+fn put_sender(state: &mut [u8], e: Ends, s: SendRecord, st: u8, n: u32)
+    requires { ⌜ (e .q < qpCount) × (e .own .scq < cqCount) × (length (now state) ≡ image) × (rowAt cqT (now state) (e .own .scq) .count < mostPlaces) ⌝ }
+    ensures { λ _. ⌜ now (state .exit) ≡ pushAll (now (state .entry)) (putFirst e s st n) ⌝ }
+{
+    let silent = (st == 0) & (e.own.signal != 0) & (s.flags & 2 == 0);
+    if silent {
+        return;
+    }
+    let opcode = sender_opcode(s.opcode);
+    let length = kept_if(st == 0, n);
+    let entry = Completion {
+        wr: s.wr,
+        status: st,
+        opcode,
+        length,
+        imm: 0,
+        owner: e.q as u32,
+    };
+    queue::push_completion(state, e.own.scq as usize, entry);
+}
+
+// The receiver's completion, where the receive is consumed.
+fn put_receiver(state: &mut [u8], e: Ends, s: SendRecord, w: ReceiveRecord, st: u8, n: u32)
+    requires { ⌜ (w .count ≤ 2) × (length (now state) ≡ image) ⌝ }
+    requires { ⌜ (consumes (s .opcode) st ≡ true → (e .far .rcq < cqCount) × (rowAt cqT (now state) (e .far .rcq) .count < mostPlaces)) ⌝ }
+    ensures { λ _. ⌜ now (state .exit) ≡ pushAll (now (state .entry)) (putSecond e s w st n) ⌝ }
+{
+    if !is_consumed(s.opcode, st) {
+        return;
+    }
+    let opcode = receiver_opcode(s.opcode);
+    let length = kept_if(st == 0, n);
+    let carries = (st == 0) & ((s.opcode == 1) | (s.opcode == 3));
+    let entry = Completion {
+        wr: w.wr,
+        status: receiver_status(st, n, w),
+        opcode,
+        length,
+        imm: kept_if(carries, s.imm),
+        owner: e.own.dest as u32,
+    };
+    queue::push_completion(state, e.far.rcq as usize, entry);
+}
+
+fn is_consumed(opcode: u8, st: u8) -> bool
+    ensures { λ r. ⌜ r ≡ consumes opcode st ⌝ }
+{
+    takes_receive(opcode) & ((st == 0) | (st == 7))
+}
+
+// Queue pair q goes to error, where b holds.
+fn fail_if(state: &mut [u8], b: bool, q: usize)
+    requires { ⌜ (q < qpCount) × (length (now state) ≡ image) ⌝ }
+    ensures { λ _. ⌜ now (state .exit) ≡ errorBytes b (now (state .entry)) q ⌝ }
+{
+    if !b {
+        return;
+    }
+    let p = image::load_qp(state, q);
+    let failed = QueuePair {
+        live: p.live,
+        pd: p.pd,
+        signal: p.signal,
+        scq: p.scq,
+        rcq: p.rcq,
+        state: 6,
+        dest: p.dest,
+    };
+    image::store_qp(state, q, failed);
+}
+
+// The oldest receive of queue pair q is consumed, where b holds.
+fn consume_if(state: &mut [u8], b: bool, q: usize)
+    requires { ⌜ (q < qpCount) × (length (now state) ≡ image) × (b ≡ true → 0 < rowAt waitingT (now state) q .count) ⌝ }
+    ensures { λ _. ⌜ now (state .exit) ≡ consumeBytes b (now (state .entry)) q ⌝ }
+{
+    if !b {
+        return;
+    }
+    queue::take_receive(state, q);
+}
+
+// What a delivery with a status leaves in the state: its completions, the sender's error, the receive consumed, the peer's error.
+fn settle(state: &mut [u8], e: Ends, s: SendRecord, w: ReceiveRecord, st: u8, n: u32)
+    requires { ⌜ Settling (now state) e s w st n ⌝ }
+    ensures { λ _. ⌜ now (state .exit) ≡ settled (now (state .entry)) e s w st n ⌝ }
+{
+    let d = e.own.dest as usize;
+    put_sender(state, e, s, st, n);
+    put_receiver(state, e, s, w, st, n);
+    fail_if(state, st != 0, e.q);
+    consume_if(state, is_consumed(s.opcode, st), d);
+    fail_if(state, st == 7, d);
+}
