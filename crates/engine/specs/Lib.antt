@@ -14,3 +14,4 @@ pub mod SendDone
 pub mod Send
 pub mod SendMeet
 pub mod SendSettle
+pub mod SendMove

@@ -4,25 +4,31 @@ use mathlib.Core.Path.{_≡_}
 use mathlib.Core.Bool.{Bool, true, false, cond, not, _&&_, _||_}
 use mathlib.Core.List.{List, [], _∷_}
 use mathlib.Core.Option.{Option, none, some}
-use Prim.Native.Nat.{ℕ, _+_, _<_, _≤_}
+use Prim.Native.Nat.{ℕ, _+_, _%_, _<_, _≤_}
 use lib.Dec.{eqb, leb}
-use lib.ListN.{length}
+use lib.ListN.{length, take, drop}
 use Rattle.wire.specs.Checks.{refusal}
 use Rattle.wire.specs.Table.{rowAt}
+use Rattle.tables.specs.Card.{Card}
 use Rattle.tables.specs.Image.{card}
 use Rattle.tables.specs.Layout.{image, cqT, qpT, waitingT}
-use Rattle.tables.specs.Limits.{cqCount, qpCount, mostPlaces}
-use Rattle.tables.specs.Records.{isSignaled, receiveSges}
+use Rattle.tables.specs.Limits.{cqCount, qpCount, mostPlaces, mostMessage, mostInline}
+use Rattle.tables.specs.Records.{isSignaled, isInline, receiveSges}
 use Rattle.tables.specs.declared.Completion.{Completion}
 use Rattle.tables.specs.declared.QueueHead.{QueueHead}
 use Rattle.tables.specs.declared.QueuePair.{QueuePair}
 use Rattle.tables.specs.declared.ReceiveRecord.{ReceiveRecord}
 use Rattle.tables.specs.declared.SendRecord.{SendRecord}
+use Rattle.tables.specs.declared.Sge.{Sge}
 use Rattle.rules.specs.Answer.{answered}
 use Rattle.rules.specs.declared.Answer.the-variants.{Held}
 use Rattle.rules.specs.declared.Cause.the-variants.{Peer, Place}
 use Rattle.rules.specs.Send.{Put, deliveryChecks, consumes, senderOpcode, receiverOpcode}
-use Rattle.rules.specs.Touch.{Request, takes, sgeTotal}
+use Rattle.rules.specs.Touch.{Request, Byte, takes, fills, reads, sgeBytes, sgeTotal}
+use Rattle.rules.specs.Lists.{stored}
+use Rattle.rules.proofs.Runs.{cut}
+use Rattle.engine.specs.Grants.{mappedAll, places}
+use Rattle.engine.specs.Places.{moved}
 use Rattle.engine.specs.Bytes.{pushAll, errorBytes, consumeBytes}
 use Rattle.engine.specs.declared.send.Ends.{Ends}
 use Rattle.engine.specs.declared.send.Meeting.{Meeting}
@@ -107,3 +113,41 @@ pub record Settling (l : List ℕ) (e : Ends) (s : SendRecord) (w : ReceiveRecor
   pub free : rowAt cqT l (e .own .scq) .count < mostPlaces
   pub second : consumes (s .opcode) st ≡ true → (e .far .rcq < cqCount) × (rowAt cqT (pushAll l (putFirst e s st n)) (e .far .rcq) .count < mostPlaces)
   pub waits : consumes (s .opcode) st ≡ true → 0 < rowAt waitingT (failedBytes l e s w st n) (e .own .dest) .count
+
+-- ---- steps 3 to 6
+
+-- "Total (the inline length, or the pieces' sum)"; sges are the entries of the record, of which it has count
+abbrev pub totalBy : SendRecord → List Sge → ℕ
+totalBy s sges = cond (isInline s) (s .count % 65536) (sgeTotal (take (s .count) sges))
+
+-- the sender's side
+abbrev pub ownBy : SendRecord → List Sge → List Byte
+ownBy s sges = cond (isInline s) [] (sgeBytes (take (s .count) sges))
+
+-- the peer's side of a message of n bytes, as entries
+abbrev pub farList : SendRecord → ReceiveRecord → (n : ℕ) → List Sge
+farList s w n = cond (fills (s .opcode)) (cut n (receiveSges w)) (record { address = s .address; length = n; key = s .key } ∷ [])
+
+abbrev pub farCount : (opcode : ℕ) → ReceiveRecord → ℕ
+farCount o w = cond (fills o) (w .count) 1
+
+-- the access bits of the uses
+abbrev pub ownMask : (opcode : ℕ) → ℕ
+ownMask o = cond (reads o) 1 0
+
+abbrev pub farMask : (opcode : ℕ) → ℕ
+farMask o = cond (fills o) 1 (cond (reads o) 4 2)
+
+-- what the move asks: both sides lie in live regions and have n bytes
+pub record Carries (c : Card) (s : SendRecord) (x : List ℕ) (own far : List Sge) (n : ℕ) : Type 0 where
+  pub most : n ≤ mostMessage
+  pub target : mappedAll c (sgeBytes far) ≡ true
+  pub total : sgeTotal far ≡ n
+  pub plain : isInline s ≡ false → (mappedAll c (sgeBytes own) ≡ true) × (sgeTotal own ≡ n)
+  pub short : isInline s ≡ true → (n ≤ mostInline) × (length (take n (drop 48 x)) ≡ n)
+
+-- the memory m after the move; x is the send record
+abbrev pub carried : Card → SendRecord → (x : List ℕ) → (own far : List Sge) → (n : ℕ) → (m : List ℕ) → List ℕ
+carried c s x own far n m =
+    cond (isInline s) (stored m (places c far) (take n (drop 48 x)))
+    (cond (reads (s .opcode)) (moved m (places c far) (places c own)) (moved m (places c own) (places c far)))

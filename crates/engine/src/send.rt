@@ -28,14 +28,18 @@ ghost use Rattle.tables.specs.Accept.{accepts};
 ghost use Rattle.tables.specs.Image.{card};
 ghost use Rattle.tables.specs.Layout.{image, memoryT, cqT, waitingT};
 ghost use Rattle.tables.specs.Limits.{cqCount, qpCount, mostMessage, mostPlaces};
-ghost use Rattle.tables.specs.Records.{receiveSges};
+ghost use Rattle.tables.specs.Records.{isInline, receiveSges};
 ghost use Rattle.rules.specs.Call.{send};
 ghost use Rattle.rules.specs.Send.{senderOpcode, receiverOpcode, consumes, sendStatus, sendMemory};
 ghost use Rattle.rules.specs.Touch.{takes, fills, sgeTotal, requestOf};
 ghost use Rattle.engine.specs.Bytes.{pushAll, errorBytes, consumeBytes, sendBytes};
 ghost use Rattle.engine.specs.Owed.{Owes};
 ghost use Rattle.engine.specs.SendDone.{Ran};
-ghost use Rattle.engine.specs.Send.{answers, placesBy, peerMeeting, meeting, receiverStatus, putFirst, putSecond, settled, Settling};
+ghost use Rattle.engine.specs.Grants.{allowsAll};
+ghost use Rattle.engine.specs.Places.{Ready};
+ghost use Rattle.engine.specs.Send.{totalBy, ownMask, ownBy, farCount, farList, farMask, Carries, carried, answers, placesBy, peerMeeting, meeting, receiverStatus, putFirst, putSecond, settled, Settling};
+
+const INLINE_FLAG: u8 = 8;
 
 // A sender and its peer, whose number is the sender's destination.
 pub struct Ends {
@@ -310,4 +314,111 @@ fn settle(state: &mut [u8], e: Ends, s: SendRecord, w: ReceiveRecord, st: u8, n:
     fail_if(state, st != 0, e.q);
     consume_if(state, is_consumed(s.opcode, st), d);
     fail_if(state, st == 7, d);
+}
+
+// ---- steps 3 to 6
+
+fn is_inline(s: SendRecord) -> bool
+    ensures { λ r. ⌜ r ≡ isInline s ⌝ }
+{
+    s.flags & INLINE_FLAG != 0
+}
+
+// The number of bytes of the message.
+fn total_of(s: SendRecord, sges: [Sge; 4]) -> u64
+    requires { ⌜ (isInline s ≡ false → s .count ≤ 4) ⌝ }
+    ensures { λ r. ⌜ r ≡ totalBy s sges ⌝ }
+{
+    if is_inline(s) {
+        return (s.count % 65536) as u64;
+    }
+    permit::sges_total(sges, s.count as usize)
+}
+
+// Step 4: whether each byte of the sender's own entries is permitted.
+fn own_permitted(state: &[u8], pd: u8, s: SendRecord, sges: [Sge; 4]) -> bool
+    requires { ⌜ (length (now state) ≡ image) × (isInline s ≡ false → s .count ≤ 4) ⌝ }
+    ensures { λ r. ⌜ r ≡ allowsAll (card (now (state .entry))) pd (ownMask (s .opcode)) (ownBy s sges) ⌝ }
+{
+    if is_inline(s) {
+        return true;
+    }
+    let mask = choose(s.opcode == 4, 1, 0);
+    permit::sges_permitted(state, pd, mask, sges, s.count as usize)
+}
+
+// Whether a message of n bytes fits the receive that it fills.
+fn fits_receive(opcode: u8, w: ReceiveRecord, n: u32) -> bool
+    requires { ⌜ w .count ≤ 2 ⌝ }
+    ensures { λ r. ⌜ r ≡ (not (fills opcode) || leb n (sgeTotal (receiveSges w))) ⌝ }
+{
+    if !fills_receive(opcode) {
+        return true;
+    }
+    let room = permit::sges_total(receive_sges(w), w.count as usize);
+    n as u64 <= room
+}
+
+// The peer's side of a message of n bytes: the first n of the receive's, or the remote range.
+fn far_sges(s: SendRecord, w: ReceiveRecord, n: u32) -> [Sge; 4]
+    requires { ⌜ w .count ≤ 2 ⌝ }
+    ensures { λ r. ⌜ take (farCount (s .opcode) w) r ≡ farList s w n ⌝ }
+{
+    if fills_receive(s.opcode) {
+        return permit::cut_to(receive_sges(w), w.count as usize, n);
+    }
+    let none = Sge {
+        address: 0,
+        length: 0,
+        key: 0,
+    };
+    let range = Sge {
+        address: s.address,
+        length: n,
+        key: s.key,
+    };
+    [range, none, none, none]
+}
+
+fn far_count(opcode: u8, w: ReceiveRecord) -> usize
+    ensures { λ r. ⌜ r ≡ farCount opcode w ⌝ }
+{
+    if fills_receive(opcode) {
+        return w.count as usize;
+    }
+    1
+}
+
+fn far_mask(opcode: u8) -> u8
+    ensures { λ r. ⌜ r ≡ farMask opcode ⌝ }
+{
+    choose(fills_receive(opcode), 1, choose(opcode == 4, 4, 2))
+}
+
+// Step 6: moves the message, inline bytes or those of entries, to the peer's side or, for a read, back.
+fn move_bytes(
+    state: &[u8],
+    memory: &mut [u8],
+    s: SendRecord,
+    sent: &[u8],
+    sges: [Sge; 4],
+    far: [Sge; 4],
+    count: usize,
+    n: u32,
+)
+    requires { ⌜ Ready (now state) (now memory) ⌝ }
+    requires { ⌜ (count ≤ 4) × (isInline s ≡ false → s .count ≤ 4) × Carries (card (now state)) s (now sent) (take (s .count) sges) (take count far) n ⌝ }
+    ensures { λ _. ⌜ now (memory .exit) ≡ carried (card (now (state .entry))) s (now (sent .entry)) (take (s .count) sges) (take count far) n (now (memory .entry)) ⌝ }
+{
+    if is_inline(s) {
+        let bytes = records::inline_bytes(sent, n as usize);
+        transfer::scatter_inline(state, memory, bytes, far, count);
+        return;
+    }
+    let own = s.count as usize;
+    if s.opcode == 4 {
+        transfer::transfer(state, memory, far, count, sges, own);
+        return;
+    }
+    transfer::transfer(state, memory, sges, own, far, count);
 }
