@@ -15,3 +15,8 @@ pub mod Send
 pub mod SendMeet
 pub mod SendSettle
 pub mod SendMove
+pub mod SendStatus
+pub mod SendRequest
+pub mod SendWhole
+pub mod SendEnd
+pub mod Exported

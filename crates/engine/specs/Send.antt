@@ -4,16 +4,16 @@ use mathlib.Core.Path.{_≡_}
 use mathlib.Core.Bool.{Bool, true, false, cond, not, _&&_, _||_}
 use mathlib.Core.List.{List, [], _∷_}
 use mathlib.Core.Option.{Option, none, some}
-use Prim.Native.Nat.{ℕ, _+_, _%_, _<_, _≤_}
+use Prim.Native.Nat.{ℕ, _+_, _*_, _%_, _<_, _≤_}
 use lib.Dec.{eqb, leb}
 use lib.ListN.{length, take, drop}
 use Rattle.wire.specs.Checks.{refusal}
 use Rattle.wire.specs.Table.{rowAt}
 use Rattle.tables.specs.Card.{Card}
-use Rattle.tables.specs.Image.{card}
-use Rattle.tables.specs.Layout.{image, cqT, qpT, waitingT}
-use Rattle.tables.specs.Limits.{cqCount, qpCount, mostPlaces, mostMessage, mostInline}
-use Rattle.tables.specs.Records.{isSignaled, isInline, receiveSges}
+use Rattle.tables.specs.Image.{card, noRecord}
+use Rattle.tables.specs.Layout.{image, cqT, qpT, waitingT, receiveT}
+use Rattle.tables.specs.Limits.{cqCount, qpCount, mostPlaces, mostWaiting, mostMessage, mostInline}
+use Rattle.tables.specs.Records.{isSignaled, isInline, receiveSges, sendCodec, sendChecks}
 use Rattle.tables.specs.declared.Completion.{Completion}
 use Rattle.tables.specs.declared.QueueHead.{QueueHead}
 use Rattle.tables.specs.declared.QueuePair.{QueuePair}
@@ -23,13 +23,13 @@ use Rattle.tables.specs.declared.Sge.{Sge}
 use Rattle.rules.specs.Answer.{answered}
 use Rattle.rules.specs.declared.Answer.the-variants.{Held}
 use Rattle.rules.specs.declared.Cause.the-variants.{Peer, Place}
-use Rattle.rules.specs.Send.{Put, deliveryChecks, consumes, senderOpcode, receiverOpcode}
+use Rattle.rules.specs.Send.{Put, deliveryChecks, statusBy, sendStatus, sendMemory, consumes, senderOpcode, receiverOpcode}
 use Rattle.rules.specs.Touch.{Request, Byte, takes, fills, reads, sgeBytes, sgeTotal}
 use Rattle.rules.specs.Lists.{stored}
 use Rattle.rules.proofs.Runs.{cut}
-use Rattle.engine.specs.Grants.{mappedAll, places}
+use Rattle.engine.specs.Grants.{allowsAll, mappedAll, places}
 use Rattle.engine.specs.Places.{moved}
-use Rattle.engine.specs.Bytes.{pushAll, errorBytes, consumeBytes}
+use Rattle.engine.specs.Bytes.{pushAll, errorBytes, consumeBytes, sendBytes}
 use Rattle.engine.specs.declared.send.Ends.{Ends}
 use Rattle.engine.specs.declared.send.Meeting.{Meeting}
 use Rattle.engine.specs.declared.send.Meeting.the-variants.{Pairs, Stopped}
@@ -151,3 +151,43 @@ abbrev pub carried : Card → SendRecord → (x : List ℕ) → (own far : List 
 carried c s x own far n m =
     cond (isInline s) (stored m (places c far) (take n (drop 48 x)))
     (cond (reads (s .opcode)) (moved m (places c far) (places c own)) (moved m (places c own) (places c far)))
+
+-- what steps 4 to 6 ask of a message of n bytes
+pub record Sending (s : SendRecord) (x : List ℕ) (sges : List Sge) (n : ℕ) : Type 0 where
+  pub plain : isInline s ≡ false → s .count ≤ 4
+  pub total : totalBy s sges ≡ n
+  pub most : n ≤ mostMessage
+  pub short : isInline s ≡ true → (n ≤ mostInline) × (length (take n (drop 48 x)) ≡ n)
+
+-- the status of a message of n bytes that is not too long
+abbrev pub statusIn : List ℕ → Ends → SendRecord → List Sge → ReceiveRecord → (n : ℕ) → ℕ
+statusIn l e s sges w n =
+    statusBy (fills (s .opcode)) true (allowsAll (card l) (e .own .pd) (ownMask (s .opcode)) (ownBy s sges)) (leb n (sgeTotal (receiveSges w)))
+    (allowsAll (card l) (e .far .pd) (farMask (s .opcode)) (sgeBytes (farList s w n)))
+
+-- steps 4 to 6 give the status st and leave the memory m′
+pub record Delivery (l m : List ℕ) (e : Ends) (s : SendRecord) (x : List ℕ) (sges : List Sge) (w : ReceiveRecord) (n st : ℕ) (m′ : List ℕ) : Type 0 where
+  pub status : st ≡ statusIn l e s sges w n
+  pub memory : m′ ≡ cond (eqb st 0) (carried (card l) s x (take (s .count) sges) (farList s w n) n m) m
+
+-- ---- the whole
+
+-- the receive that a request of opcode o takes from queue pair d
+abbrev pub takenRow : List ℕ → (d o : ℕ) → ReceiveRecord
+takenRow l d o = cond (takes o) (rowAt receiveT l (mostWaiting * d + rowAt waitingT l d .first)) noRecord
+
+-- s begins the send record x, which passes its own tests
+pub record Posted (x : List ℕ) (s : SendRecord) : Type 0 where
+  pub head : s ≡ sendCodec .read x 0
+  pub good : refusal (sendChecks x) ≡ none
+
+-- the pairs e passed the tests for the opcode o
+pub record Met (l : List ℕ) (e : Ends) (o : ℕ) : Type 0 where
+  pub rows : e ≡ endsAt l (e .q)
+  pub good : refusal (deliveryChecks (card l) (e .q) (bare o)) ≡ none
+
+-- the request r on the queue pair q, which passed its tests, has the status st and leaves the state l′ and the memory m′
+pub record Carried (l : List ℕ) (q : ℕ) (r : Request) (m : List ℕ) (st : ℕ) (l′ m′ : List ℕ) : Type 0 where
+  pub status : st ≡ sendStatus (card l) q r
+  pub bytes : l′ ≡ sendBytes l q r
+  pub memory : m′ ≡ sendMemory (card l) q r m

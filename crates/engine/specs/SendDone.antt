@@ -35,8 +35,8 @@ use Rattle.rules.proofs.Meeting.{refused-meets, done-meets}
 use Rattle.rules.proofs.Tests.{firstOf, refusal-append}
 use Rattle.engine.specs.Bytes.{pushAll, errorBytes, consumeBytes, sendBytes, effectBytes}
 use Rattle.engine.specs.Owed.{Owes}
-use Rattle.engine.specs.SendCard.{Stands, push-all, row-live, some-wait, error-stands, consume-stands, error-keeps, consume-keeps}
-use Rattle.engine.specs.SendLimits.{Going, going, can-all}
+use Rattle.engine.specs.SendCard.{Stands, CanAll, Open, opened, push-all, row-live, some-wait, error-stands, consume-stands, error-keeps, consume-keeps}
+use Rattle.engine.specs.SendLimits.{Going, going, sender-can, can-all}
 
 -- ---- the card
 
@@ -44,7 +44,7 @@ receive-fits : (l : List ℕ) (n : ℕ) → Fits receiveT (rowAt receiveT l n)
 unfolding rowAt receiveT fieldsAt
 receive-fits l n = fieldsAt-fit _ l _
 
-send-fits : (x : List ℕ) → sendCodec .Fits (sendCodec .read x 0)
+pub send-fits : (x : List ℕ) → sendCodec .Fits (sendCodec .read x 0)
 unfolding sendCodec fieldsAt
 send-fits x = fieldsAt-fit _ x 0
 
@@ -75,8 +75,15 @@ module _ (l : List ℕ) (ok : Accepted l) (q : ℕ) (r : Request) (wr : r .wr < 
   abbrev c1 : Card
   c1 = withCq c (putAll (sendPuts c q r s) (c .cq))
 
+  pub can-put : CanAll c (sendPuts c q r s)
+  can-put = can-all c q r g (qp-below l q (g .live)) (qp-below l d (g .peer)) wr imm taken
+
+  -- the send queue has a place, whether a completion is put or not
+  pub send-open : Open l (c .qp q .scq)
+  send-open = opened l ok (c .qp q .scq) (sender-can c q r g (qp-below l q (g .live)) (qp-below l d (g .peer)) wr imm taken .room)
+
   s1 : Stands l1 c1
-  s1 = push-all (sendPuts c q r s) l ok (can-all c q r g (qp-below l q (g .live)) (qp-below l d (g .peer)) wr imm taken)
+  s1 = push-all (sendPuts c q r s) l ok can-put
 
   abbrev f2 : ℕ → Qp
   f2 = errorIf (not (eqb s 0)) q (c .qp)
@@ -106,6 +113,11 @@ module _ (l : List ℕ) (ok : Accepted l) (q : ℕ) (r : Request) (wr : r .wr < 
       let z = consume-stands l2 (s2 .ok) d (ap (λ (k : Card). k .qp d .live) (s2 .is) ∙ f2-live) (consumes (r .opcode) s)
       (λ t. ap (λ (k : Card). isEmpty (k .qp d .waiting)) (s2 .is) ∙ f2-some t) in
       record { is = z .is ∙ rw (s2 .is); ok = z .ok }
+
+  -- a receive that is to be consumed still waits after the completions and the sender's error
+  pub waits-then : consumes (r .opcode) s ≡ true → 0 < rowAt waitingT l2 d .count
+  waits-then t =
+      some-wait l2 (s2 .ok) d (ap (λ (k : Card). k .qp d .live) (s2 .is) ∙ f2-live) (ap (λ (k : Card). isEmpty (k .qp d .waiting)) (s2 .is) ∙ f2-some t)
 
   pub send-stands : Stands (sendBytes l q r) (sendEffect c q r)
   unfolding sendBytes sendEffect sendQps

@@ -180,7 +180,7 @@ module _ (c : Card) (q : ℕ) (r : Request) (g : Going c q (r .opcode)) (own : q
       leb-true (length (c .cq rq .entries) + 1) (c .cq rq .places)
       (or-not (takes (r .opcode)) (room (c .cq rq) 1) (and-right (room (c .cq sq) (cond both 2 1)) (not (takes (r .opcode)) || room (c .cq rq) 1) (g .places)) t)
 
-  sender-can : Can c (senderPut c q r s)
+  pub sender-can : Can c (senderPut c q r s)
   sender-can =
       let e : Completion = senderPut c q r s .entry in
       let o = sender-opcode (eqb (r .opcode) 4) (fills (r .opcode)) in

@@ -1,15 +1,13 @@
 -- The message of a post send that succeeds: what the move asks, and that it leaves the memory that the rules say. Assumes nothing.
-use mathlib.Core.Path.{_≡_, refl, sym, ap, ap₂, _∙_}
-use mathlib.Core.Bool.{Bool, true, false, cond}
-use mathlib.Core.List.{List, [], _∷_, map}
-use Prim.Native.Nat.{ℕ, _+_, _≤_}
+use mathlib.Core.Path.{_≡_}
+use mathlib.Core.Bool.{false}
+use mathlib.Core.List.{List}
+use Prim.Native.Nat.{ℕ}
 use native.Mathlib.Omega.{arith}
-use lib.ListN.{length, take, drop}
 use Rattle.tables.specs.Card.{Card}
 use Rattle.tables.specs.declared.SendRecord.{SendRecord}
 use Rattle.tables.specs.declared.Sge.{Sge}
 use Rattle.tables.specs.Records.{isInline}
-use Rattle.rules.specs.Touch.{sgeTotal}
 use Rattle.engine.specs.Moves.{Message}
 use Rattle.engine.specs.Send.{Carries}
 

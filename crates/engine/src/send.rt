@@ -12,6 +12,7 @@ use tables::SendRecord;
 use tables::Sge;
 use tables::accept;
 use tables::image;
+use tables::limits::MOST_MESSAGE;
 use tables::limits::QP_COUNT;
 use tables::queue;
 use tables::records;
@@ -27,9 +28,9 @@ ghost use Rattle.wire.specs.Table.{rowAt};
 ghost use Rattle.tables.specs.Accept.{accepts};
 ghost use Rattle.tables.specs.Image.{card};
 ghost use Rattle.tables.specs.Layout.{image, memoryT, cqT, waitingT};
-ghost use Rattle.tables.specs.Limits.{cqCount, qpCount, mostMessage, mostPlaces};
+ghost use Rattle.tables.specs.Limits.{cqCount, qpCount, mostMessage, mostPlaces, mostWaiting};
 ghost use Rattle.tables.specs.Records.{isInline, receiveSges};
-ghost use Rattle.rules.specs.Call.{send};
+ghost use Rattle.rules.specs.Call.{Call};
 ghost use Rattle.rules.specs.Send.{senderOpcode, receiverOpcode, consumes, sendStatus, sendMemory};
 ghost use Rattle.rules.specs.Touch.{takes, fills, sgeTotal, requestOf};
 ghost use Rattle.engine.specs.Bytes.{pushAll, errorBytes, consumeBytes, sendBytes};
@@ -37,7 +38,7 @@ ghost use Rattle.engine.specs.Owed.{Owes};
 ghost use Rattle.engine.specs.SendDone.{Ran};
 ghost use Rattle.engine.specs.Grants.{allowsAll};
 ghost use Rattle.engine.specs.Places.{Ready};
-ghost use Rattle.engine.specs.Send.{totalBy, ownMask, ownBy, farCount, farList, farMask, Carries, carried, answers, placesBy, peerMeeting, meeting, receiverStatus, putFirst, putSecond, settled, Settling};
+ghost use Rattle.engine.specs.Send.{takenRow, Sending, Delivery, Posted, Met, Carried, totalBy, ownMask, ownBy, farCount, farList, farMask, Carries, carried, answers, placesBy, peerMeeting, meeting, receiverStatus, putFirst, putSecond, settled, Settling};
 
 const INLINE_FLAG: u8 = 8;
 
@@ -421,4 +422,105 @@ fn move_bytes(
         return;
     }
     transfer::transfer(state, memory, sges, own, far, count);
+}
+
+// The receive that a request takes; nothing where it takes none.
+fn taken_receive(state: &[u8], d: usize, opcode: u8) -> ReceiveRecord
+    requires { ⌜ (d < qpCount) × (length (now state) ≡ image) × (rowAt waitingT (now state) d .first < mostWaiting) ⌝ }
+    ensures { λ r. ⌜ r ≡ takenRow (now (state .entry)) d opcode ⌝ }
+{
+    if takes_receive(opcode) {
+        return queue::oldest_receive(state, d);
+    }
+    ReceiveRecord {
+        wr: 0,
+        count: 0,
+        address0: 0,
+        length0: 0,
+        key0: 0,
+        address1: 0,
+        length1: 0,
+        key1: 0,
+    }
+}
+
+// Steps 4 to 6 of a message of n bytes: the status, and on success the message moved.
+fn deliver(
+    state: &[u8],
+    memory: &mut [u8],
+    e: Ends,
+    s: SendRecord,
+    sent: &[u8],
+    sges: [Sge; 4],
+    w: ReceiveRecord,
+    n: u32,
+) -> u8
+    requires { ⌜ Ready (now state) (now memory) ⌝ }
+    requires { ⌜ (w .count ≤ 2) × Sending s (now sent) sges n ⌝ }
+    ensures { λ r. ⌜ Delivery (now (state .entry)) (now (memory .entry)) e s (now (sent .entry)) sges w n r (now (memory .exit)) ⌝ }
+{
+    if !own_permitted(state, e.own.pd, s, sges) {
+        return 3;
+    }
+    if !fits_receive(s.opcode, w, n) {
+        return 7;
+    }
+    let far = far_sges(s, w, n);
+    let count = far_count(s.opcode, w);
+    let mask = far_mask(s.opcode);
+    if !permit::sges_permitted(state, e.far.pd, mask, far, count) {
+        return choose(fills_receive(s.opcode), 7, 8);
+    }
+    move_bytes(state, memory, s, sent, sges, far, count, n);
+    0
+}
+
+// Steps 3 to 6 for two queue pairs that passed the tests: the status, and all that the request leaves.
+fn carry_out(state: &mut [u8], memory: &mut [u8], e: Ends, s: SendRecord, sent: &[u8]) -> u8
+    requires { ⌜ Ready (now state) (now memory) ⌝ }
+    requires { ⌜ Posted (now sent) s × Met (now state) e (s .opcode) ⌝ }
+    ensures { λ r. ⌜ Carried (now (state .entry)) (e .q) (requestOf (now (sent .entry))) (now (memory .entry)) r (now (state .exit)) (now (memory .exit)) ⌝ }
+{
+    let sges = records::send_sges(sent);
+    let total = total_of(s, sges);
+    let w = taken_receive(state, e.own.dest as usize, s.opcode);
+    if (MOST_MESSAGE as u64) < total {
+        settle(state, e, s, w, 1, 0);
+        return 1;
+    }
+    let n = total as u32;
+    let st = deliver(state, memory, e, s, sent, sges, w, n);
+    settle(state, e, s, w, st, n);
+    st
+}
+
+// The tests after the lent bytes', and the request carried out.
+fn send_checked(state: &mut [u8], memory: &mut [u8], qpn: u32, s: SendRecord, sent: &[u8]) -> Answer
+    requires { ⌜ Ready (now state) (now memory) ⌝ }
+    requires { ⌜ Posted (now sent) s ⌝ }
+    ensures { λ r. ⌜ Ran (now (state .entry)) qpn (requestOf (now (sent .entry))) (now (memory .entry)) r (now (state .exit)) (now (memory .exit)) ⌝ }
+{
+    match meet(state, qpn, s.opcode) {
+        Meeting::Pairs(e) => {
+            let st = carry_out(state, memory, e, s, sent);
+            Answer::Done(st)
+        }
+        Meeting::Stopped(a) => a,
+    }
+}
+
+// Post send: the state's and the memory's tests, the record's, and then the request.
+pub fn post_send(state: &mut [u8], memory: &mut [u8], qpn: u32, sent: &[u8]) -> Answer
+    ensures { λ r. ⌜ Owes (now (state .entry)) (Call.send qpn (now (sent .entry)) (now (memory .entry))) r (now (state .exit)) (now (memory .exit)) [] ⌝ }
+{
+    if !accept::accepted(state) {
+        return Answer::Refused(15);
+    }
+    if memory.len() as u64 != image::load_memory(state) {
+        return Answer::Refused(7);
+    }
+    match records::read_send(sent) {
+        SendRead::Record(s) => send_checked(state, memory, qpn, s, sent),
+        SendRead::Refused(n) => Answer::Refused(n),
+    }
 }

@@ -1,12 +1,9 @@
-use mathlib.Core.Path.{_≡_, refl, sym, ap, _∙_}
-use mathlib.Core.Bool.{Bool, true, false}
+use mathlib.Core.Path.{_≡_, sym, _∙_}
+use mathlib.Core.Bool.{true, false}
 use Rattle.rules.specs.Touch.{fills}
 use borrow.Author.Needs.{needs}
 use Rattle.engine.proofs.send.far_count.Statement.{statement}
 use Rattle.engine.proofs.send.far_count.Tie as tie
-use Rattle.engine.proofs.send.far_count.Reads as reads
-use Rattle.engine.proofs.send.far_count.Lts as lts
-use Rattle.engine.proofs.send.fills_receive.Reads as fills-receive-reads
 
 fills-receive-requires : tie.Need-fills-receive-requires
 fills-receive-requires c κs = search needs

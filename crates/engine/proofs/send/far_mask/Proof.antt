@@ -1,10 +1,6 @@
 use borrow.Author.Needs.{needs}
 use Rattle.engine.proofs.send.far_mask.Statement.{statement}
 use Rattle.engine.proofs.send.far_mask.Tie as tie
-use Rattle.engine.proofs.send.far_mask.Reads as reads
-use Rattle.engine.proofs.send.far_mask.Lts as lts
-use Rattle.engine.proofs.send.choose.Reads as choose-reads
-use Rattle.engine.proofs.send.fills_receive.Reads as fills-receive-reads
 
 fills-receive-requires : tie.Need-fills-receive-requires
 fills-receive-requires c κs = search needs

@@ -1,15 +1,10 @@
-use mathlib.Core.Path.{_≡_, refl, sym, ap, _∙_}
-use mathlib.Core.Bool.{Bool, true, false}
+use mathlib.Core.Path.{_≡_, sym, ap, _∙_}
+use mathlib.Core.Bool.{true, false}
 use Rattle.rules.specs.Touch.{fills}
 use Rattle.rules.proofs.Runs.{cut}
 use borrow.Author.Needs.{needs}
 use Rattle.engine.proofs.send.far_sges.Statement.{statement}
 use Rattle.engine.proofs.send.far_sges.Tie as tie
-use Rattle.engine.proofs.send.far_sges.Reads as reads
-use Rattle.engine.proofs.send.far_sges.Lts as lts
-use Rattle.engine.proofs.permit.cut_to.Reads as cut-to-reads
-use Rattle.engine.proofs.send.fills_receive.Reads as fills-receive-reads
-use Rattle.engine.proofs.send.receive_sges.Reads as receive-sges-reads
 
 fills-receive-requires : tie.Need-fills-receive-requires
 fills-receive-requires c κs = search needs

@@ -1,15 +1,10 @@
-use mathlib.Core.Path.{_≡_, refl, sym, ap, _∙_}
-use mathlib.Core.Bool.{Bool, true, false}
+use mathlib.Core.Path.{_≡_, sym, _∙_}
+use mathlib.Core.Bool.{true, false}
 use Rattle.rules.specs.Touch.{fills}
 use borrow.Author.Tests.{not-true, not-false}
 use borrow.Author.Needs.{needs}
 use Rattle.engine.proofs.send.fits_receive.Statement.{statement}
 use Rattle.engine.proofs.send.fits_receive.Tie as tie
-use Rattle.engine.proofs.send.fits_receive.Reads as reads
-use Rattle.engine.proofs.send.fits_receive.Lts as lts
-use Rattle.engine.proofs.permit.sges_total.Reads as sges-total-reads
-use Rattle.engine.proofs.send.fills_receive.Reads as fills-receive-reads
-use Rattle.engine.proofs.send.receive_sges.Reads as receive-sges-reads
 
 fills-receive-requires : tie.Need-fills-receive-requires
 fills-receive-requires c κs = search needs

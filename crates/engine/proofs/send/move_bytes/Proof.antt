@@ -1,8 +1,7 @@
-use mathlib.Core.Path.{_≡_, refl, sym, ap, _∙_}
-use mathlib.Core.Bool.{Bool, true, false}
+use mathlib.Core.Path.{_≡_, sym, ap, _∙_}
+use mathlib.Core.Bool.{true, false}
 use Rattle.tables.specs.Records.{isInline}
 use denote.Ref.{now}
-use native.Mathlib.Omega.{arith}
 use mathlib.Core.List.{List}
 use Prim.Native.Nat.{ℕ}
 use lib.ListN.{length, take}
@@ -14,12 +13,6 @@ use Rattle.engine.specs.SendMove.{there, back}
 use borrow.Author.Needs.{needs}
 use Rattle.engine.proofs.send.move_bytes.Statement.{statement}
 use Rattle.engine.proofs.send.move_bytes.Tie as tie
-use Rattle.engine.proofs.send.move_bytes.Reads as reads
-use Rattle.engine.proofs.send.move_bytes.Lts as lts
-use Rattle.engine.proofs.send.is_inline.Reads as is-inline-reads
-use Rattle.engine.proofs.transfer.scatter_inline.Reads as scatter-inline-reads
-use Rattle.engine.proofs.transfer.transfer.Reads as transfer-reads
-use Rattle.tables.proofs.records.inline_bytes.Reads as inline-bytes-reads
 
 is-inline-requires : tie.Need-is-inline-requires
 is-inline-requires c κs = search needs

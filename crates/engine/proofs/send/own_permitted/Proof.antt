@@ -1,15 +1,10 @@
-use mathlib.Core.Path.{_≡_, refl, sym, ap, _∙_}
-use mathlib.Core.Bool.{Bool, true, false}
+use mathlib.Core.Path.{_≡_, sym, _∙_}
+use mathlib.Core.Bool.{true, false}
 use Rattle.tables.specs.Records.{isInline}
 use Rattle.wire.specs.Scan.{all}
 use borrow.Author.Needs.{needs}
 use Rattle.engine.proofs.send.own_permitted.Statement.{statement}
 use Rattle.engine.proofs.send.own_permitted.Tie as tie
-use Rattle.engine.proofs.send.own_permitted.Reads as reads
-use Rattle.engine.proofs.send.own_permitted.Lts as lts
-use Rattle.engine.proofs.permit.sges_permitted.Reads as sges-permitted-reads
-use Rattle.engine.proofs.send.choose.Reads as choose-reads
-use Rattle.engine.proofs.send.is_inline.Reads as is-inline-reads
 
 is-inline-requires : tie.Need-is-inline-requires
 is-inline-requires c κs = search needs

@@ -1,13 +1,9 @@
-use mathlib.Core.Path.{_≡_, refl, sym, ap, _∙_}
-use mathlib.Core.Bool.{Bool, true, false}
+use mathlib.Core.Path.{_≡_, sym, _∙_}
+use mathlib.Core.Bool.{true, false}
 use Rattle.tables.specs.Records.{isInline}
 use borrow.Author.Needs.{needs}
 use Rattle.engine.proofs.send.total_of.Statement.{statement}
 use Rattle.engine.proofs.send.total_of.Tie as tie
-use Rattle.engine.proofs.send.total_of.Reads as reads
-use Rattle.engine.proofs.send.total_of.Lts as lts
-use Rattle.engine.proofs.permit.sges_total.Reads as sges-total-reads
-use Rattle.engine.proofs.send.is_inline.Reads as is-inline-reads
 
 is-inline-requires : tie.Need-is-inline-requires
 is-inline-requires c κs = search needs
