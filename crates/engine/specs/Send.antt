@@ -30,9 +30,9 @@ use Rattle.rules.proofs.Runs.{cut}
 use Rattle.engine.specs.Grants.{allowsAll, mappedAll, places}
 use Rattle.engine.specs.Places.{moved}
 use Rattle.engine.specs.Bytes.{pushAll, errorBytes, consumeBytes, sendBytes}
-use Rattle.engine.specs.declared.send.Ends.{Ends}
-use Rattle.engine.specs.declared.send.Meeting.{Meeting}
-use Rattle.engine.specs.declared.send.Meeting.the-variants.{Pairs, Stopped}
+use Rattle.engine.specs.declared.meet.Ends.{Ends}
+use Rattle.engine.specs.declared.meet.Meeting.{Meeting}
+use Rattle.engine.specs.declared.meet.Meeting.the-variants.{Pairs, Stopped}
 
 -- ---- steps 1 and 2
 

@@ -27,8 +27,8 @@ use Rattle.engine.specs.Send.{bare, endsAt, metBy, meeting, totalBy, tak
 use Rattle.engine.specs.SendDone.{Ran}
 use Rattle.engine.specs.SendRequest.{requestBy, Told, told, total-is, sending, far-below, first-below, taken-count, too-long, status-within, long-memory, memory-is}
 use Rattle.engine.specs.SendWhole.{settled-is, settling}
-use Rattle.engine.specs.declared.send.Ends.{Ends}
-use Rattle.engine.specs.declared.send.Meeting.the-variants.{Pairs, Stopped}
+use Rattle.engine.specs.declared.meet.Ends.{Ends}
+use Rattle.engine.specs.declared.meet.Meeting.the-variants.{Pairs, Stopped}
 
 -- the pairs e, the entries sges, the receive w and the total n are those of the record x and the state l
 pub record Ending (l m x : List ℕ) (s : SendRecord) (q : ℕ) (e : Ends) (sges : List Sge) (w : ReceiveRecord) (n : ℕ) : Type 0 where

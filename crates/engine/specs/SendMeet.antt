@@ -28,9 +28,9 @@ use Rattle.rules.specs.Touch.{takes}
 use Rattle.rules.specs.declared.Answer.the-variants.{Refused, Held}
 use Rattle.rules.specs.declared.Cause.the-variants.{Peer, Place}
 use Rattle.engine.specs.Send.{answers, placesBy, peerMeeting, metBy, meeting, endsAt}
-use Rattle.engine.specs.declared.send.Ends.{Ends}
-use Rattle.engine.specs.declared.send.Meeting.{Meeting}
-use Rattle.engine.specs.declared.send.Meeting.the-variants.{Pairs, Stopped}
+use Rattle.engine.specs.declared.meet.Ends.{Ends}
+use Rattle.engine.specs.declared.meet.Meeting.{Meeting}
+use Rattle.engine.specs.declared.meet.Meeting.the-variants.{Pairs, Stopped}
 
 empty-is : (ws : List Receive) (n : ℕ) → length ws ≡ n → isEmpty ws ≡ eqb n 0
 empty-is [] n e = sym (eq-eqb n 0 (sym e))

@@ -17,7 +17,7 @@ use Rattle.rules.specs.Send.{consumes}
 use Rattle.rules.specs.Touch.{sgeTotal}
 use Rattle.engine.specs.Bytes.{pushAll}
 use Rattle.engine.specs.Send.{senderEntry, receiverEntry, receiverStatus, putFirst, putSecond}
-use Rattle.engine.specs.declared.send.Ends.{Ends}
+use Rattle.engine.specs.declared.meet.Ends.{Ends}
 
 -- ---- a receive's entries, in a list of four
 

@@ -19,7 +19,7 @@ use Rattle.rules.proofs.Runs.{cut, cut-total}
 use Rattle.engine.specs.Grants.{allowsAll}
 use Rattle.engine.specs.Ranges.{permitted-mapped-all}
 use Rattle.engine.specs.Send.{ownMask, farMask, ownBy, farList, farCount, Sending, Delivery, Carries, carried}
-use Rattle.engine.specs.declared.send.Ends.{Ends}
+use Rattle.engine.specs.declared.meet.Ends.{Ends}
 
 -- ---- the order of the tests
 

@@ -28,7 +28,7 @@ use Rattle.engine.specs.Send.{bare, endsAt, takenRow, senderEntry, recei
 use Rattle.engine.specs.SendCard.{Stands, CanAll, Open, opened, push-all}
 use Rattle.engine.specs.SendDone.{can-put, send-open, waits-then, send-fits}
 use Rattle.engine.specs.SendRequest.{requestBy, Told, entries, ok, tests, own-below, own-is, peer-is, far-below, far-is, taken-is, taken-count}
-use Rattle.engine.specs.declared.send.Ends.{Ends}
+use Rattle.engine.specs.declared.meet.Ends.{Ends}
 
 -- ---- completions in two parts
 
