@@ -1,5 +1,5 @@
 -- The look-up of a key. Assumes nothing.
-use mathlib.Core.Path.{_≡_, refl, sym, ap, _∙_}
+use mathlib.Core.Path.{_≡_, refl, ap, _∙_}
 use mathlib.Core.Bool.{Bool, true, false, cond, _&&_}
 use mathlib.Core.List.{List}
 use Prim.Native.Nat.{ℕ, _+_, _-_, _*_, _/_, _%_, _≤_, _<_}
@@ -13,8 +13,8 @@ use Rattle.tables.specs.Layout.{mrLiveT, mrT}
 use Rattle.tables.specs.Limits.{mrCount}
 use Rattle.tables.specs.Objects.{mr-live, mr-out, mr-row, mr-variant}
 use Rattle.tables.specs.declared.Region.{Region}
-use Rattle.engine.specs.Touch.{range}
-use Rattle.engine.specs.Permit.{lookup, matches, granted, serves, permittedAll}
+use Rattle.rules.specs.Touch.{range}
+use Rattle.engine.specs.Grants.{slotOf, matches, grants, serves, allowsAll}
 use Rattle.engine.specs.Ranges.{spans, range-no, range-ends}
 use Rattle.engine.specs.declared.permit.Found.{Found}
 use Rattle.engine.specs.declared.permit.Found.the-variants.{Live, Nothing}
@@ -24,7 +24,7 @@ abbrev pub regionFrom : Mr → Region
 regionFrom m = record { access = m .reg .access; variant = m .variant; pd = m .reg .pd; start = m .reg .start; length = m .reg .length; virt = m .reg .virt }
 
 unfoldable pub found : (ℕ → Mr) → ℕ → Found
-found mr key = cond (matches mr key) (Live (regionFrom (lookup mr key))) Nothing
+found mr key = cond (matches mr key) (Live (regionFrom (slotOf mr key))) Nothing
 
 -- ---- how the look-up ends
 
@@ -66,22 +66,22 @@ module _ (l : List ℕ) (key : ℕ) where
 module _ (c : Card) (pd mask k : ℕ) where
   none-matches : (b : Bool) → matches (c .mr) k ≡ b → found (c .mr) k ≡ Nothing → b ≡ false
   unfolding found
-  none-matches true e h = let q : Live (regionFrom (lookup (c .mr) k)) ≡ Nothing = rw e at h in let z : _≡_ {A = ℕ} 0 1 = cc in absurd (omega arith)
+  none-matches true e h = let q : Live (regionFrom (slotOf (c .mr) k)) ≡ Nothing = rw e at h in let z : _≡_ {A = ℕ} 0 1 = cc in absurd (omega arith)
   none-matches false e h = refl
 
-  pub range-none : (n a : ℕ) → 0 < n → found (c .mr) k ≡ Nothing → permittedAll c pd mask (range a k n) ≡ false
+  pub range-none : (n a : ℕ) → 0 < n → found (c .mr) k ≡ Nothing → allowsAll c pd mask (range a k n) ≡ false
   unfolding serves
   range-none n a h e = range-no c pd mask k n a h (rw (none-matches (matches (c .mr) k) refl e))
 
   pub range-found : (n a : ℕ) (r : Region) → 0 < n → found (c .mr) k ≡ Live r
-      → permittedAll c pd mask (range a k n) ≡ (eqb (r .pd) pd && granted mask (r .access) && spans (registrationOf r) a n)
+      → allowsAll c pd mask (range a k n) ≡ (eqb (r .pd) pd && grants mask (r .access) && spans (registrationOf r) a n)
   unfolding found serves
   range-found n a r h e = range-ends c pd mask k n a h ∙ go (matches (c .mr) k) e
     where
-      go : (b : Bool) → cond {A = Found} b (Live (regionFrom (lookup (c .mr) k))) Nothing ≡ Live r
-          → (b && (eqb (lookup (c .mr) k .reg .pd) pd && granted mask (lookup (c .mr) k .reg .access)) && spans (lookup (c .mr) k .reg) a n)
-          ≡ (eqb (r .pd) pd && granted mask (r .access) && spans (registrationOf r) a n)
+      go : (b : Bool) → cond {A = Found} b (Live (regionFrom (slotOf (c .mr) k))) Nothing ≡ Live r
+          → (b && (eqb (slotOf (c .mr) k .reg .pd) pd && grants mask (slotOf (c .mr) k .reg .access)) && spans (slotOf (c .mr) k .reg) a n)
+          ≡ (eqb (r .pd) pd && grants mask (r .access) && spans (registrationOf r) a n)
       go true q =
-          let p : regionFrom (lookup (c .mr) k) ≡ r = cc in
-          ap (λ (s : Region). eqb (s .pd) pd && granted mask (s .access) && spans (registrationOf s) a n) p
+          let p : regionFrom (slotOf (c .mr) k) ≡ r = cc in
+          ap (λ (s : Region). eqb (s .pd) pd && grants mask (s .access) && spans (registrationOf s) a n) p
       go false q = let z : _≡_ {A = ℕ} 0 1 = cc in absurd (omega arith)

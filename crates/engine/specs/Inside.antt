@@ -1,24 +1,23 @@
 -- An accepted state's live regions lie in its memory and below address 2^64. Assumes nothing.
-use mathlib.Core.Path.{_≡_, refl, sym, ap, _∙_}
-use mathlib.Core.Bool.{Bool, true, false, _&&_, _||_}
+use mathlib.Core.Path.{_≡_, sym, ap, _∙_}
+use mathlib.Core.Bool.{Bool, true, _&&_}
 use mathlib.Core.List.{List}
-use Prim.Native.Nat.{ℕ, _+_, _-_, _*_, _/_, _^_, _≤_, _<_}
+use Prim.Native.Nat.{ℕ, _+_, _-_, _/_, _^_, _≤_, _<_}
 use native.Mathlib.Omega.{arith}
 use lib.ListN.{length}
 use lib.Dec.{eqb, leb}
-use borrow.Author.Tests.{eqb-true, leb-true, eq-eqb}
-use Rattle.wire.specs.Scan.{all, allBelow, all-at, and-left, and-right}
+use borrow.Author.Tests.{eqb-true, leb-true}
+use Rattle.wire.specs.Scan.{allBelow, all-at, and-left, and-right}
 use Rattle.wire.specs.Table.{rowAt}
 use Rattle.tables.specs.Accept.{accepts, memoryOk, pdOk, cqOk, mrOk, qpOk, regionOk}
-use Rattle.tables.specs.Card.{Card, Mr}
 use Rattle.tables.specs.Image.{card, registrationOf}
 use Rattle.tables.specs.Layout.{image, memoryT, mrLiveT, mrT}
 use Rattle.tables.specs.Limits.{pdCount, cqCount, mrCount, qpCount, mostMemory, mostAddress, mostAccess}
 use Rattle.tables.specs.Objects.{memory-is, mr-live, mr-below, mr-row}
 use Rattle.tables.specs.declared.Region.{Region}
 use Rattle.tables.specs.declared.Registration.{Registration}
-use Rattle.engine.specs.Touch.{Byte, byteOf}
-use Rattle.engine.specs.Permit.{lookup, covers, permits, mapped, locate}
+use Rattle.rules.specs.Touch.{Byte, byteOf}
+use Rattle.engine.specs.Grants.{slotOf, within, allows, mapped, locate}
 use Rattle.engine.specs.Ranges.{Covers, covers-facts, permitted-mapped}
 
 -- where a live region lies
@@ -30,8 +29,8 @@ pub record Lies (memory : ℕ) (g : Registration) : Type 0 where
 pub record Placed (l : List ℕ) (b : Byte) : Type 0 where
   pub slot : b .key / 256 < mrCount
   pub row : card l .mr (b .key / 256) .reg ≡ registrationOf (rowAt mrT l (b .key / 256))
-  pub lies : Lies (rowAt memoryT l 0) (lookup (card l .mr) (b .key) .reg)
-  pub covered : Covers (lookup (card l .mr) (b .key) .reg) (b .address)
+  pub lies : Lies (rowAt memoryT l 0) (slotOf (card l .mr) (b .key) .reg)
+  pub covered : Covers (slotOf (card l .mr) (b .key) .reg) (b .address)
 
 -- the place of a mapped byte, from its region's row r
 pub record Place (l : List ℕ) (b : Byte) (r : Region) : Type 0 where
@@ -88,12 +87,12 @@ module _ (l : List ℕ) (ok : accepts l ≡ true) where
   unfolding mapped
   placed b e =
       let n : ℕ = b .key / 256 in
-      let live = and-left (card l .mr n .live) (covers (card l .mr n .reg) (b .address)) e in
+      let live = and-left (card l .mr n .live) (within (card l .mr n .reg) (b .address)) e in
       record {
         slot = mr-below l n live;
         row = mr-row l n (mr-below l n live) (row-live n live);
         lies = rw memory-is at (inside n live);
-        covered = covers-facts (card l .mr n .reg) (b .address) (and-right (card l .mr n .live) (covers (card l .mr n .reg) (b .address)) e);
+        covered = covers-facts (card l .mr n .reg) (b .address) (and-right (card l .mr n .live) (within (card l .mr n .reg) (b .address)) e);
       }
 
   -- the place of a mapped byte, and so of a permitted one, is below the memory's length
@@ -106,11 +105,11 @@ module _ (l : List ℕ) (ok : accepts l ≡ true) where
       let z = p .covered .high in
       omega arith
 
-  pub permitted-below : (pd mask : ℕ) (b : Byte) → permits (card l) pd mask b ≡ true → locate (card l) b < rowAt memoryT l 0
+  pub permitted-below : (pd mask : ℕ) (b : Byte) → allows (card l) pd mask b ≡ true → locate (card l) b < rowAt memoryT l 0
   permitted-below pd mask b e = mapped-below b (permitted-mapped (card l) pd mask b e)
 
   -- "An address at or past 2^64 is never permitted."
-  pub permitted-word : (pd mask : ℕ) (b : Byte) → permits (card l) pd mask b ≡ true → b .address < 2 ^ 64
+  pub permitted-word : (pd mask : ℕ) (b : Byte) → allows (card l) pd mask b ≡ true → b .address < 2 ^ 64
   permitted-word pd mask b e =
       let p = placed b (permitted-mapped (card l) pd mask b e) in
       let x = p .lies .word in

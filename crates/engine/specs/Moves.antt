@@ -1,20 +1,22 @@
 -- Laws of the copies: one entry to or from a staging list, a list of entries one by one, and a whole transfer. Assumes nothing.
-use mathlib.Core.Path.{_≡_, refl, sym, ap, _∙_}
-use mathlib.Core.Bool.{Bool, true, false}
+use mathlib.Core.Path.{_≡_, sym, ap, _∙_}
+use mathlib.Core.Bool.{true}
 use mathlib.Core.List.{List, [], _∷_, _++_, append-assoc, append-nil}
-use Prim.Native.Nat.{ℕ, zero, suc, _+_, _-_, _≤_, _<_}
+use Prim.Native.Nat.{ℕ, _+_, _-_, _≤_, _<_}
 use native.Mathlib.Nat.{add-zero, zero-add}
 use native.Mathlib.Numerals.{add-one}
 use native.Mathlib.Omega.{arith}
 use lib.ListN.{length, getD, set, take, drop, length-drop}
 use lib.Seq.{paste, paste-suc, getD-drop, drop-drop, take-paste, take-length, take-take, length-take-le}
-use Rattle.wire.specs.Scan.{all, and-left, and-right}
+use Rattle.wire.specs.Scan.{and-left, and-right}
 use Rattle.tables.specs.Card.{Card}
 use Rattle.tables.specs.Limits.{mostMessage}
 use Rattle.tables.specs.declared.Sge.{Sge}
-use Rattle.engine.specs.Touch.{Byte, sgeBytes, sgeTotal, readBytes, writeBytes, delivered}
-use Rattle.engine.specs.Permit.{mapped, mappedAll, locate, places}
-use Rattle.engine.specs.Places.{Run, run, bytesOf, placesOf, places-cons, no-places, length-places-of, length-places, read-run, write-run, read-append, write-append, write-take}
+use Rattle.rules.specs.Touch.{sgeBytes, sgeTotal}
+use Rattle.engine.specs.Places.{readBytes, moved, Run, bytesOf, placesOf, places-cons, no-places, length-places-of, length-places, read-append}
+use Rattle.rules.specs.Lists.{stored}
+use Rattle.engine.specs.Grants.{mapped, mappedAll, locate, places}
+use Rattle.rules.proofs.Runs.{run, read-run, store-run, stored-join, stored-take}
 use Rattle.engine.specs.Ranges.{byte}
 use Rattle.engine.specs.Sges.{noSge, left-cons, left-none, left-tests, left-total}
 
@@ -41,7 +43,6 @@ through d z s at n h = ap (λ (l : List ℕ). take at d ++ l ++ drop (at + n) d)
 
 module _ (c : Card) (m : List ℕ) (s : Sge) (at : ℕ) where
   pub copied-none : (st : List ℕ) → s .length ≡ 0 → take (at + s .length) st ≡ take at st ++ readBytes m (placesOf c s)
-  unfolding readBytes
   copied-none st e =
       ap (λ (n : ℕ). take (at + n) st) e ∙ ap (λ (n : ℕ). take n st) (add-zero at)
       ∙ sym (append-nil (take at st)) ∙ ap (λ (l : List ℕ). take at st ++ readBytes m l) (sym (no-places c s e))
@@ -55,17 +56,17 @@ module _ (c : Card) (m : List ℕ) (s : Sge) (at : ℕ) where
       ∙ ap (λ (x : List ℕ). take at st ++ x)
       (sym (read-run m (s .length) b k) ∙ ap (λ (j : ℕ). readBytes m (run j (s .length))) eb ∙ ap (readBytes m) (sym (l .at)))
 
-  pub unwritten : (vs : List ℕ) → s .length ≡ 0 → m ≡ writeBytes m (placesOf c s) vs
-  unfolding writeBytes
-  unwritten vs e = ap (λ (ps : List ℕ). writeBytes m ps vs) (sym (no-places c s e))
+  pub unwritten : (vs : List ℕ) → s .length ≡ 0 → m ≡ stored m (placesOf c s) vs
+  unfolding stored
+  unwritten vs e = ap (λ (ps : List ℕ). stored m ps vs) (sym (no-places c s e))
 
   pub copied-in : (m′ st : List ℕ) (b : ℕ) → Run c (length m) s → b ≡ locate c (byte (s .address) (s .key))
-      → at + s .length ≤ length st → m′ ≡ paste m b (drop at st) (s .length) → m′ ≡ writeBytes m (placesOf c s) (drop at st)
+      → at + s .length ≤ length st → m′ ≡ paste m b (drop at st) (s .length) → m′ ≡ stored m (placesOf c s) (drop at st)
   copied-in m′ st b l eb h e =
       let k : b + s .length ≤ length m = rw eb (l .ends) in
-      e ∙ sym (write-run (s .length) m b (drop at st) k (simp length-drop (omega arith)))
-      ∙ ap (λ (j : ℕ). writeBytes m (run j (s .length)) (drop at st)) eb
-      ∙ ap (λ (ps : List ℕ). writeBytes m ps (drop at st)) (sym (l .at))
+      e ∙ sym (store-run (s .length) m b (drop at st) k (simp length-drop (omega arith)))
+      ∙ ap (λ (j : ℕ). stored m (run j (s .length)) (drop at st)) eb
+      ∙ ap (λ (ps : List ℕ). stored m ps (drop at st)) (sym (l .at))
 
 -- ---- a list of entries: the entry of the turn, and those left after it
 
@@ -95,22 +96,22 @@ gather-more c m s rest got got′ whole h e =
 
 -- memory: what is scattered, and then the rest
 pub scatter-more : (c : Card) (m m′ : List ℕ) (s : Sge) (rest : List Sge) (st : List ℕ) (at : ℕ) (whole : List ℕ) → at + s .length ≤ length st
-    → writeBytes m (places c (s ∷ rest)) (drop at st) ≡ whole → m′ ≡ writeBytes m (placesOf c s) (drop at st)
-    → writeBytes m′ (places c rest) (drop (at + s .length) st) ≡ whole
+    → stored m (places c (s ∷ rest)) (drop at st) ≡ whole → m′ ≡ stored m (placesOf c s) (drop at st)
+    → stored m′ (places c rest) (drop (at + s .length) st) ≡ whole
 scatter-more c m m′ s rest st at whole l h e =
     let n = length-places-of c s in
     let k : length (placesOf c s) ≤ length (drop at st) = rw n (simp length-drop (omega arith)) in
-    ap (λ (x : List ℕ). writeBytes x (places c rest) (drop (at + s .length) st)) e
-    ∙ ap (writeBytes (writeBytes m (placesOf c s) (drop at st)) (places c rest))
+    ap (λ (x : List ℕ). stored x (places c rest) (drop (at + s .length) st)) e
+    ∙ ap (stored (stored m (placesOf c s) (drop at st)) (places c rest))
     (sym (drop-drop (s .length) at st) ∙ ap (λ (j : ℕ). drop j (drop at st)) (sym n))
-    ∙ sym (write-append m (placesOf c s) (places c rest) (drop at st) k)
-    ∙ ap (λ (ps : List ℕ). writeBytes m ps (drop at st)) (sym (places-cons c s rest)) ∙ h
+    ∙ sym (stored-join m (placesOf c s) (places c rest) (drop at st) k)
+    ∙ ap (λ (ps : List ℕ). stored m ps (drop at st)) (sym (places-cons c s rest)) ∙ h
 
 pub gathered : (c : Card) (m : List ℕ) (ss : List Sge) (count i at : ℕ) (st : List ℕ) → count ≤ i
     → at + sgeTotal (drop i (take count ss)) ≡ sgeTotal (take count ss)
     → take at st ++ readBytes m (places c (drop i (take count ss))) ≡ readBytes m (places c (take count ss))
     → take (sgeTotal (take count ss)) st ≡ readBytes m (places c (take count ss))
-unfolding sgeTotal sgeBytes readBytes
+unfolding sgeTotal sgeBytes
 gathered c m ss count i at st h sum e =
     let none = left-none ss count i h in
     let n : at ≡ sgeTotal (take count ss) = sym (add-zero at) ∙ ap (λ (l : List Sge). at + sgeTotal l) (sym none) ∙ sum in
@@ -118,22 +119,22 @@ gathered c m ss count i at st h sum e =
     ∙ ap (λ (l : List Sge). take at st ++ readBytes m (places c l)) (sym none) ∙ e
 
 pub scattered : (c : Card) (m whole : List ℕ) (ss : List Sge) (count i : ℕ) (vs : List ℕ) → count ≤ i
-    → writeBytes m (places c (drop i (take count ss))) vs ≡ whole → m ≡ whole
-unfolding sgeBytes writeBytes
-scattered c m whole ss count i vs h e = ap (λ (l : List Sge). writeBytes m (places c l) vs) (sym (left-none ss count i h)) ∙ e
+    → stored m (places c (drop i (take count ss))) vs ≡ whole → m ≡ whole
+unfolding sgeBytes stored
+scattered c m whole ss count i vs h e = ap (λ (l : List Sge). stored m (places c l) vs) (sym (left-none ss count i h)) ∙ e
 
 -- ---- a transfer by way of a staging list
 
 -- a staging list that begins with the values, scattered
-pub staged : (c : Card) (m m′ st vs : List ℕ) (ts : List Sge) (n : ℕ) → sgeTotal ts ≡ n → take n st ≡ vs → m′ ≡ writeBytes m (places c ts) st → m′ ≡ writeBytes m (places c ts) vs
+pub staged : (c : Card) (m m′ st vs : List ℕ) (ts : List Sge) (n : ℕ) → sgeTotal ts ≡ n → take n st ≡ vs → m′ ≡ stored m (places c ts) st → m′ ≡ stored m (places c ts) vs
 staged c m m′ st vs ts n k e w =
-    w ∙ write-take m (places c ts) st
-    ∙ ap (λ (j : ℕ). writeBytes m (places c ts) (take j st)) (length-places c ts ∙ k)
-    ∙ ap (writeBytes m (places c ts)) e
+    w ∙ stored-take m (places c ts) st
+    ∙ ap (λ (j : ℕ). stored m (places c ts) (take j st)) (length-places c ts ∙ k)
+    ∙ ap (stored m (places c ts)) e
 
 pub transferred : (c : Card) (m m′ st : List ℕ) (ss ts : List Sge) → sgeTotal ts ≡ sgeTotal ss → take (sgeTotal ss) st ≡ readBytes m (places c ss)
-    → m′ ≡ writeBytes m (places c ts) st → m′ ≡ delivered m (places c ss) (places c ts)
-unfolding delivered
+    → m′ ≡ stored m (places c ts) st → m′ ≡ moved m (places c ss) (places c ts)
+unfolding moved
 transferred c m m′ st ss ts k e w = staged c m m′ st (readBytes m (places c ss)) ts (sgeTotal ss) k e w
 
 -- what a transfer asks: the sources and the targets lie in live regions and are as many, no more than a message may have
@@ -179,18 +180,18 @@ module _ (c : Card) (ss ts : List Sge) (nf nt : ℕ) (f : nf ≡ 1) (t : nt ≡ 
         most = omega arith;
       }
 
-  pub single-done : (m m′ : List ℕ) → m′ ≡ delivered m (placesOf c (getD ss 0 noSge)) (placesOf c (getD ts 0 noSge))
-      → m′ ≡ delivered m (places c (take nf ss)) (places c (take nt ts))
+  pub single-done : (m m′ : List ℕ) → m′ ≡ moved m (placesOf c (getD ss 0 noSge)) (placesOf c (getD ts 0 noSge))
+      → m′ ≡ moved m (places c (take nf ss)) (places c (take nt ts))
   single-done m m′ e = rw (alone-bytes c ss nf f hs, alone-bytes c ts nt t ht) e
 
-pub undelivered : (c : Card) (m : List ℕ) (s t : Sge) → t .length ≡ s .length → s .length ≡ 0 → m ≡ delivered m (placesOf c s) (placesOf c t)
-unfolding delivered
+pub undelivered : (c : Card) (m : List ℕ) (s t : Sge) → t .length ≡ s .length → s .length ≡ 0 → m ≡ moved m (placesOf c s) (placesOf c t)
+unfolding moved
 undelivered c m s t k e = unwritten c m t 0 (readBytes m (placesOf c s)) (k ∙ e)
 
 pub delivered-run : (c : Card) (m m′ : List ℕ) (s t : Sge) (a b : ℕ) → Run c (length m) s → Run c (length m) t
     → a ≡ locate c (byte (s .address) (s .key)) → b ≡ locate c (byte (t .address) (t .key)) → t .length ≡ s .length
-    → m′ ≡ paste m b (drop a m) (s .length) → m′ ≡ delivered m (placesOf c s) (placesOf c t)
-unfolding delivered
+    → m′ ≡ paste m b (drop a m) (s .length) → m′ ≡ moved m (placesOf c s) (placesOf c t)
+unfolding moved
 delivered-run c m m′ s t a b rs rt ea eb k e =
     let n : ℕ = s .length in
     let ha : a + n ≤ length m = rw ea (rs .ends) in
@@ -202,12 +203,12 @@ delivered-run c m m′ s t a b rs rt ea eb k e =
     ap (readBytes m) (rs .at) ∙ ap (λ (j : ℕ). readBytes m (run j n)) (sym ea) ∙ read-run m n a ha in
     let to : placesOf c t ≡ run b n = rt .at ∙ ap (λ (j : ℕ). run j (t .length)) (sym eb) ∙ ap (run b) k in
     e ∙ ap (λ (l : List ℕ). take b m ++ l ++ drop (b + n) m) (sym (take-take n n (drop a m) (omega arith)))
-    ∙ sym (write-run n m b vs hb hv)
-    ∙ ap (λ (ps : List ℕ). writeBytes m ps vs) (sym to)
-    ∙ ap (writeBytes m (placesOf c t)) (sym from)
+    ∙ sym (store-run n m b vs hb hv)
+    ∙ ap (λ (ps : List ℕ). stored m ps vs) (sym to)
+    ∙ ap (stored m (placesOf c t)) (sym from)
 
 -- inline bytes, by way of a staging list z
 pub inlined : (c : Card) (m m′ z st vs : List ℕ) (ts : List Sge) → sgeTotal ts ≡ length vs → st ≡ paste z 0 (drop 0 vs) (length vs)
-    → m′ ≡ writeBytes m (places c ts) st → m′ ≡ writeBytes m (places c ts) vs
+    → m′ ≡ stored m (places c ts) st → m′ ≡ stored m (places c ts) vs
 inlined c m m′ z st vs ts k e w =
     staged c m m′ st vs ts (length vs) k (ap (take (length vs)) e ∙ front z vs (length vs) (omega arith) ∙ take-length vs) w

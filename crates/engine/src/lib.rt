@@ -1,12 +1,16 @@
-// The engine: which bytes a request may touch, and how they are moved; the card's calls, each also for a caller in C.
+// The engine: the card's calls, each also for a caller in C.
 ghost use mathlib.Core.List.{[]};
 ghost use Rattle.rules.specs.Call.{Call};
 ghost use Rattle.engine.specs.Owed.{Exports};
 
 pub mod control;
 pub mod control_qp;
+pub mod deliver;
+pub mod meet;
 pub mod permit;
 pub mod queues;
+pub mod send;
+pub mod settle;
 pub mod transfer;
 
 // ---- calls from C: each answers with its number in bits 0 to 7 and its status in bits 8 to 15
@@ -23,6 +27,18 @@ pub extern "C" fn lesungkap_control(state: &mut [u8], command: &[u8], ack: &mut 
     ensures { λ r. ⌜ Exports (now (state .entry)) (Call.control (now (command .entry)) (now (ack .entry))) r (now (state .exit)) [] (now (ack .exit)) ⌝ }
 {
     rules::code(control::control(state, command, ack))
+}
+
+#[no_mangle]
+pub extern "C" fn lesungkap_post_send(
+    state: &mut [u8],
+    memory: &mut [u8],
+    qpn: u32,
+    sent: &[u8],
+) -> u32
+    ensures { λ r. ⌜ Exports (now (state .entry)) (Call.send qpn (now (sent .entry)) (now (memory .entry))) r (now (state .exit)) (now (memory .exit)) [] ⌝ }
+{
+    rules::code(send::post_send(state, memory, qpn, sent))
 }
 
 #[no_mangle]

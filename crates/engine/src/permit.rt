@@ -11,11 +11,11 @@ ghost use lib.Dec.{eqb};
 ghost use lib.ListN.{length, take};
 ghost use Rattle.tables.specs.Image.{card, registrationOf};
 ghost use Rattle.tables.specs.Layout.{image};
-ghost use Rattle.engine.specs.Touch.{range, sgeBytes, sgeTotal};
-ghost use Rattle.engine.specs.Permit.{granted, permittedAll};
+ghost use Rattle.rules.specs.Touch.{range, sgeBytes, sgeTotal};
+ghost use Rattle.engine.specs.Grants.{grants, allowsAll};
 ghost use Rattle.engine.specs.Ranges.{spans};
 ghost use Rattle.engine.specs.Find.{found};
-ghost use Rattle.engine.specs.Sges.{cut};
+ghost use Rattle.rules.proofs.Runs.{cut};
 
 // The live region that has exactly a key, if there is one.
 pub enum Found {
@@ -43,7 +43,7 @@ pub fn region_of(state: &[u8], key: u32) -> Found
 
 // Whether a region has the domain, and its access the use's right.
 fn has_use(r: Region, pd: u8, mask: u8) -> bool
-    ensures { λ b. ⌜ b ≡ (eqb (r .pd) pd && granted mask (r .access)) ⌝ }
+    ensures { λ b. ⌜ b ≡ (eqb (r .pd) pd && grants mask (r .access)) ⌝ }
 {
     (r.pd == pd) & ((mask == 0) | !(r.access & mask == 0))
 }
@@ -61,7 +61,7 @@ fn holds_ends(r: Region, address: u64, n: u64) -> bool
 // Whether each of the n bytes from an address on is permitted: it looks at the two ends only, and of an empty range at no key.
 pub fn range_permitted(state: &[u8], pd: u8, mask: u8, address: u64, n: u64, key: u32) -> bool
     requires { ⌜ length (now state) ≡ image ⌝ }
-    ensures { λ b. ⌜ b ≡ permittedAll (card (now (state .entry))) pd mask (range address key n) ⌝ }
+    ensures { λ b. ⌜ b ≡ allowsAll (card (now (state .entry))) pd mask (range address key n) ⌝ }
 {
     if n == 0 {
         return true;
@@ -75,7 +75,7 @@ pub fn range_permitted(state: &[u8], pd: u8, mask: u8, address: u64, n: u64, key
 // Whether each byte of the first count entries is permitted.
 pub fn sges_permitted(state: &[u8], pd: u8, mask: u8, sges: [Sge; 4], count: usize) -> bool
     requires { ⌜ (count ≤ 4) × (length (now state) ≡ image) ⌝ }
-    ensures { λ b. ⌜ b ≡ permittedAll (card (now (state .entry))) pd mask (sgeBytes (take count sges)) ⌝ }
+    ensures { λ b. ⌜ b ≡ allowsAll (card (now (state .entry))) pd mask (sgeBytes (take count sges)) ⌝ }
 {
     let mut i = 0;
     while i < count {

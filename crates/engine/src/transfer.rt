@@ -12,10 +12,11 @@ ghost use Rattle.tables.specs.Accept.{accepts};
 ghost use Rattle.tables.specs.Image.{card};
 ghost use Rattle.tables.specs.Layout.{image};
 ghost use Rattle.tables.specs.Limits.{mostMessage, mostInline};
-ghost use Rattle.engine.specs.Touch.{sgeBytes, sgeTotal, readBytes, writeBytes, delivered};
-ghost use Rattle.engine.specs.Permit.{mapped, mappedAll, locate, places};
+ghost use Rattle.rules.specs.Touch.{sgeBytes, sgeTotal};
+ghost use Rattle.engine.specs.Places.{readBytes, moved, Ready, bytesOf, placesOf};
+ghost use Rattle.rules.specs.Lists.{stored};
+ghost use Rattle.engine.specs.Grants.{mapped, mappedAll, locate, places};
 ghost use Rattle.engine.specs.Ranges.{byte};
-ghost use Rattle.engine.specs.Places.{Ready, bytesOf, placesOf};
 ghost use Rattle.engine.specs.Moves.{Message, Single};
 
 // Copies n bytes of src, from index from on, into dst from index at on.
@@ -58,7 +59,7 @@ fn copy_out(state: &[u8], memory: &[u8], s: Sge, staging: &mut [u8], at: usize)
 fn copy_in(state: &[u8], memory: &mut [u8], s: Sge, staging: &[u8], at: usize)
     requires { ⌜ Ready (now state) (now memory) ⌝ }
     requires { ⌜ (mappedAll (card (now state)) (bytesOf s) ≡ true) × (at + s .length ≤ length (now staging)) ⌝ }
-    ensures { λ _. ⌜ now (memory .exit) ≡ writeBytes (now (memory .entry)) (placesOf (card (now (state .entry))) s) (drop at (now (staging .entry))) ⌝ }
+    ensures { λ _. ⌜ now (memory .exit) ≡ stored (now (memory .entry)) (placesOf (card (now (state .entry))) s) (drop at (now (staging .entry))) ⌝ }
 {
     let n = s.length as usize;
     if n == 0 {
@@ -88,7 +89,7 @@ fn gather(state: &[u8], memory: &[u8], sges: [Sge; 4], count: usize, staging: &m
 fn scatter(state: &[u8], memory: &mut [u8], sges: [Sge; 4], count: usize, staging: &[u8])
     requires { ⌜ Ready (now state) (now memory) ⌝ }
     requires { ⌜ (count ≤ 4) × (mappedAll (card (now state)) (sgeBytes (take count sges)) ≡ true) × (sgeTotal (take count sges) ≤ length (now staging)) ⌝ }
-    ensures { λ _. ⌜ now (memory .exit) ≡ writeBytes (now (memory .entry)) (places (card (now (state .entry))) (take count sges)) (now (staging .entry)) ⌝ }
+    ensures { λ _. ⌜ now (memory .exit) ≡ stored (now (memory .entry)) (places (card (now (state .entry))) (take count sges)) (now (staging .entry)) ⌝ }
 {
     let mut i = 0;
     let mut at = 0;
@@ -114,7 +115,7 @@ fn deliver_one(memory: &mut [u8], from: usize, to: usize, n: usize)
 fn transfer_one(state: &[u8], memory: &mut [u8], from: Sge, to: Sge)
     requires { ⌜ Ready (now state) (now memory) ⌝ }
     requires { ⌜ Single (card (now state)) from to ⌝ }
-    ensures { λ _. ⌜ now (memory .exit) ≡ delivered (now (memory .entry)) (placesOf (card (now (state .entry))) from) (placesOf (card (now (state .entry))) to) ⌝ }
+    ensures { λ _. ⌜ now (memory .exit) ≡ moved (now (memory .entry)) (placesOf (card (now (state .entry))) from) (placesOf (card (now (state .entry))) to) ⌝ }
 {
     let n = from.length as usize;
     if n == 0 {
@@ -136,7 +137,7 @@ fn transfer_many(
 )
     requires { ⌜ Ready (now state) (now memory) ⌝ }
     requires { ⌜ (nf ≤ 4) × (nt ≤ 4) × Message (card (now state)) (take nf from) (take nt to) ⌝ }
-    ensures { λ _. ⌜ now (memory .exit) ≡ delivered (now (memory .entry)) (places (card (now (state .entry))) (take nf from)) (places (card (now (state .entry))) (take nt to)) ⌝ }
+    ensures { λ _. ⌜ now (memory .exit) ≡ moved (now (memory .entry)) (places (card (now (state .entry))) (take nf from)) (places (card (now (state .entry))) (take nt to)) ⌝ }
 {
     let mut staging = [0u8; 4096];
     gather(state, memory, from, nf, &mut staging);
@@ -147,7 +148,7 @@ fn transfer_many(
 pub fn transfer(state: &[u8], memory: &mut [u8], from: [Sge; 4], nf: usize, to: [Sge; 4], nt: usize)
     requires { ⌜ Ready (now state) (now memory) ⌝ }
     requires { ⌜ (nf ≤ 4) × (nt ≤ 4) × Message (card (now state)) (take nf from) (take nt to) ⌝ }
-    ensures { λ _. ⌜ now (memory .exit) ≡ delivered (now (memory .entry)) (places (card (now (state .entry))) (take nf from)) (places (card (now (state .entry))) (take nt to)) ⌝ }
+    ensures { λ _. ⌜ now (memory .exit) ≡ moved (now (memory .entry)) (places (card (now (state .entry))) (take nf from)) (places (card (now (state .entry))) (take nt to)) ⌝ }
 {
     if (nf == 1) & (nt == 1) {
         let s = from[0];
@@ -162,7 +163,7 @@ pub fn transfer(state: &[u8], memory: &mut [u8], from: [Sge; 4], nf: usize, to: 
 pub fn scatter_inline(state: &[u8], memory: &mut [u8], bytes: &[u8], to: [Sge; 4], nt: usize)
     requires { ⌜ Ready (now state) (now memory) ⌝ }
     requires { ⌜ (nt ≤ 4) × (mappedAll (card (now state)) (sgeBytes (take nt to)) ≡ true) × (sgeTotal (take nt to) ≡ length (now bytes)) × (length (now bytes) ≤ mostInline) ⌝ }
-    ensures { λ _. ⌜ now (memory .exit) ≡ writeBytes (now (memory .entry)) (places (card (now (state .entry))) (take nt to)) (now (bytes .entry)) ⌝ }
+    ensures { λ _. ⌜ now (memory .exit) ≡ stored (now (memory .entry)) (places (card (now (state .entry))) (take nt to)) (now (bytes .entry)) ⌝ }
 {
     let mut staging = [0u8; 512];
     let n = bytes.len();

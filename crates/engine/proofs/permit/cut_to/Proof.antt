@@ -1,15 +1,13 @@
 use borrow.Author.Needs.{needs}
-use mathlib.Core.Path.{_≡_, refl, sym, ap, _∙_}
+use mathlib.Core.Path.{_≡_}
 use native.Mathlib.Omega.{arith}
-use mathlib.Core.List.{List, _∷_, _++_}
-use lib.ListN.{length, getD, set, take, drop, length-set}
-use Prim.Native.Nat.{ℕ, _+_, _-_, _*_, _^_, _≤_, _<_, min}
-use Rattle.engine.specs.Sges.{cut, noSge, left-cons, cut-more, cut-done}
+use mathlib.Core.List.{_++_}
+use lib.ListN.{length, getD, take, drop, length-set}
+use Prim.Native.Nat.{_+_, _-_, _≤_, min}
+use Rattle.rules.proofs.Runs.{cut}
+use Rattle.engine.specs.Sges.{noSge, left-cons, cut-more, cut-done}
 use Rattle.engine.proofs.permit.cut_to.Statement.{statement}
 use Rattle.engine.proofs.permit.cut_to.Tie as tie
-use Rattle.engine.proofs.permit.cut_to.Reads as reads
-use Rattle.engine.proofs.permit.cut_to.Lts as lts
-use Rattle.engine.proofs.permit.least.Reads as least-reads
 
 abbrev Inv-loop : tie.InvT-loop
 Inv-loop count n sges out₀ left₀ i₀ out left i = (i ≤ count) × (left ≤ n) × (length out ≡ 4) × (take i out ++ cut left (drop i (take count sges)) ≡ cut n (take count sges))

@@ -1,15 +1,11 @@
-use mathlib.Core.Path.{_≡_, refl, sym, ap, _∙_}
-use denote.Ref.{now}
+use mathlib.Core.Path.{_∙_}
 use native.Mathlib.Omega.{arith}
-use Prim.Native.Nat.{ℕ, _+_, _-_, _*_, _/_, _%_, _≤_, _<_}
+use Prim.Native.Nat.{_+_, _-_}
 use borrow.Author.Tests.{le-leb, lt-leb}
 use Rattle.wire.specs.Scan.{leb-same}
 use borrow.Author.Needs.{needs}
 use Rattle.engine.proofs.permit.holds_ends.Statement.{statement}
 use Rattle.engine.proofs.permit.holds_ends.Tie as tie
-use Rattle.engine.proofs.permit.holds_ends.Reads as reads
-use Rattle.engine.proofs.permit.holds_ends.Lts as lts
-use Rattle.tables.proofs.accept.sum_within.Reads as sum-within-reads
 
 returns : tie.Need-returns
 returns c = let a = c .before .before .args in rw (lt-leb (a .r .virt) (a .address) (search needs))

@@ -1,23 +1,16 @@
-use mathlib.Core.Path.{_≡_, refl, sym, ap, _∙_}
+use mathlib.Core.Path.{sym, _∙_}
 use denote.Ref.{now}
-use native.Mathlib.Omega.{arith}
-use Prim.Native.Nat.{ℕ, _+_, _-_, _*_, _/_, _%_, _≤_, _<_}
-use Rattle.wire.specs.Scan.{all}
+use Prim.Native.Nat.{_-_}
 use Rattle.tables.specs.Image.{card}
-use Rattle.engine.specs.Permit.{permits}
+use Rattle.engine.specs.Grants.{allows}
 use Rattle.engine.specs.Ranges.{empty-range}
 use Rattle.engine.specs.Find.{range-none, range-found}
 use borrow.Author.Needs.{needs}
 use Rattle.engine.proofs.permit.range_permitted.Statement.{statement}
 use Rattle.engine.proofs.permit.range_permitted.Tie as tie
-use Rattle.engine.proofs.permit.range_permitted.Reads as reads
-use Rattle.engine.proofs.permit.range_permitted.Lts as lts
-use Rattle.engine.proofs.permit.has_use.Reads as has-use-reads
-use Rattle.engine.proofs.permit.holds_ends.Reads as holds-ends-reads
-use Rattle.engine.proofs.permit.region_of.Reads as region-of-reads
 
 returns : tie.Need-returns
-returns c = let a = c .before .before .args in sym (empty-range (permits (card (now (a .state))) (a .pd) (a .mask)) (a .address) (a .key) (a .n) (c .if1 .taken))
+returns c = let a = c .before .before .args in sym (empty-range (allows (card (now (a .state))) (a .pd) (a .mask)) (a .address) (a .key) (a .n) (c .if1 .taken))
 
 region-of-requires : tie.Need-region-of-requires
 region-of-requires c κs = search needs

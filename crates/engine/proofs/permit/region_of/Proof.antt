@@ -1,17 +1,12 @@
-use mathlib.Core.Path.{_≡_, refl, sym, ap, _∙_}
+use mathlib.Core.Path.{_≡_, sym}
 use denote.Ref.{now}
-use native.Mathlib.Omega.{arith}
-use Prim.Native.Nat.{ℕ, _+_, _-_, _*_, _/_, _%_, _≤_, _<_}
+use Prim.Native.Nat.{_-_, _/_, _%_}
 use Rattle.wire.specs.Table.{rowAt}
 use Rattle.tables.specs.Layout.{mrLiveT, mrT}
 use Rattle.engine.specs.Find.{found-out, found-free, found-other, found-live}
 use borrow.Author.Needs.{needs}
 use Rattle.engine.proofs.permit.region_of.Statement.{statement}
 use Rattle.engine.proofs.permit.region_of.Tie as tie
-use Rattle.engine.proofs.permit.region_of.Reads as reads
-use Rattle.engine.proofs.permit.region_of.Lts as lts
-use Rattle.tables.proofs.image.load_mr.Reads as load-mr-reads
-use Rattle.tables.proofs.image.load_mr_live.Reads as load-mr-live-reads
 
 cast-slot : tie.Need-cast-slot
 cast-slot c = search needs

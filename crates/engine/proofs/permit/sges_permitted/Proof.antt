@@ -1,24 +1,19 @@
 use borrow.Author.Needs.{needs}
-use mathlib.Core.Path.{_≡_, refl, sym, ap, _∙_}
+use mathlib.Core.Path.{_≡_, sym, _∙_}
 use native.Mathlib.Omega.{arith}
-use mathlib.Core.List.{List, _∷_, _++_}
-use lib.ListN.{length, getD, set, take, drop, length-set}
-use Prim.Native.Nat.{ℕ, _+_, _-_, _*_, _^_, _≤_, _<_, min}
+use lib.ListN.{length, take, drop}
+use Prim.Native.Nat.{_-_, _≤_}
 use denote.Ref.{now}
-use mathlib.Core.Bool.{Bool, true, false}
 use borrow.Author.Tests.{not-true, not-false}
 use Rattle.tables.specs.Image.{card}
-use Rattle.engine.specs.Touch.{range, sgeBytes}
-use Rattle.engine.specs.Permit.{permits, permittedAll}
+use Rattle.rules.specs.Touch.{sgeBytes}
+use Rattle.engine.specs.Grants.{allows, allowsAll}
 use Rattle.engine.specs.Sges.{left-tests, none-tests}
 use Rattle.engine.proofs.permit.sges_permitted.Statement.{statement}
 use Rattle.engine.proofs.permit.sges_permitted.Tie as tie
-use Rattle.engine.proofs.permit.sges_permitted.Reads as reads
-use Rattle.engine.proofs.permit.sges_permitted.Lts as lts
-use Rattle.engine.proofs.permit.range_permitted.Reads as range-permitted-reads
 
 abbrev Inv-loop : tie.InvT-loop
-Inv-loop state pd mask count sges i₀ i = (i ≤ count) × (permittedAll (card state) pd mask (sgeBytes (drop i (take count sges))) ≡ permittedAll (card state) pd mask (sgeBytes (take count sges)))
+Inv-loop state pd mask count sges i₀ i = (i ≤ count) × (allowsAll (card state) pd mask (sgeBytes (drop i (take count sges))) ≡ allowsAll (card state) pd mask (sgeBytes (take count sges)))
 
 abbrev μ-loop : tie.MeasureT-loop
 μ-loop state pd mask count sges i₀ i = count - i
@@ -43,7 +38,7 @@ returns c =
     let s = c .before .before .before .before .before .before .before in
     let l = c .before .before .before .before .before .loop in
     let four : length (s .args .t4) ≡ 4 = s .good .1 .1 .1 .0 .1 .0 .1 in
-    let e = left-tests (s .args .t4) (s .args .count) (l .i) (permits (card (now (s .args .state))) (s .args .pd) (s .args .mask)) (omega arith) (omega arith) in
+    let e = left-tests (s .args .t4) (s .args .count) (l .i) (allows (card (now (s .args .state))) (s .args .pd) (s .args .mask)) (omega arith) (omega arith) in
     let n = not-true (c .before .range-permitted .result) (c .if1 .taken) in
     sym (sym (l .inv .1) ∙ e ∙ rw (← c .before .range-permitted .ensures, n))
 
@@ -58,14 +53,14 @@ loop-again c =
     let s = c .before .before .before .before .before .before .before in
     let l = c .before .before .before .before .before .loop in
     let four : length (s .args .t4) ≡ 4 = s .good .1 .1 .1 .0 .1 .0 .1 in
-    let e = left-tests (s .args .t4) (s .args .count) (l .i) (permits (card (now (s .args .state))) (s .args .pd) (s .args .mask)) (omega arith) (omega arith) in
+    let e = left-tests (s .args .t4) (s .args .count) (l .i) (allows (card (now (s .args .state))) (s .args .pd) (s .args .mask)) (omega arith) (omega arith) in
     let n = not-false (c .before .range-permitted .result) (c .if1 .left) in
     (omega arith, sym (rw (← c .before .range-permitted .ensures, n) at e) ∙ l .inv .1)
 
 returns-2 : tie.Need-returns-2 Inv-loop μ-loop
 returns-2 c =
     let s = c .before .before .before in
-    sym (sym (c .before .loop .inv .1) ∙ none-tests (s .args .t4) (s .args .count) (c .before .loop .i) (permits (card (now (s .args .state))) (s .args .pd) (s .args .mask)) (c .loop-test .left))
+    sym (sym (c .before .loop .inv .1) ∙ none-tests (s .args .t4) (s .args .count) (c .before .loop .i) (allows (card (now (s .args .state))) (s .args .pd) (s .args .mask)) (c .loop-test .left))
 
 pub sges-permitted-spec : {M : Type 1} → statement M
 sges-permitted-spec =

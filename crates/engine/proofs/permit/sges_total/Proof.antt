@@ -1,15 +1,12 @@
 use borrow.Author.Needs.{needs}
-use mathlib.Core.Path.{_≡_, refl, sym, ap, _∙_}
+use mathlib.Core.Path.{_≡_}
 use native.Mathlib.Omega.{arith}
-use mathlib.Core.List.{List, _∷_, _++_}
-use lib.ListN.{length, getD, set, take, drop, length-set}
-use Prim.Native.Nat.{ℕ, _+_, _-_, _*_, _^_, _≤_, _<_, min}
-use Rattle.engine.specs.Touch.{sgeTotal}
+use lib.ListN.{length, take, drop}
+use Prim.Native.Nat.{_+_, _-_, _*_, _^_, _≤_}
+use Rattle.rules.specs.Touch.{sgeTotal}
 use Rattle.engine.specs.Sges.{left-total, none-total}
 use Rattle.engine.proofs.permit.sges_total.Statement.{statement}
 use Rattle.engine.proofs.permit.sges_total.Tie as tie
-use Rattle.engine.proofs.permit.sges_total.Reads as reads
-use Rattle.engine.proofs.permit.sges_total.Lts as lts
 
 abbrev Inv-loop : tie.InvT-loop
 Inv-loop count sges sum₀ i₀ sum i = (i ≤ count) × (sum ≤ i * 2 ^ 32) × (sum + sgeTotal (drop i (take count sges)) ≡ sgeTotal (take count sges))

@@ -1,14 +1,12 @@
-use mathlib.Core.Path.{_≡_, refl, sym, ap, _∙_}
+use mathlib.Core.Path.{_≡_, refl, _∙_}
 use native.Mathlib.Omega.{arith}
 use denote.Ref.{now}
-use Prim.Native.Nat.{_+_, _-_, _≤_}
+use Prim.Native.Nat.{_-_, _≤_}
 use lib.ListN.{length, drop, length-set}
 use lib.Seq.{paste, paste-zero}
 use Rattle.engine.specs.Moves.{copy-more}
 use Rattle.engine.proofs.transfer.copy_bytes.Statement.{statement}
 use Rattle.engine.proofs.transfer.copy_bytes.Tie as tie
-use Rattle.engine.proofs.transfer.copy_bytes.Reads as reads
-use Rattle.engine.proofs.transfer.copy_bytes.Lts as lts
 
 abbrev Inv-loop : tie.InvT-loop
 Inv-loop dst₀ at src from n i₀ dst i = (i ≤ n) × (dst ≡ paste dst₀ at (drop from src) i) × (length dst ≡ length dst₀)

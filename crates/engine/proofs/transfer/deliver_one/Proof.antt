@@ -1,17 +1,14 @@
-use mathlib.Core.Path.{_≡_, refl, sym, ap, _∙_}
+use mathlib.Core.Path.{ap, _∙_}
 use native.Mathlib.Omega.{arith}
 use denote.Ref.{now}
 use mathlib.Core.List.{List}
-use lib.ListN.{length, getD, take, drop, length-drop}
-use Prim.Native.Nat.{ℕ, _+_, _-_, _≤_, _<_}
+use lib.ListN.{length, drop, length-drop}
+use Prim.Native.Nat.{ℕ, _-_, _≤_}
 use lib.Seq.{paste}
 use Rattle.engine.specs.Moves.{through}
 use borrow.Author.Needs.{needs}
 use Rattle.engine.proofs.transfer.deliver_one.Statement.{statement}
 use Rattle.engine.proofs.transfer.deliver_one.Tie as tie
-use Rattle.engine.proofs.transfer.deliver_one.Reads as reads
-use Rattle.engine.proofs.transfer.deliver_one.Lts as lts
-use Rattle.engine.proofs.transfer.copy_bytes.Reads as copy-bytes-reads
 
 slice-aggregate-copy-bytes : tie.Need-slice-aggregate-copy-bytes
 slice-aggregate-copy-bytes c = search needs

@@ -1,21 +1,18 @@
-use mathlib.Core.Path.{_≡_, refl, sym, ap, _∙_}
+use mathlib.Core.Path.{_≡_, refl, _∙_}
 use native.Mathlib.Omega.{arith}
 use denote.Ref.{now}
 use lib.ListN.{length, getD, take, drop}
-use Prim.Native.Nat.{ℕ, _+_, _-_, _≤_, _<_}
+use Prim.Native.Nat.{_+_, _-_, _≤_}
 use Rattle.tables.specs.Image.{card}
 use mathlib.Core.Bool.{true}
-use mathlib.Core.List.{List, _++_}
-use Rattle.engine.specs.Touch.{sgeBytes, sgeTotal, readBytes, writeBytes}
-use Rattle.engine.specs.Permit.{mappedAll, places}
-use Rattle.engine.specs.Places.{Ready}
+use mathlib.Core.List.{_++_}
+use Rattle.rules.specs.Touch.{sgeBytes, sgeTotal}
+use Rattle.engine.specs.Places.{readBytes}
+use Rattle.engine.specs.Grants.{mappedAll, places}
 use Rattle.engine.specs.Sges.{noSge}
 use Rattle.engine.specs.Moves.{Turn, turn, gathered, gather-more}
 use Rattle.engine.proofs.transfer.gather.Statement.{statement}
 use Rattle.engine.proofs.transfer.gather.Tie as tie
-use Rattle.engine.proofs.transfer.gather.Reads as reads
-use Rattle.engine.proofs.transfer.gather.Lts as lts
-use Rattle.engine.proofs.transfer.copy_out.Reads as copy-out-reads
 
 abbrev Inv-loop : tie.InvT-loop
 Inv-loop state memory count staging₀ sges i₀ at₀ staging i at =

@@ -1,14 +1,10 @@
-use mathlib.Core.Path.{_≡_, refl, sym, ap, _∙_}
 use native.Mathlib.Omega.{arith}
 use denote.Ref.{now}
 use Rattle.engine.specs.Ranges.{byte}
-use Rattle.engine.specs.Inside.{Placed, placed, Place, place}
+use Rattle.engine.specs.Inside.{placed, place}
 use borrow.Author.Needs.{needs}
 use Rattle.engine.proofs.transfer.place_of.Statement.{statement}
 use Rattle.engine.proofs.transfer.place_of.Tie as tie
-use Rattle.engine.proofs.transfer.place_of.Reads as reads
-use Rattle.engine.proofs.transfer.place_of.Lts as lts
-use Rattle.tables.proofs.image.load_mr.Reads as load-mr-reads
 
 cast-slot : tie.Need-cast-slot
 cast-slot c = search needs

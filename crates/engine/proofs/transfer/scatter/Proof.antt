@@ -1,21 +1,17 @@
-use mathlib.Core.Path.{_≡_, refl, sym, ap, _∙_}
+use mathlib.Core.Path.{_≡_, refl, _∙_}
 use native.Mathlib.Omega.{arith}
 use denote.Ref.{now}
 use lib.ListN.{length, getD, take, drop}
-use Prim.Native.Nat.{ℕ, _+_, _-_, _≤_, _<_}
+use Prim.Native.Nat.{_+_, _-_, _≤_}
 use Rattle.tables.specs.Image.{card}
 use mathlib.Core.Bool.{true}
-use mathlib.Core.List.{List, _++_}
-use Rattle.engine.specs.Touch.{sgeBytes, sgeTotal, readBytes, writeBytes}
-use Rattle.engine.specs.Permit.{mappedAll, places}
-use Rattle.engine.specs.Places.{Ready}
+use Rattle.rules.specs.Touch.{sgeBytes, sgeTotal}
+use Rattle.rules.specs.Lists.{stored}
+use Rattle.engine.specs.Grants.{mappedAll, places}
 use Rattle.engine.specs.Sges.{noSge}
 use Rattle.engine.specs.Moves.{Turn, turn, scattered, scatter-more}
 use Rattle.engine.proofs.transfer.scatter.Statement.{statement}
 use Rattle.engine.proofs.transfer.scatter.Tie as tie
-use Rattle.engine.proofs.transfer.scatter.Reads as reads
-use Rattle.engine.proofs.transfer.scatter.Lts as lts
-use Rattle.engine.proofs.transfer.copy_in.Reads as copy-in-reads
 
 abbrev Inv-loop : tie.InvT-loop
 Inv-loop state memory₀ count staging sges i₀ at₀ memory i at =
@@ -23,7 +19,7 @@ Inv-loop state memory₀ count staging sges i₀ at₀ memory i at =
     × (at + sgeTotal (drop i (take count sges)) ≡ sgeTotal (take count sges))
     × (mappedAll (card state) (sgeBytes (drop i (take count sges))) ≡ true)
     × (length memory ≡ length memory₀)
-    × (writeBytes memory (places (card state) (drop i (take count sges))) (drop at staging) ≡ writeBytes memory₀ (places (card state) (take count sges)) staging)
+    × (stored memory (places (card state) (drop i (take count sges))) (drop at staging) ≡ stored memory₀ (places (card state) (take count sges)) staging)
 
 abbrev μ-loop : tie.MeasureT-loop
 μ-loop state memory₀ count staging sges i₀ at₀ memory i at = count - i

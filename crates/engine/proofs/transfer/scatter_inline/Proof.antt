@@ -1,18 +1,12 @@
-use mathlib.Core.Path.{_≡_, refl, sym, ap, _∙_}
 use native.Mathlib.Omega.{arith}
 use denote.Ref.{now}
-use mathlib.Core.List.{List}
-use lib.ListN.{length, getD, take, drop, length-drop}
-use Prim.Native.Nat.{ℕ, _+_, _-_, _≤_, _<_}
+use lib.ListN.{take}
+use Prim.Native.Nat.{_-_}
 use Rattle.tables.specs.Image.{card}
 use Rattle.engine.specs.Moves.{inlined}
 use borrow.Author.Needs.{needs}
 use Rattle.engine.proofs.transfer.scatter_inline.Statement.{statement}
 use Rattle.engine.proofs.transfer.scatter_inline.Tie as tie
-use Rattle.engine.proofs.transfer.scatter_inline.Reads as reads
-use Rattle.engine.proofs.transfer.scatter_inline.Lts as lts
-use Rattle.engine.proofs.transfer.copy_bytes.Reads as copy-bytes-reads
-use Rattle.engine.proofs.transfer.scatter.Reads as scatter-reads
 
 slice-aggregate-copy-bytes : tie.Need-slice-aggregate-copy-bytes
 slice-aggregate-copy-bytes c = search needs

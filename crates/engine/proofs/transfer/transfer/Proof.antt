@@ -1,21 +1,16 @@
-use mathlib.Core.Path.{_≡_, refl, sym, ap, _∙_}
+use mathlib.Core.Path.{_≡_}
 use native.Mathlib.Omega.{arith}
 use denote.Ref.{now}
-use mathlib.Core.List.{List}
-use lib.ListN.{length, getD, take, drop, length-drop}
-use Prim.Native.Nat.{ℕ, _+_, _-_, _≤_, _<_}
+use lib.ListN.{length}
+use Prim.Native.Nat.{_-_}
 use Rattle.tables.specs.Image.{card}
 use lib.Dec.{eqb}
 use borrow.Author.Tests.{eqb-true}
 use Rattle.wire.specs.Scan.{and-left, and-right}
-use Rattle.engine.specs.Moves.{Message, single, single-done}
+use Rattle.engine.specs.Moves.{single, single-done}
 use borrow.Author.Needs.{needs}
 use Rattle.engine.proofs.transfer.transfer.Statement.{statement}
 use Rattle.engine.proofs.transfer.transfer.Tie as tie
-use Rattle.engine.proofs.transfer.transfer.Reads as reads
-use Rattle.engine.proofs.transfer.transfer.Lts as lts
-use Rattle.engine.proofs.transfer.transfer_many.Reads as transfer-many-reads
-use Rattle.engine.proofs.transfer.transfer_one.Reads as transfer-one-reads
 
 array-copy-out-s : tie.Need-array-copy-out-s
 array-copy-out-s c = search needs

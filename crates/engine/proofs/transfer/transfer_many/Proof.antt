@@ -1,18 +1,12 @@
-use mathlib.Core.Path.{_≡_, refl, sym, ap, _∙_}
 use native.Mathlib.Omega.{arith}
 use denote.Ref.{now}
-use mathlib.Core.List.{List}
-use lib.ListN.{length, getD, take, drop, length-drop}
-use Prim.Native.Nat.{ℕ, _+_, _-_, _≤_, _<_}
+use lib.ListN.{take}
+use Prim.Native.Nat.{_-_}
 use Rattle.tables.specs.Image.{card}
-use Rattle.engine.specs.Moves.{Message, transferred}
+use Rattle.engine.specs.Moves.{transferred}
 use borrow.Author.Needs.{needs}
 use Rattle.engine.proofs.transfer.transfer_many.Statement.{statement}
 use Rattle.engine.proofs.transfer.transfer_many.Tie as tie
-use Rattle.engine.proofs.transfer.transfer_many.Reads as reads
-use Rattle.engine.proofs.transfer.transfer_many.Lts as lts
-use Rattle.engine.proofs.transfer.gather.Reads as gather-reads
-use Rattle.engine.proofs.transfer.scatter.Reads as scatter-reads
 
 slice-aggregate-gather : tie.Need-slice-aggregate-gather
 slice-aggregate-gather c = search needs

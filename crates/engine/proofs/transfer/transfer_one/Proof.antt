@@ -1,21 +1,16 @@
-use mathlib.Core.Path.{_≡_, refl, sym, ap, _∙_}
+use mathlib.Core.Path.{_≡_}
 use native.Mathlib.Omega.{arith}
 use denote.Ref.{now}
-use mathlib.Core.List.{List}
-use lib.ListN.{length, getD, take, drop, length-drop}
-use Prim.Native.Nat.{ℕ, _+_, _-_, _≤_, _<_}
+use lib.ListN.{length}
+use Prim.Native.Nat.{_-_}
 use Rattle.tables.specs.Image.{card}
-use Rattle.engine.specs.Permit.{locate}
+use Rattle.engine.specs.Grants.{locate}
 use Rattle.engine.specs.Ranges.{byte}
-use Rattle.engine.specs.Places.{Ready, Run, runs}
-use Rattle.engine.specs.Moves.{Single, undelivered, delivered-run}
+use Rattle.engine.specs.Places.{runs}
+use Rattle.engine.specs.Moves.{undelivered, delivered-run}
 use borrow.Author.Needs.{needs}
 use Rattle.engine.proofs.transfer.transfer_one.Statement.{statement}
 use Rattle.engine.proofs.transfer.transfer_one.Tie as tie
-use Rattle.engine.proofs.transfer.transfer_one.Reads as reads
-use Rattle.engine.proofs.transfer.transfer_one.Lts as lts
-use Rattle.engine.proofs.transfer.deliver_one.Reads as deliver-one-reads
-use Rattle.engine.proofs.transfer.place_of.Reads as place-of-reads
 
 cast-n : tie.Need-cast-n
 cast-n c = search needs

@@ -1,0 +1,42 @@
+use Rattle.engine.specs.SendSettle.{put-silent, put-told}
+use denote.Ref.{now}
+use borrow.Author.Needs.{needs}
+use Rattle.engine.proofs.settle.put_sender.Statement.{statement}
+use Rattle.engine.proofs.settle.put_sender.Tie as tie
+
+returns : tie.Need-returns
+returns c = let a = c .before .before .before .before .args in put-silent (now (a .state)) (a .e) (a .s) (a .st) (a .n) (c .if1 .taken)
+
+sender-opcode-requires : tie.Need-sender-opcode-requires
+sender-opcode-requires c κs = search needs
+
+kept-if-requires : tie.Need-kept-if-requires
+kept-if-requires c κs = search needs
+
+cast-t15 : tie.Need-cast-t15
+cast-t15 c = search needs
+
+cast-push-completion : tie.Need-cast-push-completion
+cast-push-completion c = search needs
+
+push-completion-requires : tie.Need-push-completion-requires
+push-completion-requires c κs = search needs
+
+same-length : tie.Need-same-length
+same-length c = search needs
+
+returns-2 : tie.Need-returns-2
+returns-2 c = let a = c .before .before .before .before .before .before .before .before .before .before .before .before .args in rw (c .before .before .push-completion .ensures, c .before .before .before .before .before .before .kept-if .ensures, c .before .before .before .before .before .before .before .sender-opcode .ensures) (put-told (now (a .state)) (a .e) (a .s) (a .st) (a .n) (c .before .before .before .before .before .before .before .before .if1 .left))
+
+pub put-sender-spec : {M : Type 1} → statement M
+put-sender-spec =
+    tie.close
+    (tie.spec
+    returns
+    sender-opcode-requires
+    kept-if-requires
+    cast-t15
+    cast-push-completion
+    push-completion-requires
+    same-length
+    returns-2)

@@ -1,0 +1,179 @@
+-- How the tests of a sender and its peer end: one law for each answer. Assumes nothing.
+use mathlib.Core.Path.{_≡_, refl, sym, ap, _∙_}
+use mathlib.Core.Bool.{Bool, true, false, cond, not, _&&_}
+use mathlib.Core.List.{List, [], _∷_}
+use mathlib.Core.Option.{Option, none, some}
+use Prim.Native.Nat.{ℕ, _+_, _<_, _≤_}
+use native.Mathlib.Omega.{arith}
+use lib.Dec.{eqb, leb}
+use lib.ListN.{length, length-map}
+use borrow.Author.Tests.{eq-eqb, ne-eqb, eqb-true, ltb-true, leb-true}
+use Rattle.wire.specs.Ring.{ring-length}
+use Rattle.wire.specs.Scan.{and-left, and-right}
+use Rattle.wire.specs.Table.{rowAt}
+use Rattle.tables.specs.Accept.{cqLive, isState}
+use Rattle.tables.specs.Accepted.{Accepted}
+use Rattle.tables.specs.Card.{Receive}
+use Rattle.tables.specs.Image.{card, receiveOf, posted, destOf, noCompletion, noRecord, entriesAt, receivesAt}
+use Rattle.tables.specs.Layout.{cqT, qpT, waitingT}
+use Rattle.tables.specs.Limits.{cqCount, qpCount, mostPlaces, mostWaiting}
+use Rattle.tables.specs.Objects.{cq-below, cq-live, qp-out, qp-live, qp-row}
+use Rattle.tables.specs.QueueLaws.{queue-is}
+use Rattle.tables.specs.WaitingLaws.{pair-sound, waiting-is}
+use Rattle.tables.specs.declared.QueuePair.{QueuePair}
+use Rattle.tables.specs.declared.WaitingHead.{WaitingHead}
+use Rattle.rules.specs.Lists.{isEmpty, names, orElse}
+use Rattle.rules.specs.Send.{peerOf, deliveryChecks, canReceive, ready, room, hasPlaces}
+use Rattle.rules.specs.Touch.{takes}
+use Rattle.rules.specs.declared.Answer.the-variants.{Refused, Held}
+use Rattle.rules.specs.declared.Cause.the-variants.{Peer, Place}
+use Rattle.engine.specs.Send.{answers, placesBy, peerMeeting, metBy, meeting, endsAt}
+use Rattle.engine.specs.declared.meet.Ends.{Ends}
+use Rattle.engine.specs.declared.meet.Meeting.{Meeting}
+use Rattle.engine.specs.declared.meet.Meeting.the-variants.{Pairs, Stopped}
+
+empty-is : (ws : List Receive) (n : ℕ) → length ws ≡ n → isEmpty ws ≡ eqb n 0
+empty-is [] n e = sym (eq-eqb n 0 (sym e))
+empty-is (w ∷ ws) n e = sym (ne-eqb n 0 (λ z. omega arith))
+
+both-ends : (x y : Bool) (e : Ends) →
+    cond {A = Meeting} x (Stopped (Held Peer)) (cond y (Stopped (Held Place)) (Pairs e)) ≡ metBy (cond x (some 5) (cond y (some 6) none)) e
+both-ends true y e = refl
+both-ends false true e = refl
+both-ends false false e = refl
+
+-- the first three tests pass
+last-two : (t a b c d d′ e e′ : Bool) → a ≡ true → b ≡ true → c ≡ true → d ≡ d′ → e ≡ e′ →
+    cond {A = Option ℕ} (not a) (some 2) (cond (not b) (some 3) (cond (not c) (some 5) (cond (t && d) (some 5) (cond (not e) (some 6) none))))
+    ≡ cond {A = Option ℕ} (t && d′) (some 5) (cond (not e′) (some 6) none)
+last-two t a b c d d′ e e′ x y z u v = rw (x, y, z, u, v)
+
+-- destination 8 is no number of a queue pair
+names-is : (d q : ℕ) → q < qpCount → names (destOf d) q ≡ eqb d q
+names-is d q b = go (eqb d qpCount) refl
+  where
+    go : (x : Bool) → eqb d qpCount ≡ x → names (cond x none (some d)) q ≡ eqb d q
+    go true e = let z = eqb-true d qpCount e in sym (ne-eqb d q (λ y. omega arith))
+    go false e = refl
+
+pub needed-most : (b : Bool) (n : ℕ) → n ≡ cond b 2 1 → n ≤ 2
+needed-most true n e = omega arith
+needed-most false n e = omega arith
+
+-- ---- the tests of a peer that is ready
+
+module _ (l : List ℕ) (e : Ends) (o : ℕ) (t : Bool) (is : t ≡ takes o) (h : WaitingHead) (at : h ≡ rowAt waitingT l (e .own .dest)) where
+  pub none-waits : (t && eqb (h .count) 0) ≡ true → Stopped (Held Peer) ≡ peerMeeting l e o
+  none-waits x = rw (← is, ← at, x)
+
+  module _ (waits : (t && eqb (h .count) 0) ≡ false) (p : Bool)
+      (are : p ≡ placesBy (rowAt cqT l (e .own .scq)) (rowAt cqT l (e .far .rcq)) (eqb (e .own .scq) (e .far .rcq)) o) where
+    pub no-place : p ≡ false → Stopped (Held Place) ≡ peerMeeting l e o
+    no-place x = rw (← are, ← is, ← at, waits, x)
+
+    pub ends-meet : p ≡ true → Pairs e ≡ peerMeeting l e o
+    ends-meet x = rw (← are, ← is, ← at, waits, x)
+
+-- ---- the tests of both
+
+module _ (l : List ℕ) (ok : Accepted l) where
+  -- the completion queue n, which is live
+  room-is : (n k : ℕ) → cqLive (card l) n ≡ true → room (card l .cq n) k ≡ leb (rowAt cqT l n .count + k) (rowAt cqT l n .places)
+  room-is n k e =
+      let b = cq-below l n e in
+      let p = ltb-true 0 (rowAt cqT l n .places) (sym (cq-live l n b) ∙ e) in
+      rw (queue-is l ok n b (λ z. omega arith), ring-length noCompletion mostPlaces (entriesAt l n) (rowAt cqT l n .first) (rowAt cqT l n .count))
+
+  module _ (q o : ℕ) where
+    abbrev own : QueuePair
+    own = rowAt qpT l q
+
+    abbrev d : ℕ
+    d = own .dest
+
+    abbrev far : QueuePair
+    far = rowAt qpT l d
+
+    pub no-pair : qpCount ≤ q → Stopped (Refused 2) ≡ meeting l q o
+    unfolding deliveryChecks
+    no-pair h = rw (qp-out l q h)
+
+    module _ (b : q < qpCount) where
+      pub not-live : (own .live ≡ 1 → ⊥) → Stopped (Refused 2) ≡ meeting l q o
+      unfolding deliveryChecks
+      not-live h = rw (qp-live l q b, ne-eqb (own .live) 1 h)
+
+      module _ (live : own .live ≡ 1) where
+        pub not-ready-to-send : (own .state ≡ 3 → ⊥) → Stopped (Refused 3) ≡ meeting l q o
+        unfolding deliveryChecks
+        not-ready-to-send h = rw (qp-row l q b live, ne-eqb (own .state) 3 h)
+
+        module _ (sending : own .state ≡ 3) where
+          pub no-destination : qpCount ≤ d → Stopped (Held Peer) ≡ meeting l q o
+          unfolding deliveryChecks
+          no-destination h =
+              let s = pair-sound l ok q b live in
+              let x : Bool = leb (own .signal) 1 && isState (own .state) in
+              let k = leb-true d qpCount (and-right x (leb d qpCount) (and-left (x && leb d qpCount) (not (eqb d q)) (s .limits))) in
+              let z : d ≡ qpCount = omega arith in
+              rw (qp-row l q b live, eq-eqb (own .state) 3 sending, z)
+
+          module _ (h : d < qpCount) where
+            ready-is : ready (card l) q (some d) ≡ answers far q
+            ready-is = go (eqb (far .live) 1) refl
+              where
+                go : (x : Bool) → eqb (far .live) 1 ≡ x → ready (card l) q (some d) ≡ answers far q
+                go true e = rw (qp-row l d h (eqb-true (far .live) 1 e), e, names-is (far .dest) q b)
+                go false e = rw (qp-live l d h, e)
+
+            pub peer-not-ready : answers far q ≡ false → Stopped (Held Peer) ≡ meeting l q o
+            unfolding deliveryChecks
+            peer-not-ready a = rw (qp-row l q b live, eq-eqb (own .state) 3 sending, ne-eqb d qpCount (λ z. omega arith), ready-is, a)
+
+            module _ (a : answers far q ≡ true) where
+              pub far-live : far .live ≡ 1
+              far-live =
+                  eqb-true (far .live) 1
+                  (and-left (eqb (far .live) 1) (canReceive (far .state)) (and-left (eqb (far .live) 1 && canReceive (far .state)) (eqb (far .dest) q) a))
+
+              pub send-queue : own .scq < cqCount
+              send-queue = cq-below l (own .scq) (pair-sound l ok q b live .sends)
+
+              pub receive-queue : far .rcq < cqCount
+              receive-queue = cq-below l (far .rcq) (pair-sound l ok d h far-live .receives)
+
+              waits-is : isEmpty (card l .qp d .waiting) ≡ eqb (rowAt waitingT l d .count) 0
+              waits-is =
+                  empty-is (card l .qp d .waiting) (rowAt waitingT l d .count)
+                  (ap (λ (ws : List Receive). length ws) (waiting-is l ok d h far-live) ∙ length-map (posted (rowAt waitingT l d) (receivesAt l d)) receiveOf
+                  ∙ ring-length noRecord mostWaiting (receivesAt l d) (rowAt waitingT l d .first) (rowAt waitingT l d .count))
+
+              places-are : hasPlaces (card l) q d o ≡ placesBy (rowAt cqT l (own .scq)) (rowAt cqT l (far .rcq)) (eqb (own .scq) (far .rcq)) o
+              places-are =
+                  rw (
+                    qp-row l q b live,
+                    qp-row l d h far-live,
+                    room-is (own .scq) (cond (takes o && eqb (own .scq) (far .rcq)) 2 1) (pair-sound l ok q b live .sends),
+                    room-is (far .rcq) 1 (pair-sound l ok d h far-live .receives),
+                  )
+
+              dest-is : card l .qp q .dest ≡ some d
+              dest-is = rw (qp-row l q b live, ne-eqb d qpCount (λ z. omega arith))
+
+              pub peer-is : peerOf (card l) q ≡ d
+              peer-is = ap (λ (x : Option ℕ). orElse x qpCount) dest-is
+
+              pub met : peerMeeting l (endsAt l q) o ≡ meeting l q o
+              unfolding deliveryChecks
+              met =
+                  both-ends (takes o && eqb (rowAt waitingT l d .count) 0)
+                  (not (placesBy (rowAt cqT l (own .scq)) (rowAt cqT l (far .rcq)) (eqb (own .scq) (far .rcq)) o)) (endsAt l q)
+                  ∙ ap (λ (x : Option ℕ). metBy x (endsAt l q))
+                  (sym (last-two (takes o) (card l .qp q .live) (eqb (card l .qp q .state) 3) (ready (card l) q (card l .qp q .dest))
+                  (isEmpty (card l .qp (peerOf (card l) q) .waiting)) (eqb (rowAt waitingT l d .count) 0) (hasPlaces (card l) q (peerOf (card l) q) o)
+                  (placesBy (rowAt cqT l (own .scq)) (rowAt cqT l (far .rcq)) (eqb (own .scq) (far .rcq)) o)
+                  (qp-live l q b ∙ eq-eqb (own .live) 1 live)
+                  (rw (qp-row l q b live) (eq-eqb (own .state) 3 sending))
+                  (ap (ready (card l) q) dest-is ∙ ready-is ∙ a)
+                  (ap (λ (n : ℕ). isEmpty (card l .qp n .waiting)) peer-is ∙ waits-is)
+                  (ap (λ (n : ℕ). hasPlaces (card l) q n o) peer-is ∙ places-are)))

@@ -1,0 +1,29 @@
+-- The message of a post send that succeeds: what the move asks, and that it leaves the memory that the rules say. Assumes nothing.
+use mathlib.Core.Path.{_≡_}
+use mathlib.Core.Bool.{false}
+use mathlib.Core.List.{List}
+use Prim.Native.Nat.{ℕ}
+use native.Mathlib.Omega.{arith}
+use Rattle.tables.specs.Card.{Card}
+use Rattle.tables.specs.declared.SendRecord.{SendRecord}
+use Rattle.tables.specs.declared.Sge.{Sge}
+use Rattle.tables.specs.Records.{isInline}
+use Rattle.engine.specs.Moves.{Message}
+use Rattle.engine.specs.Send.{Carries}
+
+module _ (c : Card) (s : SendRecord) (x : List ℕ) (own far : List Sge) (n : ℕ) (k : Carries c s x own far n) (e : isInline s ≡ false) where
+  pub there : Message c own far
+  there =
+      let h = k .plain e in
+      let t = k .total in
+      let m = k .most in
+      let o = h .1 in
+      record { sources = h .0; targets = k .target; total = omega arith; most = omega arith }
+
+  pub back : Message c far own
+  back =
+      let h = k .plain e in
+      let t = k .total in
+      let m = k .most in
+      let o = h .1 in
+      record { sources = k .target; targets = h .0; total = omega arith; most = omega arith }

@@ -1,0 +1,358 @@
+-- A post send that passed all tests: the message, its status and the memory after it, from the record and the rows, are the rules'.
+-- Assumes nothing.
+use mathlib.Core.Path.{_≡_, refl, sym, ap, ap₂, subst, _∙_}
+use mathlib.Core.Bool.{Bool, true, false, cond, not, _&&_, false≢true}
+use mathlib.Core.List.{List, [], _∷_, map, append-nil}
+use mathlib.Core.Option.{none, some}
+use Prim.Native.Nat.{ℕ, zero, suc, _+_, _*_, _%_, _-_, _≤_, _<_}
+use native.Mathlib.Omega.{arith}
+use lib.Dec.{eqb, ltb, leb}
+use lib.ListN.{length, getD, take, drop, length-drop}
+use lib.Seq.{length-take-le}
+use borrow.Author.Tests.{eqb-true, leb-true, le-leb, lt-leb, ltb-false, not-false}
+use Rattle.wire.specs.Checks.{refusal, Passed, passed}
+use Rattle.wire.specs.Ring.{ringList, ring-pop}
+use Rattle.wire.specs.Rows.{rowsFrom, rows}
+use Rattle.wire.specs.Scan.{all, and-left, and-right}
+use Rattle.wire.specs.Table.{rowAt}
+use Rattle.tables.specs.Accept.{accepts, receiveOk}
+use Rattle.tables.specs.Accepted.{Accepted, accepted}
+use Rattle.tables.specs.Card.{Card, Qp, Receive, noReceive}
+use Rattle.tables.specs.Image.{card, receiveOf, liveQp, noRecord, posted, receivesAt}
+use Rattle.tables.specs.Layout.{qpT, waitingT, receiveT}
+use Rattle.tables.specs.Limits.{qpCount, mostWaiting, mostMessage, mostInline, mostSges, mostReceiveSges}
+use Rattle.tables.specs.Objects.{qp-below, qp-row, receive-at}
+use Rattle.tables.specs.Reading.{inline-length, inline-part}
+use Rattle.tables.specs.Records.{isSignaled, isInline, inlineLength, inlineBytes, sendCodec, sendChecks, sendSge, receiveSges}
+use Rattle.tables.specs.WaitingLaws.{pair-sound, first-is}
+use Rattle.tables.specs.declared.QueuePair.{QueuePair}
+use Rattle.tables.specs.declared.ReceiveRecord.{ReceiveRecord}
+use Rattle.tables.specs.declared.SendRecord.{SendRecord}
+use Rattle.tables.specs.declared.Sge.{Sge}
+use Rattle.tables.specs.declared.WaitingHead.{WaitingHead}
+use Rattle.rules.specs.Lists.{isEmpty, orElse, stored}
+use Rattle.rules.specs.Permit.{Use, permitsAll, place}
+use Rattle.rules.specs.Send.{peerOf, takenBy, deliveryChecks, ownUse, farUse, statusBy, sendStatus, sendMemory}
+use Rattle.rules.specs.Touch.{Request, Byte, requestOf, takes, fills, reads, range, sgeBytes, sgeTotal, total, ownBytes, farBytes, message, delivered}
+use Rattle.rules.proofs.Runs.{cut, cut-bytes, values-at}
+use Rattle.engine.specs.Bridge.{maskOf, allowed-all, placed-all}
+use Rattle.engine.specs.Grants.{allowsAll, places}
+use Rattle.engine.specs.Places.{moved}
+use Rattle.engine.specs.Send.{bare, endsAt, ownMask, farMask, ownBy, farList, totalBy, takenRow, Posted, Sending, statusIn, carried}
+use Rattle.engine.specs.SendCard.{row-live, some-wait}
+use Rattle.engine.specs.SendLimits.{Going, going}
+
+-- ---- the record
+
+-- the request of a record that s begins
+abbrev pub requestBy : SendRecord → List ℕ → Request
+requestBy s x =
+    record {
+      wr = s .wr;
+      opcode = s .opcode;
+      signaled = isSignaled s;
+      inline = isInline s;
+      bytes = inlineBytes x;
+      imm = s .imm;
+      address = s .address;
+      key = s .key;
+      sges = rows (s .count) (sendSge x);
+    }
+
+-- what its tests tell
+pub record Told (x : List ℕ) (s : SendRecord) : Type 0 where
+  pub request : requestOf x ≡ requestBy s x
+  pub plain : isInline s ≡ false → s .count ≤ 4
+  pub short : isInline s ≡ true → (s .count % 65536 ≤ mostInline) × (length (take (s .count % 65536) (drop 48 x)) ≡ s .count % 65536)
+  pub bytes : inlineBytes x ≡ take (s .count % 65536) (drop 48 x)
+  pub there : isInline s ≡ true → reads (s .opcode) ≡ false
+
+and-no : (a b : Bool) → (a && b) ≡ false → a ≡ true → b ≡ false
+and-no true b e f = e
+and-no false b e f = absurd (false≢true f)
+
+exact : (x : List ℕ) (n : ℕ) (b : Bool) → not (eqb (length x) (cond b 576 n)) ≡ false → b ≡ true → length x ≡ 576
+exact x n true e i = eqb-true (length x) 576 (not-false (eqb (length x) 576) e)
+exact x n false e i = absurd (false≢true i)
+
+told-read : (x : List ℕ) → refusal (sendChecks x) ≡ none → Told x (sendCodec .read x 0)
+unfolding sendChecks requestOf
+told-read x g =
+    let s : SendRecord = sendCodec .read x 0 in
+    let p = passed (sendChecks x) g in
+    let w = inline-length x in
+    record {
+      request = refl;
+      plain = λ i. ltb-false 4 (s .count) (and-no (not (isInline s)) (ltb mostSges (s .count)) (p .1 .1 .1 .1 .1 .0) (rw i));
+      short =
+          λ i. (let h : inlineLength x ≤ mostInline = ltb-false mostInline (inlineLength x) (and-no (isInline s) (ltb mostInline (inlineLength x)) (p .1 .1 .1 .1 .0) i) in
+          let z : length x ≡ 576 = exact x (576 + 16 * s .count) (isInline s) (p .1 .1 .1 .1 .1 .1 .0) i in
+          let y : s .count % 65536 ≤ mostInline = omega arith in
+          (y, length-take-le (s .count % 65536) (drop 48 x) (simp length-drop (omega arith))));
+      bytes = sym (inline-part x);
+      there = λ i. and-no (isInline s) (eqb (s .opcode) 4) (p .1 .1 .1 .0) i;
+    }
+
+pub told : (x : List ℕ) (s : SendRecord) → Posted x s → Told x s
+told x s p = subst (Told x) (sym (p .head)) (told-read x (p .good))
+
+-- ---- the entries of the record
+
+take-from : {A : Type 0} (n m k : ℕ) (f : ℕ → A) → n ≤ m → take n (rowsFrom m k f) ≡ rowsFrom n k f
+unfolding rowsFrom
+take-from zero m k f h = refl
+take-from (suc n) zero k f h = absurd (omega arith)
+take-from {A} (suc n) (suc m) k f h = ap (λ (l : List A). f k ∷ l) (take-from n m (k + 1) f (omega arith))
+
+module _ (x : List ℕ) (s : SendRecord) (t : Told x s) where
+  abbrev pub entries : List Sge
+  entries = rows mostSges (sendSge x)
+
+  entries-are : isInline s ≡ false → take (s .count) entries ≡ rows (s .count) (sendSge x)
+  unfolding rows
+  entries-are i = take-from (s .count) mostSges 0 (sendSge x) (t .plain i)
+
+  pub total-is : total (requestBy s x) ≡ totalBy s entries
+  unfolding total
+  total-is = go (isInline s) refl
+    where
+      go : (b : Bool) → isInline s ≡ b → cond b (length (inlineBytes x)) (sgeTotal (rows (s .count) (sendSge x))) ≡ cond b (s .count % 65536) (sgeTotal (take (s .count) entries))
+      go true i = ap (λ (l : List ℕ). length l) (t .bytes) ∙ t .short i .1
+      go false i = ap sgeTotal (sym (entries-are i))
+
+  own-are : ownBytes (requestBy s x) ≡ ownBy s entries
+  unfolding ownBytes
+  own-are = go (isInline s) refl
+    where
+      go : (b : Bool) → isInline s ≡ b → cond b [] (sgeBytes (rows (s .count) (sendSge x))) ≡ cond b [] (sgeBytes (take (s .count) entries))
+      go true i = refl
+      go false i = ap sgeBytes (sym (entries-are i))
+
+  pub sending : totalBy s entries ≤ mostMessage → Sending s x entries (totalBy s entries)
+  sending h =
+      record {
+        plain = t .plain;
+        total = refl;
+        most = h;
+        short = λ i. (let z : totalBy s entries ≡ s .count % 65536 = rw i in rw z (t .short i));
+      }
+
+-- ---- the peer's side
+
+own-mask : (b : Bool) → maskOf (cond b Use.localWrite Use.localRead) ≡ cond b 1 0
+own-mask true = refl
+own-mask false = refl
+
+far-mask : (f b : Bool) → maskOf (cond f Use.localWrite (cond b Use.remoteRead Use.remoteWrite)) ≡ cond f 1 (cond b 4 2)
+far-mask true b = refl
+far-mask false true = refl
+far-mask false false = refl
+
+fills-takes : (o : ℕ) → fills o ≡ true → takes o ≡ true
+fills-takes o e =
+    let h = leb-true 2 o (and-left (leb 2 o) (leb o 3) e) in
+    rw (le-leb 1 o (omega arith), and-right (leb 2 o) (leb o 3) e)
+
+-- the test whether the message fits counts for a receive that it fills only
+fit-or : (f a b x y z : Bool) → (f ≡ true → x ≡ y) → statusBy f a b x z ≡ statusBy f a b y z
+fit-or true a b x y z h = rw (h refl)
+fit-or false a b x y z h = refl
+
+zero-means : (f b x z : Bool) → statusBy f true b x z ≡ 0 → (b ≡ true) × (z ≡ true)
+zero-means f false x z e = absurd (omega arith)
+zero-means f true x true e = (refl, refl)
+zero-means true true true false e = absurd (omega arith)
+zero-means true true false false e = absurd (omega arith)
+zero-means false true x false e = absurd (omega arith)
+
+all-first : (w : ReceiveRecord) (ws : List ReceiveRecord) → all receiveOk (w ∷ ws) ≡ true → w .count ≤ 2
+unfolding all
+all-first w ws e = leb-true (w .count) mostReceiveSges (and-left (receiveOk w) (all receiveOk ws) e)
+
+-- ---- two queue pairs that passed the tests
+
+module _ (l : List ℕ) (a : accepts l ≡ true) (q : ℕ) (x : List ℕ) (s : SendRecord) (t : Told x s)
+    (good : refusal (deliveryChecks (card l) q (bare (s .opcode))) ≡ none) where
+  abbrev c : Card
+  c = card l
+
+  abbrev o : ℕ
+  o = s .opcode
+
+  abbrev r : Request
+  r = requestBy s x
+
+  abbrev own : QueuePair
+  own = rowAt qpT l q
+
+  abbrev d : ℕ
+  d = own .dest
+
+  abbrev far : QueuePair
+  far = rowAt qpT l d
+
+  abbrev w : ReceiveRecord
+  w = takenRow l d o
+
+  abbrev n : ℕ
+  n = totalBy s (entries x s t)
+
+  pub ok : Accepted l
+  ok = accepted l a
+
+  pub tests : Passed (deliveryChecks c q r)
+  unfolding deliveryChecks
+  tests = passed (deliveryChecks c q (bare o)) good
+
+  pub goes : Going c q o
+  goes = going c q r tests
+
+  pub own-below : q < qpCount
+  own-below = qp-below l q (goes .live)
+
+  own-live : own .live ≡ 1
+  own-live = row-live l ok q (goes .live)
+
+  pub own-is : c .qp q ≡ liveQp own (rowAt waitingT l q) (receivesAt l q)
+  own-is = qp-row l q own-below own-live
+
+  pub peer-is : peerOf c q ≡ d
+  peer-is = ap (λ (k : Qp). orElse (k .dest) qpCount) own-is ∙ go (eqb d qpCount) refl
+    where
+      go : (b : Bool) → eqb d qpCount ≡ b → orElse (cond b none (some d)) qpCount ≡ d
+      go true e = sym (eqb-true d qpCount e)
+      go false e = refl
+
+  pub peer-live : c .qp d .live ≡ true
+  peer-live = subst (λ (k : ℕ). c .qp k .live ≡ true) peer-is (goes .peer)
+
+  pub far-below : d < qpCount
+  far-below = qp-below l d peer-live
+
+  far-live : far .live ≡ 1
+  far-live = row-live l ok d peer-live
+
+  pub far-is : c .qp d ≡ liveQp far (rowAt waitingT l d) (receivesAt l d)
+  far-is = qp-row l d far-below far-live
+
+  pub first-below : rowAt waitingT l d .first < mostWaiting
+  first-below = pair-sound l ok d far-below far-live .first
+
+  waiting-some : takes o ≡ true → 0 < rowAt waitingT l d .count
+  waiting-some i = some-wait l ok d peer-live (ap (λ (k : ℕ). isEmpty (c .qp k .waiting)) (sym peer-is) ∙ goes .waits i)
+
+  -- the receive that is taken
+  pub taken-is : takes o ≡ true → takenBy c q ≡ receiveOf w
+  taken-is i = ap (λ (k : ℕ). getD (c .qp k .waiting) 0 noReceive) peer-is ∙ first-is l ok d far-below far-live (waiting-some i) ∙ rw i
+
+  pub taken-count : w .count ≤ 2
+  taken-count = go (takes o) refl
+    where
+      go : (b : Bool) → takes o ≡ b → (cond {A = ReceiveRecord} b (rowAt receiveT l (mostWaiting * d + rowAt waitingT l d .first)) noRecord) .count ≤ 2
+      go true i =
+          let h : WaitingHead = rowAt waitingT l d in
+          let y = pair-sound l ok d far-below far-live .waiting in
+          let z : posted h (receivesAt l d) ≡ getD (receivesAt l d) (h .first) noRecord ∷ ringList noRecord mostWaiting (receivesAt l d) ((h .first + 1) % mostWaiting) (h .count - 1) =
+          ring-pop noRecord mostWaiting (receivesAt l d) (h .first) (h .count) (waiting-some i) in
+          let u = all-first (getD (receivesAt l d) (h .first) noRecord) (ringList noRecord mostWaiting (receivesAt l d) ((h .first + 1) % mostWaiting) (h .count - 1)) (ap (all receiveOk) (sym z) ∙ y) in
+          subst (λ (k : ReceiveRecord). k .count ≤ 2) (receive-at l d (h .first) first-below) u
+      go false i = omega arith
+
+  -- ---- the status
+
+  abbrev mine : Bool
+  mine = allowsAll c (own .pd) (ownMask o) (ownBy s (entries x s t))
+
+  abbrev fit : Bool
+  fit = leb n (sgeTotal (receiveSges w))
+
+  abbrev theirs : Bool
+  theirs = allowsAll c (far .pd) (farMask o) (sgeBytes (farList s w n))
+
+  mine-is : permitsAll c q (ownUse o) (ownBytes r) ≡ mine
+  mine-is =
+      sym (allowed-all c q (ownUse o) (ownBytes r))
+      ∙ ap (λ (k : Qp). allowsAll c (k .pd) (maskOf (ownUse o)) (ownBytes r)) own-is
+      ∙ ap₂ (λ (k : ℕ) (b : List Byte). allowsAll c (own .pd) k b) (own-mask (reads o)) (own-are x s t)
+
+  far-are : farBytes r (takenBy c q) ≡ sgeBytes (farList s w n)
+  unfolding farBytes receiveOf sgeBytes
+  far-are = go (fills o) refl
+    where
+      go : (b : Bool) → fills o ≡ b → cond b (take (total r) (sgeBytes (takenBy c q .sges))) (range (s .address) (s .key) (total r))
+          ≡ sgeBytes (cond b (cut n (receiveSges w)) (record { address = s .address; length = n; key = s .key } ∷ []))
+      go true i =
+          ap₂ (λ (k : ℕ) (v : Receive). take k (sgeBytes (v .sges))) (total-is x s t) (taken-is (fills-takes o i)) ∙ sym (cut-bytes n (receiveSges w))
+      go false i = ap (range (s .address) (s .key)) (total-is x s t) ∙ sym (append-nil (range (s .address) (s .key) n))
+
+  theirs-is : permitsAll c (peerOf c q) (farUse o) (farBytes r (takenBy c q)) ≡ theirs
+  theirs-is =
+      ap (λ (k : ℕ). permitsAll c k (farUse o) (farBytes r (takenBy c q))) peer-is
+      ∙ sym (allowed-all c d (farUse o) (farBytes r (takenBy c q)))
+      ∙ ap (λ (k : Qp). allowsAll c (k .pd) (maskOf (farUse o)) (farBytes r (takenBy c q))) far-is
+      ∙ ap₂ (λ (k : ℕ) (b : List Byte). allowsAll c (far .pd) k b) (far-mask (fills o) (reads o)) far-are
+
+  pub fit-is : takes o ≡ true → leb (total r) (sgeTotal (takenBy c q .sges)) ≡ fit
+  unfolding receiveOf
+  fit-is i = ap₂ (λ (k : ℕ) (v : Receive). leb k (sgeTotal (v .sges))) (total-is x s t) (taken-is i)
+
+  pub status-is : sendStatus c q r ≡ statusBy (fills o) (leb n mostMessage) mine fit theirs
+  unfolding sendStatus
+  status-is =
+      rw (mine-is, theirs-is)
+      (ap (λ (k : ℕ). statusBy (fills o) (leb k mostMessage) mine (leb (total r) (sgeTotal (takenBy c q .sges))) theirs) (total-is x s t)
+      ∙ fit-or (fills o) (leb n mostMessage) mine (leb (total r) (sgeTotal (takenBy c q .sges))) fit theirs (λ i. fit-is (fills-takes o i)))
+
+  pub too-long : mostMessage < n → 1 ≡ sendStatus c q r
+  too-long h = sym (status-is ∙ rw (lt-leb n mostMessage h))
+
+  pub status-within : n ≤ mostMessage → statusIn l (endsAt l q) s (entries x s t) w n ≡ sendStatus c q r
+  status-within h = sym (status-is ∙ rw (le-leb n mostMessage h))
+
+  -- ---- the memory
+
+  module _ (m : List ℕ) where
+    pub long-memory : mostMessage < n → m ≡ sendMemory c q r m
+    unfolding sendMemory
+    long-memory h = rw (← too-long h)
+
+    abbrev mem : List ℕ
+    mem = carried c s x (take (s .count) (entries x s t)) (farList s w n) n m
+
+    far-places : theirs ≡ true → map (place c) (farBytes r (takenBy c q)) ≡ places c (farList s w n)
+    far-places j = ap (map (place c)) far-are ∙ placed-all c (far .pd) (farMask o) (sgeBytes (farList s w n)) j
+
+    own-places : isInline s ≡ false → mine ≡ true → map (place c) (ownBytes r) ≡ places c (take (s .count) (entries x s t))
+    own-places i j =
+        let e : ownBytes r ≡ sgeBytes (take (s .count) (entries x s t)) = own-are x s t ∙ rw i in
+        ap (map (place c)) e ∙ placed-all c (own .pd) (ownMask o) (sgeBytes (take (s .count) (entries x s t))) (rw i at j)
+
+    both-ways : (b : Bool) (f g : List Byte) (ps qs : List ℕ) → map (place c) f ≡ ps → map (place c) g ≡ qs →
+        cond b (moved m ps qs) (moved m qs ps) ≡ stored m (map (place c) (cond b g f)) (map (λ k. getD m (place c k) 0) (cond b f g))
+    unfolding moved
+    both-ways true f g ps qs i j = rw (values-at (place c) m f, i, j)
+    both-ways false f g ps qs i j = rw (values-at (place c) m g, i, j)
+
+    pub moved-is : mine ≡ true → theirs ≡ true → mem ≡ delivered (place c) r (takenBy c q) m
+    unfolding delivered message
+    moved-is i j = go (isInline s) refl
+      where
+        go : (b : Bool) → isInline s ≡ b →
+            cond b (stored m (places c (farList s w n)) (take n (drop 48 x)))
+            (cond (reads o) (moved m (places c (farList s w n)) (places c (take (s .count) (entries x s t)))) (moved m (places c (take (s .count) (entries x s t))) (places c (farList s w n))))
+            ≡ stored m (map (place c) (cond (reads o) (ownBytes r) (farBytes r (takenBy c q))))
+            (cond b (inlineBytes x) (map (λ k. getD m (place c k) 0) (cond (reads o) (farBytes r (takenBy c q)) (ownBytes r))))
+        go true k =
+            let z : n ≡ s .count % 65536 = rw k in
+            rw (t .there k, far-places j, t .bytes, z)
+        go false k = both-ways (reads o) (farBytes r (takenBy c q)) (ownBytes r) (places c (farList s w n)) (places c (take (s .count) (entries x s t))) (far-places j) (own-places k i)
+
+    pub memory-is : n ≤ mostMessage → (st : ℕ) → st ≡ sendStatus c q r → cond (eqb st 0) mem m ≡ sendMemory c q r m
+    unfolding sendMemory
+    memory-is h st e = rw (← e) (go (eqb st 0) refl)
+      where
+        go : (b : Bool) → eqb st 0 ≡ b → cond b mem m ≡ cond b (delivered (place c) r (takenBy c q) m) m
+        go true i =
+            let y = zero-means (fills o) mine fit theirs (status-within h ∙ sym e ∙ eqb-true st 0 i) in
+            moved-is (y .0) (y .1)
+        go false i = refl

@@ -1,0 +1,107 @@
+-- Steps 3 to 6: how the code ends with each status, and that the status and the memory are the rules'. Assumes nothing.
+use mathlib.Core.Path.{_≡_, refl, sym, ap, ap₂, _∙_}
+use mathlib.Core.Bool.{Bool, true, false, cond, not, _||_, false≢true}
+use mathlib.Core.List.{List, [], _∷_}
+use Prim.Native.Nat.{ℕ, _≤_}
+use native.Mathlib.Nat.{add-zero}
+use native.Mathlib.Omega.{arith}
+use lib.Dec.{eqb, leb}
+use lib.ListN.{length, take}
+use borrow.Author.Tests.{leb-true}
+use Rattle.tables.specs.Image.{card}
+use Rattle.tables.specs.Records.{receiveSges}
+use Rattle.tables.specs.declared.ReceiveRecord.{ReceiveRecord}
+use Rattle.tables.specs.declared.SendRecord.{SendRecord}
+use Rattle.tables.specs.declared.Sge.{Sge}
+use Rattle.rules.specs.Send.{statusBy}
+use Rattle.rules.specs.Touch.{fills, sgeBytes, sgeTotal}
+use Rattle.rules.proofs.Runs.{cut, cut-total}
+use Rattle.engine.specs.Grants.{allowsAll}
+use Rattle.engine.specs.Ranges.{permitted-mapped-all}
+use Rattle.engine.specs.Send.{ownMask, farMask, ownBy, farList, farCount, Sending, Delivery, Carries, carried}
+use Rattle.engine.specs.declared.meet.Ends.{Ends}
+
+-- ---- the order of the tests
+
+long-status : (f t z : Bool) → (not f || t) ≡ false → 7 ≡ statusBy f true true t z
+long-status true true z e = absurd (false≢true (sym e))
+long-status true false z e = refl
+long-status false t z e = absurd (false≢true (sym e))
+
+far-status : (f t : Bool) → (not f || t) ≡ true → cond f 7 8 ≡ statusBy f true true t false
+far-status true true e = refl
+far-status true false e = absurd (false≢true e)
+far-status false t e = refl
+
+done-status : (f t : Bool) → (not f || t) ≡ true → 0 ≡ statusBy f true true t true
+done-status true true e = refl
+done-status true false e = absurd (false≢true e)
+done-status false t e = refl
+
+unmoved : (f : Bool) (x m : List ℕ) → m ≡ cond (eqb (cond f 7 8) 0) x m
+unmoved true x m = refl
+unmoved false x m = refl
+
+pub count-most : (o : ℕ) (w : ReceiveRecord) → w .count ≤ 2 → (n : ℕ) → n ≡ farCount o w → n ≤ 4
+count-most o w h n e = go (fills o) e
+  where
+    go : (f : Bool) → n ≡ cond f (w .count) 1 → n ≤ 4
+    go true i = omega arith
+    go false i = omega arith
+
+-- ---- each ending
+
+module _ (l m : List ℕ) (e : Ends) (s : SendRecord) (x : List ℕ) (sges : List Sge) (w : ReceiveRecord) (n : ℕ) where
+  abbrev o : ℕ
+  o = s .opcode
+
+  abbrev pub mine : Bool
+  mine = allowsAll (card l) (e .own .pd) (ownMask o) (ownBy s sges)
+
+  abbrev pub fit : Bool
+  fit = leb n (sgeTotal (receiveSges w))
+
+  abbrev pub theirs : Bool
+  theirs = allowsAll (card l) (e .far .pd) (farMask o) (sgeBytes (farList s w n))
+
+  pub judged : (mask : ℕ) (list : List Sge) (b : Bool) → b ≡ allowsAll (card l) (e .far .pd) mask (sgeBytes list) → mask ≡ farMask o → list ≡ farList s w n → b ≡ theirs
+  judged mask list b i j k =
+      i ∙ ap₂ (λ (y : ℕ) (z : List Sge). allowsAll (card l) (e .far .pd) y (sgeBytes z)) j k
+
+  pub own-refused : mine ≡ false → Delivery l m e s x sges w n 3 m
+  own-refused h = record { status = rw h; memory = refl }
+
+  module _ (h : mine ≡ true) where
+    pub too-much : (not (fills o) || fit) ≡ false → Delivery l m e s x sges w n 7 m
+    too-much k = record { status = rw h (long-status (fills o) fit theirs k); memory = refl }
+
+    module _ (k : (not (fills o) || fit) ≡ true) where
+      pub far-refused : (st : ℕ) → st ≡ cond (fills o) 7 8 → theirs ≡ false → Delivery l m e s x sges w n st m
+      far-refused st i z =
+          record {
+            status = rw (h, z) (i ∙ far-status (fills o) fit k);
+            memory = rw i (unmoved (fills o) (carried (card l) s x (take (s .count) sges) (farList s w n) n m) m);
+          }
+
+      module _ (z : theirs ≡ true) (list : List Sge) (is : list ≡ farList s w n) where
+        pub all-moved : (m′ : List ℕ) → m′ ≡ carried (card l) s x (take (s .count) sges) list n m → Delivery l m e s x sges w n 0 m′
+        all-moved m′ i =
+            record {
+              status = rw (h, z) (done-status (fills o) fit k);
+              memory = i ∙ ap (λ (y : List Sge). carried (card l) s x (take (s .count) sges) y n m) is;
+            }
+
+        far-total : (f : Bool) → (not f || fit) ≡ true → sgeTotal (cond f (cut n (receiveSges w)) (record { address = s .address; length = n; key = s .key } ∷ [])) ≡ n
+        unfolding sgeTotal
+        far-total true i = cut-total n (receiveSges w) (leb-true n (sgeTotal (receiveSges w)) i)
+        far-total false i = add-zero n
+
+        pub carries : Sending s x sges n → Carries (card l) s x (take (s .count) sges) list n
+        carries y =
+            record {
+              most = y .most;
+              target = permitted-mapped-all (card l) (e .far .pd) (farMask o) (sgeBytes list) (rw is z);
+              total = rw is (far-total (fills o) k);
+              plain = λ i. (permitted-mapped-all (card l) (e .own .pd) (ownMask o) (sgeBytes (take (s .count) sges)) (rw i at h), rw i at (y .total));
+              short = y .short;
+            }

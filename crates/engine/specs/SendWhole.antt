@@ -1,0 +1,173 @@
+-- A post send that passed all tests: what the stores ask, and that they leave the bytes that the rules' card needs. Assumes nothing.
+use mathlib.Core.Path.{_≡_, refl, sym, ap, ap₂, subst, _∙_}
+use mathlib.Core.Bool.{Bool, true, false, cond, not, _||_, false≢true}
+use mathlib.Core.List.{List, [], _∷_, _++_}
+use mathlib.Core.Option.{none}
+use Prim.Native.Nat.{ℕ, _+_, _^_, _≤_, _<_}
+use native.Mathlib.Omega.{arith}
+use lib.Dec.{eqb}
+use lib.ListN.{length}
+use Rattle.wire.specs.Checks.{refusal}
+use Rattle.wire.specs.Scan.{and-left, and-right}
+use Rattle.wire.specs.Fields.{Fit}
+use Rattle.wire.specs.Table.{rowAt}
+use Rattle.tables.specs.Accept.{accepts}
+use Rattle.tables.specs.Accepted.{Accepted}
+use Rattle.tables.specs.Card.{Card, Qp, withCq}
+use Rattle.tables.specs.Image.{card, receiveOf}
+use Rattle.tables.specs.Layout.{cqT, qpT, waitingT}
+use Rattle.tables.specs.Limits.{mostPlaces}
+use Rattle.tables.specs.QueueLaws.{queue-sound}
+use Rattle.tables.specs.Records.{sendCodec}
+use Rattle.tables.specs.declared.ReceiveRecord.{ReceiveRecord}
+use Rattle.tables.specs.declared.SendRecord.{SendRecord}
+use Rattle.rules.specs.Send.{Put, deliveryChecks, sendStatus, consumes, sendPuts, senderPut, receiverPut, putAll, pushed}
+use Rattle.rules.specs.Touch.{Request, requestOf, takes, total}
+use Rattle.engine.specs.Bytes.{pushAll, errorBytes, sendBytes}
+use Rattle.engine.specs.Send.{bare, endsAt, takenRow, senderEntry, receiverEntry, putFirst, putSecond, putBytes, failedBytes, settled, Settling}
+use Rattle.engine.specs.SendCard.{Stands, CanAll, Open, opened, push-all}
+use Rattle.engine.specs.SendDone.{can-put, send-open, waits-then, send-fits}
+use Rattle.engine.specs.SendRequest.{requestBy, Told, entries, ok, tests, own-below, own-is, peer-is, far-below, far-is, taken-is, taken-count}
+use Rattle.engine.specs.declared.meet.Ends.{Ends}
+
+-- ---- completions in two parts
+
+push-join : (ps qs : List Put) (l : List ℕ) → pushAll l (ps ++ qs) ≡ pushAll (pushAll l ps) qs
+unfolding pushAll
+push-join [] qs l = refl
+push-join (p ∷ ps) qs l = push-join ps qs _
+
+can-first : (ps qs : List Put) (c : Card) → CanAll c (ps ++ qs) → CanAll c ps
+unfolding CanAll
+can-first [] qs c k = tt
+can-first (p ∷ ps) qs c k = (k .0, can-first ps qs (withCq c (pushed p (c .cq))) (k .1))
+
+can-second : (ps qs : List Put) (c : Card) → CanAll c (ps ++ qs) → CanAll (withCq c (putAll ps (c .cq))) qs
+unfolding CanAll putAll
+can-second [] qs c k = k
+can-second (p ∷ ps) qs c k = can-second ps qs (withCq c (pushed p (c .cq))) (k .1)
+
+-- the place that an open queue has
+open-place : (l : List ℕ) → Accepted l → (n : ℕ) → Open l n → rowAt cqT l n .count < mostPlaces
+open-place l k n o =
+    let h = queue-sound l k n (o .below) (o .live) .most in
+    let f = o .free in
+    omega arith
+
+-- ---- two queue pairs that passed the tests; st is the status and k the number of bytes that the stores are told
+
+either : (a b : Bool) → (a || b) ≡ true → a ≡ false → b ≡ true
+either true b e f = absurd (false≢true (sym f))
+either false b e f = e
+
+module _ (l : List ℕ) (a : accepts l ≡ true) (q : ℕ) (x : List ℕ) (s : SendRecord) (t : Told x s)
+    (good : refusal (deliveryChecks (card l) q (bare (s .opcode))) ≡ none) where
+  abbrev c : Card
+  c = card l
+
+  abbrev o : ℕ
+  o = s .opcode
+
+  abbrev r : Request
+  r = requestBy s x
+
+  abbrev e : Ends
+  e = endsAt l q
+
+  abbrev d : ℕ
+  d = rowAt qpT l q .dest
+
+  abbrev w : ReceiveRecord
+  w = takenRow l d o
+
+  module _ (st : ℕ) (is : st ≡ sendStatus c q r) (k : ℕ) (told : (eqb st 0 || eqb st 7) ≡ true → total r ≡ k) where
+    length-is : cond (eqb st 0) (total r) 0 ≡ cond (eqb st 0) k 0
+    length-is = go (eqb st 0) refl
+      where
+        go : (b : Bool) → eqb st 0 ≡ b → cond b (total r) 0 ≡ cond b k 0
+        go true i = told (rw i)
+        go false i = refl
+
+    first-is : senderPut c q r st ≡ record { cqn = e .own .scq; entry = senderEntry e s st k }
+    first-is = rw (own-is l a q x s t good, length-is)
+
+    firsts : cond (not (eqb st 0) || eqb (c .qp q .signal) 0 || r .signaled) (senderPut c q r st ∷ []) [] ≡ putFirst e s st k
+    firsts = rw (first-is, own-is l a q x s t good)
+
+    second-is : consumes o st ≡ true → receiverPut c q r st ≡ record { cqn = e .far .rcq; entry = receiverEntry e s w st k }
+    unfolding receiveOf
+    second-is i =
+        let y : takes o ≡ true = and-left (takes o) (eqb st 0 || eqb st 7) i in
+        let z : total r ≡ k = told (and-right (takes o) (eqb st 0 || eqb st 7) i) in
+        rw (taken-is l a q x s t good y, peer-is l a q x s t good, far-is l a q x s t good, z)
+
+    seconds : cond (consumes o st) (receiverPut c q r st ∷ []) [] ≡ putSecond e s w st k
+    seconds = go (consumes o st) refl
+      where
+        go : (b : Bool) → consumes o st ≡ b → cond b (receiverPut c q r st ∷ []) [] ≡ cond b (record { cqn = e .far .rcq; entry = receiverEntry e s w st k } ∷ []) []
+        go true i = rw (second-is i)
+        go false i = refl
+
+    puts-are : sendPuts c q r st ≡ putFirst e s st k ++ putSecond e s w st k
+    unfolding sendPuts
+    puts-are = ap₂ (λ (y z : List Put). y ++ z) firsts seconds
+
+    put-bytes : pushAll l (sendPuts c q r (sendStatus c q r)) ≡ putBytes l e s w st k
+    put-bytes = rw (← is) (ap (pushAll l) puts-are ∙ push-join (putFirst e s st k) (putSecond e s w st k) l)
+
+    failed-bytes : errorBytes (not (eqb (sendStatus c q r) 0)) (pushAll l (sendPuts c q r (sendStatus c q r))) q ≡ failedBytes l e s w st k
+    failed-bytes = rw put-bytes (rw (← is))
+
+    pub settled-is : settled l e s w st k ≡ sendBytes l q r
+    unfolding sendBytes
+    settled-is = rw (peer-is l a q x s t good, failed-bytes, ← is)
+
+    abbrev first : List Put
+    first = putFirst e s st k
+
+    abbrev second : List Put
+    second = putSecond e s w st k
+
+    wr : r .wr < 2 ^ 64
+    unfolding requestOf sendCodec Fit
+    wr = subst (λ (y : Request). y .wr < 2 ^ 64) (t .request) (send-fits x .0)
+
+    imm : r .imm < 2 ^ 32
+    unfolding requestOf sendCodec Fit
+    imm = subst (λ (y : Request). y .imm < 2 ^ 32) (t .request) (send-fits x .1 .1 .1 .0)
+
+    can : CanAll c (first ++ second)
+    can =
+        subst (λ (y : List Put). CanAll c y) puts-are
+        (subst (λ (y : ℕ). CanAll c (sendPuts c q r y)) (sym is) (can-put l (ok l a q x s t good) q r wr imm (tests l a q x s t good)))
+
+    first-stands : Stands (pushAll l first) (withCq c (putAll first (c .cq)))
+    first-stands = push-all first l (ok l a q x s t good) (can-first first second c can)
+
+    second-open : consumes o st ≡ true → Open (pushAll l first) (e .far .rcq)
+    unfolding CanAll
+    second-open i =
+        let y : CanAll (withCq c (putAll first (c .cq))) (record { cqn = e .far .rcq; entry = receiverEntry e s w st k } ∷ []) = rw i at (can-second first second c can) in
+        opened (pushAll l first) (first-stands .ok) (e .far .rcq)
+        (subst (λ (z : Card). length (z .cq (e .far .rcq) .entries) + 1 ≤ z .cq (e .far .rcq) .places) (sym (first-stands .is)) (y .0 .room))
+
+    first-open : Open l (e .own .scq)
+    first-open = subst (λ (y : Qp). Open l (y .scq)) (own-is l a q x s t good) (send-open l (ok l a q x s t good) q r wr imm (tests l a q x s t good))
+
+    then-waits : consumes o st ≡ true → 0 < rowAt waitingT (failedBytes l e s w st k) d .count
+    then-waits i =
+        let y = waits-then l (ok l a q x s t good) q r wr imm (tests l a q x s t good) (rw (← is) i) in
+        subst (λ (z : List ℕ). 0 < rowAt waitingT z d .count) failed-bytes (rw (peer-is l a q x s t good) at y)
+
+    pub settling : Settling l e s w st k
+    settling =
+        record {
+          size = ok l a q x s t good .sized;
+          own = own-below l a q x s t good;
+          far = far-below l a q x s t good;
+          count = taken-count l a q x s t good;
+          first = first-open .below;
+          free = open-place l (ok l a q x s t good) (e .own .scq) first-open;
+          second = λ i. (second-open i .below, open-place (pushAll l first) (first-stands .ok) (e .far .rcq) (second-open i));
+          waits = then-waits;
+        }

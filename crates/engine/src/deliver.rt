@@ -1,0 +1,188 @@
+// Steps 3 to 6 of document 01, "Posting and delivering": the status of a message, and the message moved. Definitions and laws:
+// specs/Send.antt and specs/SendStatus.antt.
+use crate::meet;
+use crate::meet::Ends;
+use crate::permit;
+use crate::settle;
+use crate::transfer;
+use tables::ReceiveRecord;
+use tables::SendRecord;
+use tables::Sge;
+use tables::queue;
+use tables::records;
+ghost use mathlib.Core.Path.{_≡_};
+ghost use mathlib.Core.Bool.{false, not, _||_};
+ghost use Prim.Native.Nat.{_<_, _≤_};
+ghost use lib.Dec.{leb};
+ghost use lib.ListN.{length, take};
+ghost use Rattle.wire.specs.Table.{rowAt};
+ghost use Rattle.tables.specs.Image.{card};
+ghost use Rattle.tables.specs.Layout.{image, waitingT};
+ghost use Rattle.tables.specs.Limits.{qpCount, mostWaiting};
+ghost use Rattle.tables.specs.Records.{isInline, receiveSges};
+ghost use Rattle.rules.specs.Touch.{fills, sgeTotal};
+ghost use Rattle.engine.specs.Grants.{allowsAll};
+ghost use Rattle.engine.specs.Places.{Ready};
+ghost use Rattle.engine.specs.Send.{takenRow, Sending, Delivery, totalBy, ownMask, ownBy, farCount, farList, farMask, Carries, carried};
+
+const INLINE_FLAG: u8 = 8;
+
+fn is_inline(s: SendRecord) -> bool
+    ensures { λ r. ⌜ r ≡ isInline s ⌝ }
+{
+    s.flags & INLINE_FLAG != 0
+}
+
+// The number of bytes of the message.
+pub fn total_of(s: SendRecord, sges: [Sge; 4]) -> u64
+    requires { ⌜ (isInline s ≡ false → s .count ≤ 4) ⌝ }
+    ensures { λ r. ⌜ r ≡ totalBy s sges ⌝ }
+{
+    if is_inline(s) {
+        return (s.count % 65536) as u64;
+    }
+    permit::sges_total(sges, s.count as usize)
+}
+
+// Step 4: whether each byte of the sender's own entries is permitted.
+fn own_permitted(state: &[u8], pd: u8, s: SendRecord, sges: [Sge; 4]) -> bool
+    requires { ⌜ (length (now state) ≡ image) × (isInline s ≡ false → s .count ≤ 4) ⌝ }
+    ensures { λ r. ⌜ r ≡ allowsAll (card (now (state .entry))) pd (ownMask (s .opcode)) (ownBy s sges) ⌝ }
+{
+    if is_inline(s) {
+        return true;
+    }
+    let mask = settle::choose(s.opcode == 4, 1, 0);
+    permit::sges_permitted(state, pd, mask, sges, s.count as usize)
+}
+
+// Whether a message of n bytes fits the receive that it fills.
+fn fits_receive(opcode: u8, w: ReceiveRecord, n: u32) -> bool
+    requires { ⌜ w .count ≤ 2 ⌝ }
+    ensures { λ r. ⌜ r ≡ (not (fills opcode) || leb n (sgeTotal (receiveSges w))) ⌝ }
+{
+    if !meet::fills_receive(opcode) {
+        return true;
+    }
+    let room = permit::sges_total(settle::receive_sges(w), w.count as usize);
+    n as u64 <= room
+}
+
+// The peer's side of a message of n bytes: the first n of the receive's, or the remote range.
+fn far_sges(s: SendRecord, w: ReceiveRecord, n: u32) -> [Sge; 4]
+    requires { ⌜ w .count ≤ 2 ⌝ }
+    ensures { λ r. ⌜ take (farCount (s .opcode) w) r ≡ farList s w n ⌝ }
+{
+    if meet::fills_receive(s.opcode) {
+        return permit::cut_to(settle::receive_sges(w), w.count as usize, n);
+    }
+    let none = Sge {
+        address: 0,
+        length: 0,
+        key: 0,
+    };
+    let range = Sge {
+        address: s.address,
+        length: n,
+        key: s.key,
+    };
+    [range, none, none, none]
+}
+
+fn far_count(opcode: u8, w: ReceiveRecord) -> usize
+    ensures { λ r. ⌜ r ≡ farCount opcode w ⌝ }
+{
+    if meet::fills_receive(opcode) {
+        return w.count as usize;
+    }
+    1
+}
+
+fn far_mask(opcode: u8) -> u8
+    ensures { λ r. ⌜ r ≡ farMask opcode ⌝ }
+{
+    settle::choose(
+        meet::fills_receive(opcode),
+        1,
+        settle::choose(opcode == 4, 4, 2),
+    )
+}
+
+// Step 6: moves the message, inline bytes or those of entries, to the peer's side or, for a read, back.
+fn move_bytes(
+    state: &[u8],
+    memory: &mut [u8],
+    s: SendRecord,
+    sent: &[u8],
+    sges: [Sge; 4],
+    far: [Sge; 4],
+    count: usize,
+    n: u32,
+)
+    requires { ⌜ Ready (now state) (now memory) ⌝ }
+    requires { ⌜ (count ≤ 4) × (isInline s ≡ false → s .count ≤ 4) × Carries (card (now state)) s (now sent) (take (s .count) sges) (take count far) n ⌝ }
+    ensures { λ _. ⌜ now (memory .exit) ≡ carried (card (now (state .entry))) s (now (sent .entry)) (take (s .count) sges) (take count far) n (now (memory .entry)) ⌝ }
+{
+    if is_inline(s) {
+        let bytes = records::inline_bytes(sent, n as usize);
+        transfer::scatter_inline(state, memory, bytes, far, count);
+        return;
+    }
+    let own = s.count as usize;
+    if s.opcode == 4 {
+        transfer::transfer(state, memory, far, count, sges, own);
+        return;
+    }
+    transfer::transfer(state, memory, sges, own, far, count);
+}
+
+// The receive that a request takes; nothing where it takes none.
+pub fn taken_receive(state: &[u8], d: usize, opcode: u8) -> ReceiveRecord
+    requires { ⌜ (d < qpCount) × (length (now state) ≡ image) × (rowAt waitingT (now state) d .first < mostWaiting) ⌝ }
+    ensures { λ r. ⌜ r ≡ takenRow (now (state .entry)) d opcode ⌝ }
+{
+    if meet::takes_receive(opcode) {
+        return queue::oldest_receive(state, d);
+    }
+    ReceiveRecord {
+        wr: 0,
+        count: 0,
+        address0: 0,
+        length0: 0,
+        key0: 0,
+        address1: 0,
+        length1: 0,
+        key1: 0,
+    }
+}
+
+// Steps 4 to 6 of a message of n bytes: the status, and on success the message moved.
+pub fn deliver(
+    state: &[u8],
+    memory: &mut [u8],
+    e: Ends,
+    s: SendRecord,
+    sent: &[u8],
+    sges: [Sge; 4],
+    w: ReceiveRecord,
+    n: u32,
+) -> u8
+    requires { ⌜ Ready (now state) (now memory) ⌝ }
+    requires { ⌜ (w .count ≤ 2) × Sending s (now sent) sges n ⌝ }
+    ensures { λ r. ⌜ Delivery (now (state .entry)) (now (memory .entry)) e s (now (sent .entry)) sges w n r (now (memory .exit)) ⌝ }
+{
+    if !own_permitted(state, e.own.pd, s, sges) {
+        return 3;
+    }
+    if !fits_receive(s.opcode, w, n) {
+        return 7;
+    }
+    let far = far_sges(s, w, n);
+    let count = far_count(s.opcode, w);
+    let mask = far_mask(s.opcode);
+    if !permit::sges_permitted(state, e.far.pd, mask, far, count) {
+        return settle::choose(meet::fills_receive(s.opcode), 7, 8);
+    }
+    move_bytes(state, memory, s, sent, sges, far, count, n);
+    0
+}

@@ -1,0 +1,126 @@
+// The tests of a sender and its peer: document 01, "Posting and delivering", steps 1 and 2. Definitions and laws: specs/Send.antt and
+// specs/SendMeet.antt.
+use rules::Answer;
+use rules::Cause;
+use tables::QueueHead;
+use tables::QueuePair;
+use tables::image;
+use tables::limits::QP_COUNT;
+ghost use mathlib.Core.Path.{_≡_};
+ghost use mathlib.Core.Bool.{true, cond};
+ghost use Prim.Native.Nat.{_<_, _≤_, _+_};
+ghost use lib.Dec.{eqb, leb};
+ghost use lib.ListN.{length};
+ghost use Rattle.wire.specs.Table.{rowAt};
+ghost use Rattle.tables.specs.Accept.{accepts};
+ghost use Rattle.tables.specs.Layout.{image, cqT};
+ghost use Rattle.tables.specs.Limits.{cqCount, qpCount};
+ghost use Rattle.rules.specs.Touch.{takes, fills};
+ghost use Rattle.engine.specs.Send.{answers, placesBy, peerMeeting, meeting};
+
+// A sender and its peer, whose number is the sender's destination.
+pub struct Ends {
+    pub q: usize,
+    pub own: QueuePair,
+    pub far: QueuePair,
+}
+
+// What the tests of the two queue pairs end with: the pairs, or the answer.
+pub enum Meeting {
+    Pairs(Ends),
+    Stopped(Answer),
+}
+
+// Opcodes 1 to 3 take a receive of the peer.
+pub fn takes_receive(opcode: u8) -> bool
+    ensures { λ r. ⌜ r ≡ takes opcode ⌝ }
+{
+    (1 <= opcode) & (opcode <= 3)
+}
+
+// Opcodes 2 and 3 fill it.
+pub fn fills_receive(opcode: u8) -> bool
+    ensures { λ r. ⌜ r ≡ fills opcode ⌝ }
+{
+    (2 <= opcode) & (opcode <= 3)
+}
+
+// Whether a queue pair is ready and names q back.
+fn answers_to(far: QueuePair, q: usize) -> bool
+    ensures { λ r. ⌜ r ≡ answers far q ⌝ }
+{
+    (far.live == 1) & ((far.state == 2) | (far.state == 3)) & (far.dest as usize == q)
+}
+
+fn has_room(h: QueueHead, n: u32) -> bool
+    requires { ⌜ n ≤ 2 ⌝ }
+    ensures { λ r. ⌜ r ≡ leb (h .count + n) (h .places) ⌝ }
+{
+    h.count as u32 + n <= h.places as u32
+}
+
+fn places_needed(both: bool) -> u32
+    ensures { λ r. ⌜ r ≡ cond both 2 1 ⌝ }
+{
+    if both {
+        return 2;
+    }
+    1
+}
+
+// A place for each completion: in the send queue s, and where a receive is taken in the receive queue r, which may be the same.
+fn has_places(state: &[u8], s: u8, r: u8, opcode: u8) -> bool
+    requires { ⌜ (s < cqCount) × (r < cqCount) × (length (now state) ≡ image) ⌝ }
+    ensures { λ b. ⌜ b ≡ placesBy (rowAt cqT (now (state .entry)) s) (rowAt cqT (now (state .entry)) r) (eqb s r) opcode ⌝ }
+{
+    let first = image::load_cq(state, s as usize);
+    let second = image::load_cq(state, r as usize);
+    let taken = takes_receive(opcode);
+    let n = places_needed(taken & (s == r));
+    let own = has_room(first, n);
+    let far = has_room(second, 1);
+    own & (!taken | far)
+}
+
+// The tests of a peer that is ready: a receive that waits, and places for the completions.
+fn meet_peer(state: &[u8], e: Ends, opcode: u8) -> Meeting
+    requires { ⌜ (e .own .scq < cqCount) × (e .far .rcq < cqCount) × (e .own .dest < qpCount) × (length (now state) ≡ image) ⌝ }
+    ensures { λ r. ⌜ r ≡ peerMeeting (now (state .entry)) e opcode ⌝ }
+{
+    let h = image::load_waiting(state, e.own.dest as usize);
+    if takes_receive(opcode) & (h.count == 0) {
+        return Meeting::Stopped(Answer::Held(Cause::Peer));
+    }
+    if !has_places(state, e.own.scq, e.far.rcq, opcode) {
+        return Meeting::Stopped(Answer::Held(Cause::Place));
+    }
+    Meeting::Pairs(e)
+}
+
+// The tests of the two queue pairs.
+pub fn meet(state: &[u8], qpn: u32, opcode: u8) -> Meeting
+    requires { ⌜ (accepts (now state) ≡ true) × (length (now state) ≡ image) ⌝ }
+    ensures { λ r. ⌜ r ≡ meeting (now (state .entry)) qpn opcode ⌝ }
+{
+    let q = qpn as usize;
+    if QP_COUNT <= q {
+        return Meeting::Stopped(Answer::Refused(2));
+    }
+    let own = image::load_qp(state, q);
+    if own.live != 1 {
+        return Meeting::Stopped(Answer::Refused(2));
+    }
+    if own.state != 3 {
+        return Meeting::Stopped(Answer::Refused(3));
+    }
+    let d = own.dest as usize;
+    if QP_COUNT <= d {
+        return Meeting::Stopped(Answer::Held(Cause::Peer));
+    }
+    let far = image::load_qp(state, d);
+    if !answers_to(far, q) {
+        return Meeting::Stopped(Answer::Held(Cause::Peer));
+    }
+    let e = Ends { q, own, far };
+    meet_peer(state, e, opcode)
+}

@@ -1,0 +1,70 @@
+// Post send: document 01, "Posting and delivering". Laws: specs/SendDone.antt and specs/SendEnd.antt.
+use crate::deliver;
+use crate::meet;
+use crate::meet::Ends;
+use crate::meet::Meeting;
+use crate::settle;
+use rules::Answer;
+use tables::SendRead;
+use tables::SendRecord;
+use tables::accept;
+use tables::image;
+use tables::limits::MOST_MESSAGE;
+use tables::records;
+ghost use mathlib.Core.List.{[]};
+ghost use Rattle.rules.specs.Call.{Call};
+ghost use Rattle.rules.specs.Touch.{requestOf};
+ghost use Rattle.engine.specs.Owed.{Owes};
+ghost use Rattle.engine.specs.SendDone.{Ran};
+ghost use Rattle.engine.specs.Places.{Ready};
+ghost use Rattle.engine.specs.Send.{Posted, Met, Carried};
+
+// Steps 3 to 6 for two queue pairs that passed the tests: the status, and all that the request leaves.
+fn carry_out(state: &mut [u8], memory: &mut [u8], e: Ends, s: SendRecord, sent: &[u8]) -> u8
+    requires { ⌜ Ready (now state) (now memory) ⌝ }
+    requires { ⌜ Posted (now sent) s × Met (now state) e (s .opcode) ⌝ }
+    ensures { λ r. ⌜ Carried (now (state .entry)) (e .q) (requestOf (now (sent .entry))) (now (memory .entry)) r (now (state .exit)) (now (memory .exit)) ⌝ }
+{
+    let sges = records::send_sges(sent);
+    let total = deliver::total_of(s, sges);
+    let w = deliver::taken_receive(state, e.own.dest as usize, s.opcode);
+    if (MOST_MESSAGE as u64) < total {
+        settle::settle(state, e, s, w, 1, 0);
+        return 1;
+    }
+    let n = total as u32;
+    let st = deliver::deliver(state, memory, e, s, sent, sges, w, n);
+    settle::settle(state, e, s, w, st, n);
+    st
+}
+
+// The tests after the lent bytes', and the request carried out.
+fn send_checked(state: &mut [u8], memory: &mut [u8], qpn: u32, s: SendRecord, sent: &[u8]) -> Answer
+    requires { ⌜ Ready (now state) (now memory) ⌝ }
+    requires { ⌜ Posted (now sent) s ⌝ }
+    ensures { λ r. ⌜ Ran (now (state .entry)) qpn (requestOf (now (sent .entry))) (now (memory .entry)) r (now (state .exit)) (now (memory .exit)) ⌝ }
+{
+    match meet::meet(state, qpn, s.opcode) {
+        Meeting::Pairs(e) => {
+            let st = carry_out(state, memory, e, s, sent);
+            Answer::Done(st)
+        }
+        Meeting::Stopped(a) => a,
+    }
+}
+
+// Post send: the state's and the memory's tests, the record's, and then the request.
+pub fn post_send(state: &mut [u8], memory: &mut [u8], qpn: u32, sent: &[u8]) -> Answer
+    ensures { λ r. ⌜ Owes (now (state .entry)) (Call.send qpn (now (sent .entry)) (now (memory .entry))) r (now (state .exit)) (now (memory .exit)) [] ⌝ }
+{
+    if !accept::accepted(state) {
+        return Answer::Refused(15);
+    }
+    if memory.len() as u64 != image::load_memory(state) {
+        return Answer::Refused(7);
+    }
+    match records::read_send(sent) {
+        SendRead::Record(s) => send_checked(state, memory, qpn, s, sent),
+        SendRead::Refused(n) => Answer::Refused(n),
+    }
+}

@@ -1,0 +1,189 @@
+// What a post send leaves in the state: completions, error states, the receive consumed. Definitions and laws: specs/Send.antt and
+// specs/SendSettle.antt.
+use crate::meet;
+use crate::meet::Ends;
+use crate::permit;
+use tables::Completion;
+use tables::QueuePair;
+use tables::ReceiveRecord;
+use tables::SendRecord;
+use tables::Sge;
+use tables::image;
+use tables::queue;
+ghost use mathlib.Core.Path.{_≡_};
+ghost use mathlib.Core.Bool.{true, cond};
+ghost use Prim.Native.Nat.{_<_, _≤_};
+ghost use lib.ListN.{length, take};
+ghost use Rattle.wire.specs.Table.{rowAt};
+ghost use Rattle.tables.specs.Layout.{image, cqT, waitingT};
+ghost use Rattle.tables.specs.Limits.{cqCount, qpCount, mostPlaces};
+ghost use Rattle.tables.specs.Records.{receiveSges};
+ghost use Rattle.rules.specs.Send.{senderOpcode, receiverOpcode, consumes};
+ghost use Rattle.engine.specs.Bytes.{pushAll, errorBytes, consumeBytes};
+ghost use Rattle.engine.specs.Send.{receiverStatus, putFirst, putSecond, settled, Settling};
+
+const SIGNALED_FLAG: u8 = 2;
+
+pub fn choose(b: bool, x: u8, y: u8) -> u8
+    ensures { λ r. ⌜ r ≡ cond b x y ⌝ }
+{
+    if b {
+        return x;
+    }
+    y
+}
+
+fn sender_opcode(opcode: u8) -> u8
+    ensures { λ r. ⌜ r ≡ senderOpcode opcode ⌝ }
+{
+    choose(opcode == 4, 2, choose(meet::fills_receive(opcode), 0, 1))
+}
+
+fn receiver_opcode(opcode: u8) -> u8
+    ensures { λ r. ⌜ r ≡ receiverOpcode opcode ⌝ }
+{
+    choose(opcode == 1, 4, 3)
+}
+
+fn kept_if(b: bool, n: u32) -> u32
+    ensures { λ r. ⌜ r ≡ cond b n 0 ⌝ }
+{
+    if b {
+        return n;
+    }
+    0
+}
+
+// A receive's entries; it has at most two.
+pub fn receive_sges(w: ReceiveRecord) -> [Sge; 4]
+    requires { ⌜ w .count ≤ 2 ⌝ }
+    ensures { λ r. ⌜ take (w .count) r ≡ receiveSges w ⌝ }
+{
+    let none = Sge {
+        address: 0,
+        length: 0,
+        key: 0,
+    };
+    let a = Sge {
+        address: w.address0,
+        length: w.length0,
+        key: w.key0,
+    };
+    let b = Sge {
+        address: w.address1,
+        length: w.length1,
+        key: w.key1,
+    };
+    [a, b, none, none]
+}
+
+// The receiver's status: the message does not fit, or a byte of the receive is not permitted.
+fn receiver_status(st: u8, n: u32, w: ReceiveRecord) -> u8
+    requires { ⌜ w .count ≤ 2 ⌝ }
+    ensures { λ r. ⌜ r ≡ receiverStatus w st n ⌝ }
+{
+    if st == 0 {
+        return 0;
+    }
+    let room = permit::sges_total(receive_sges(w), w.count as usize);
+    if room < n as u64 {
+        return 1;
+    }
+    3
+}
+
+// The sender's completion, where one is put.
+fn put_sender(state: &mut [u8], e: Ends, s: SendRecord, st: u8, n: u32)
+    requires { ⌜ (e .q < qpCount) × (e .own .scq < cqCount) × (length (now state) ≡ image) × (rowAt cqT (now state) (e .own .scq) .count < mostPlaces) ⌝ }
+    ensures { λ _. ⌜ now (state .exit) ≡ pushAll (now (state .entry)) (putFirst e s st n) ⌝ }
+{
+    let silent = (st == 0) & (e.own.signal != 0) & (s.flags & SIGNALED_FLAG == 0);
+    if silent {
+        return;
+    }
+    let opcode = sender_opcode(s.opcode);
+    let length = kept_if(st == 0, n);
+    let entry = Completion {
+        wr: s.wr,
+        status: st,
+        opcode,
+        length,
+        imm: 0,
+        owner: e.q as u32,
+    };
+    queue::push_completion(state, e.own.scq as usize, entry);
+}
+
+// The receiver's completion, where the receive is consumed.
+fn put_receiver(state: &mut [u8], e: Ends, s: SendRecord, w: ReceiveRecord, st: u8, n: u32)
+    requires { ⌜ (w .count ≤ 2) × (length (now state) ≡ image) ⌝ }
+    requires { ⌜ (consumes (s .opcode) st ≡ true → (e .far .rcq < cqCount) × (rowAt cqT (now state) (e .far .rcq) .count < mostPlaces)) ⌝ }
+    ensures { λ _. ⌜ now (state .exit) ≡ pushAll (now (state .entry)) (putSecond e s w st n) ⌝ }
+{
+    if !is_consumed(s.opcode, st) {
+        return;
+    }
+    let opcode = receiver_opcode(s.opcode);
+    let length = kept_if(st == 0, n);
+    let carries = (st == 0) & ((s.opcode == 1) | (s.opcode == 3));
+    let entry = Completion {
+        wr: w.wr,
+        status: receiver_status(st, n, w),
+        opcode,
+        length,
+        imm: kept_if(carries, s.imm),
+        owner: e.own.dest as u32,
+    };
+    queue::push_completion(state, e.far.rcq as usize, entry);
+}
+
+fn is_consumed(opcode: u8, st: u8) -> bool
+    ensures { λ r. ⌜ r ≡ consumes opcode st ⌝ }
+{
+    meet::takes_receive(opcode) & ((st == 0) | (st == 7))
+}
+
+// Queue pair q goes to error, where b holds.
+fn fail_if(state: &mut [u8], b: bool, q: usize)
+    requires { ⌜ (q < qpCount) × (length (now state) ≡ image) ⌝ }
+    ensures { λ _. ⌜ now (state .exit) ≡ errorBytes b (now (state .entry)) q ⌝ }
+{
+    if !b {
+        return;
+    }
+    let p = image::load_qp(state, q);
+    let failed = QueuePair {
+        live: p.live,
+        pd: p.pd,
+        signal: p.signal,
+        scq: p.scq,
+        rcq: p.rcq,
+        state: 6,
+        dest: p.dest,
+    };
+    image::store_qp(state, q, failed);
+}
+
+// The oldest receive of queue pair q is consumed, where b holds.
+fn consume_if(state: &mut [u8], b: bool, q: usize)
+    requires { ⌜ (q < qpCount) × (length (now state) ≡ image) × (b ≡ true → 0 < rowAt waitingT (now state) q .count) ⌝ }
+    ensures { λ _. ⌜ now (state .exit) ≡ consumeBytes b (now (state .entry)) q ⌝ }
+{
+    if !b {
+        return;
+    }
+    queue::take_receive(state, q);
+}
+
+// What a delivery with a status leaves in the state: its completions, the sender's error, the receive consumed, the peer's error.
+pub fn settle(state: &mut [u8], e: Ends, s: SendRecord, w: ReceiveRecord, st: u8, n: u32)
+    requires { ⌜ Settling (now state) e s w st n ⌝ }
+    ensures { λ _. ⌜ now (state .exit) ≡ settled (now (state .entry)) e s w st n ⌝ }
+{
+    let d = e.own.dest as usize;
+    put_sender(state, e, s, st, n);
+    put_receiver(state, e, s, w, st, n);
+    fail_if(state, st != 0, e.q);
+    consume_if(state, is_consumed(s.opcode, st), d);
+    fail_if(state, st == 7, d);
+}
