@@ -14,7 +14,7 @@ use Rattle.wire.specs.Slots.{upd}
 use Rattle.wire.specs.Table.{rowAt}
 use Rattle.tables.specs.Accept.{cqLive, completionOk, isState, pairOk}
 use Rattle.tables.specs.Accepted.{Accepted, pairing}
-use Rattle.tables.specs.Card.{Card, Cq, Qp, Receive, withCq, withQp, tail}
+use Rattle.tables.specs.Card.{Card, Cq, Qp, Receive, withCq, withQp, tail, withWaiting}
 use Rattle.tables.specs.Image.{card, cqOf, qpOf, receiveOf, posted, noCompletion, noRecord, entriesAt, receivesAt}
 use Rattle.tables.specs.Kept.{qp-stored}
 use Rattle.tables.specs.Layout.{cqT, entryT, qpT, waitingT}
@@ -26,7 +26,7 @@ use Rattle.tables.specs.Stores.{Fits, card-qp}
 use Rattle.tables.specs.WaitingLaws.{pair-sound, waiting-is, take-card, take-accepted}
 use Rattle.tables.specs.declared.QueuePair.{QueuePair}
 use Rattle.rules.specs.Lists.{isEmpty, rest}
-use Rattle.rules.specs.Send.{Put, pushed, putAll, inError, withWaiting, errorIf, consumeIf}
+use Rattle.rules.specs.Send.{Put, pushed, putAll, inError, errorIf, consumeIf}
 use Rattle.engine.specs.Bytes.{pushAll, erring, errorBytes, consumeBytes}
 
 -- the bytes l are accepted and mean the card c

@@ -7,12 +7,12 @@ use lib.ListN.{length, getD}
 use Rattle.wire.specs.Checks.{Check, _if_}
 use Rattle.wire.specs.Slots.{upd}
 use Rattle.tables.specs.Limits.{mostWaiting}
-use Rattle.tables.specs.Card.{Card, Receive, withCq, withQp}
+use Rattle.tables.specs.Card.{Card, Receive, withCq, withQp, withWaiting}
 use Rattle.tables.specs.Accept.{cqLive}
 use Rattle.tables.specs.Image.{noCompletion}
 use Rattle.tables.specs.declared.Completion.{Completion}
 use Rattle.rules.specs.Lists.{isEmpty, rest}
-use Rattle.rules.specs.Send.{Put, putAll, room, oldest, withWaiting, consumeIf}
+use Rattle.rules.specs.Send.{Put, putAll, room, oldest, consumeIf}
 
 -- "2; state 0 or 6 gives 3; full 8. Keys aren't looked at."
 unfoldable pub joinChecks : Card → (q : ℕ) → List Check

@@ -9,7 +9,7 @@ use lib.ListN.{length, getD}
 use Rattle.wire.specs.Checks.{Check, _if_}
 use Rattle.wire.specs.Slots.{upd}
 use Rattle.tables.specs.Limits.{qpCount, mostMessage}
-use Rattle.tables.specs.Card.{Card, Cq, Qp, Receive, noReceive, withCq, withQp}
+use Rattle.tables.specs.Card.{Card, Cq, Qp, Receive, noReceive, withCq, withQp, withWaiting}
 use Rattle.tables.specs.declared.Completion.{Completion}
 use Rattle.rules.specs.Lists.{isEmpty, rest, names, orElse}
 use Rattle.rules.specs.Touch.{Request, takes, fills, reads, total, sgeTotal, ownBytes, farBytes, delivered}
@@ -149,11 +149,6 @@ abbrev pub inError : Qp → Qp
 inError s =
     record
     { live = s .live; pd = s .pd; signal = s .signal; scq = s .scq; rcq = s .rcq; state = 6; dest = s .dest; waiting = s .waiting }
-
-abbrev pub withWaiting : Qp → List Receive → Qp
-withWaiting s ws =
-    record
-    { live = s .live; pd = s .pd; signal = s .signal; scq = s .scq; rcq = s .rcq; state = s .state; dest = s .dest; waiting = ws }
 
 abbrev pub errorIf : Bool → (q : ℕ) → (ℕ → Qp) → ℕ → Qp
 errorIf b q f = cond b (upd f q (inError (f q))) f
