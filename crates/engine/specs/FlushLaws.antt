@@ -38,7 +38,7 @@ use Rattle.rules.specs.declared.Answer.the-variants.{Done, Held, Refused}
 use Rattle.rules.specs.declared.Cause.the-variants.{Place}
 use Rattle.engine.specs.Bytes.{effectBytes, flushBytes}
 use Rattle.engine.specs.Owed.{Owes}
-use Rattle.engine.specs.QueueFacts.{tail-is, pair-live, pair-state, pair-rcq, waiting-none, room-is}
+use Rattle.engine.specs.QueueFacts.{pair-live, pair-state, pair-rcq, waiting-none, room-is}
 use Rattle.engine.specs.Exported.{refused-owes, done-owes}
 
 -- a row of a table that holds neither completions nor their queues stays when a completion is put
@@ -198,7 +198,7 @@ module _ (l : List ℕ) (q : ℕ) where
               meant : card (takeBytes mid q) ≡ flushed (card l) q
               unfolding flushed putAll
               meant =
-                  taken ∙ ap after (tail-is (card l .qp q .waiting))
+                  taken
                   ∙ sym (ap (λ (x : Put). withQp (withCq (card l) (putAll (x ∷ []) (card l .cq))) (consumeIf true q (card l .qp))) put-is)
 
               flush-bytes : flushBytes l q ≡ takeBytes mid q

@@ -28,7 +28,7 @@ use Rattle.rules.specs.Queues.{pollChecks, polled}
 use Rattle.rules.specs.declared.Answer.the-variants.{Done, Refused}
 use Rattle.engine.specs.Bytes.{effectBytes}
 use Rattle.engine.specs.Owed.{Owes}
-use Rattle.engine.specs.QueueFacts.{unread-none, tail-is}
+use Rattle.engine.specs.QueueFacts.{unread-none}
 use Rattle.engine.specs.Exported.{refused-owes, done-owes}
 
 module _ (l : List ℕ) (n : ℕ) (b : List ℕ) where
@@ -83,4 +83,4 @@ module _ (l : List ℕ) (n : ℕ) (b : List ℕ) where
               let some-unread : 0 < h .count = omega arith in
               rw (w, ← (oldest-is l a n below places some-unread))
               (done-owes l k (order ∙ rw (ok, le-ltb (length b) 24 fits, live, none-unread, ne-eqb (h .count) 0 c))
-              (pop-card l a n below places some-unread ∙ rw (tail-is (card l .cq n .entries))) (pop-accepted l a n below places some-unread) l′ s)
+              (pop-card l a n below places some-unread) (pop-accepted l a n below places some-unread) l′ s)

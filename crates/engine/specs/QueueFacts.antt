@@ -18,16 +18,12 @@ use Rattle.tables.specs.Objects.{qp-live, qp-row}
 use Rattle.tables.specs.QueueLaws.{queue-is}
 use Rattle.tables.specs.declared.QueueHead.{QueueHead}
 use Rattle.tables.specs.declared.WaitingHead.{WaitingHead}
-use Rattle.rules.specs.Lists.{isEmpty, rest}
+use Rattle.rules.specs.Lists.{isEmpty}
 use Rattle.rules.specs.Send.{room}
 
 empty-is : {A : Type 0} (xs : List A) → isEmpty xs ≡ eqb (length xs) 0
 empty-is [] = refl
 empty-is (x ∷ xs) = sym (ne-eqb (length (x ∷ xs)) 0 (λ e. omega arith))
-
-pub tail-is : {A : Type 0} (xs : List A) → tail xs ≡ rest xs
-tail-is [] = refl
-tail-is (x ∷ xs) = refl
 
 -- a live completion queue: how many are unread, and whether it has a place
 module _ (l : List ℕ) (ok : Accepted l) (n : ℕ) (below : n < cqCount) (live : rowAt cqT l n .places ≡ 0 → ⊥) where

@@ -25,7 +25,7 @@ use Rattle.tables.specs.QueueLaws.{queue-is, push-card, push-accepted}
 use Rattle.tables.specs.Stores.{Fits, card-qp}
 use Rattle.tables.specs.WaitingLaws.{pair-sound, waiting-is, take-card, take-accepted}
 use Rattle.tables.specs.declared.QueuePair.{QueuePair}
-use Rattle.rules.specs.Lists.{isEmpty, rest}
+use Rattle.rules.specs.Lists.{isEmpty}
 use Rattle.rules.specs.Send.{Put, pushed, putAll, inError, errorIf, consumeIf}
 use Rattle.engine.specs.Bytes.{pushAll, erring, errorBytes, consumeBytes}
 
@@ -147,15 +147,11 @@ module _ (l : List ℕ) (ok : Accepted l) (q : ℕ) (live : card l .qp q .live �
       let h = some-length (card l .qp q .waiting) e in
       omega arith
 
-  tail-rest : (ws : List Receive) → tail ws ≡ rest ws
-  tail-rest [] = refl
-  tail-rest (w ∷ ws) = refl
-
   pub consume-stands : (b : Bool) → (b ≡ true → isEmpty (card l .qp q .waiting) ≡ false) → Stands (consumeBytes b l q) (withQp (card l) (consumeIf b q (card l .qp)))
   consume-stands false some = record { is = refl; ok = ok }
   consume-stands true some =
       record {
-        is = take-card l ok q below row-live (some-wait (some refl)) ∙ rw (tail-rest (card l .qp q .waiting));
+        is = take-card l ok q below row-live (some-wait (some refl));
         ok = take-accepted l ok q below row-live (some-wait (some refl));
       }
 
@@ -173,6 +169,6 @@ pub consume-keeps : (b : Bool) (q : ℕ) (f : ℕ → Qp) (d : ℕ) → consumeI
 consume-keeps false q f d = refl
 consume-keeps true q f d = go (eqb q d) refl
   where
-    go : (b : Bool) → eqb q d ≡ b → (cond {A = Qp} b (withWaiting (f q) (rest (f q .waiting))) (f d)) .live ≡ f d .live
+    go : (b : Bool) → eqb q d ≡ b → (cond {A = Qp} b (withWaiting (f q) (tail (f q .waiting))) (f d)) .live ≡ f d .live
     go true e = ap (λ n. f n .live) (eqb-true q d e)
     go false e = refl

@@ -11,7 +11,7 @@ use lib.ListN.{length, length-append}
 use borrow.Author.Tests.{leb-true, lt-ltb}
 use Rattle.wire.specs.Checks.{Passed}
 use Rattle.wire.specs.Fields.{Fit}
-use Rattle.wire.specs.Scan.{and-left, and-right}
+use Rattle.wire.specs.Scan.{and-left, and-right, and-off}
 use Rattle.tables.specs.Accept.{completionOk, isStatus}
 use Rattle.tables.specs.Card.{Card, Cq, withCq}
 use Rattle.tables.specs.Layout.{entryT}
@@ -36,10 +36,6 @@ not-not : (b : Bool) → not b ≡ false → b ≡ true
 not-not true e = refl
 not-not false e = absurd (false≢true (sym e))
 
-not-and : (a b : Bool) → (a && b) ≡ false → a ≡ true → b ≡ false
-not-and true b e f = e
-not-and false b e f = absurd (false≢true f)
-
 peer-live : (c : Card) (q : ℕ) (d : Option ℕ) → ready c q d ≡ true → c .qp (orElse d qpCount) .live ≡ true
 peer-live c q none e = absurd (false≢true e)
 peer-live c q (some d) e =
@@ -53,7 +49,7 @@ going c q r p =
     record {
       live = not-not (c .qp q .live) (p .0);
       peer = peer-live c q (c .qp q .dest) (not-not (ready c q (c .qp q .dest)) (p .1 .1 .0));
-      waits = not-and (takes (r .opcode)) (isEmpty (c .qp (peerOf c q) .waiting)) (p .1 .1 .1 .0);
+      waits = and-off (takes (r .opcode)) (isEmpty (c .qp (peerOf c q) .waiting)) (p .1 .1 .1 .0);
       places = not-not (hasPlaces c q (peerOf c q) (r .opcode)) (p .1 .1 .1 .1 .0);
     }
 

@@ -13,7 +13,7 @@ use borrow.Author.Tests.{eqb-true, leb-true, le-leb, lt-leb, ltb-false, not-fals
 use Rattle.wire.specs.Checks.{refusal, Passed, passed}
 use Rattle.wire.specs.Ring.{ringList, ring-pop}
 use Rattle.wire.specs.Rows.{rowsFrom, rows}
-use Rattle.wire.specs.Scan.{all, and-left, and-right}
+use Rattle.wire.specs.Scan.{all, and-left, and-right, and-off}
 use Rattle.wire.specs.Table.{rowAt}
 use Rattle.tables.specs.Accept.{accepts, receiveOk}
 use Rattle.tables.specs.Accepted.{Accepted, accepted}
@@ -67,10 +67,6 @@ pub record Told (x : List ℕ) (s : SendRecord) : Type 0 where
   pub bytes : inlineBytes x ≡ take (s .count % 65536) (drop 48 x)
   pub there : isInline s ≡ true → reads (s .opcode) ≡ false
 
-and-no : (a b : Bool) → (a && b) ≡ false → a ≡ true → b ≡ false
-and-no true b e f = e
-and-no false b e f = absurd (false≢true f)
-
 exact : (x : List ℕ) (n : ℕ) (b : Bool) → not (eqb (length x) (cond b 576 n)) ≡ false → b ≡ true → length x ≡ 576
 exact x n true e i = eqb-true (length x) 576 (not-false (eqb (length x) 576) e)
 exact x n false e i = absurd (false≢true i)
@@ -83,14 +79,14 @@ told-read x g =
     let w = inline-length x in
     record {
       request = refl;
-      plain = λ i. ltb-false 4 (s .count) (and-no (not (isInline s)) (ltb mostSges (s .count)) (p .1 .1 .1 .1 .1 .0) (rw i));
+      plain = λ i. ltb-false 4 (s .count) (and-off (not (isInline s)) (ltb mostSges (s .count)) (p .1 .1 .1 .1 .1 .0) (rw i));
       short =
-          λ i. (let h : inlineLength x ≤ mostInline = ltb-false mostInline (inlineLength x) (and-no (isInline s) (ltb mostInline (inlineLength x)) (p .1 .1 .1 .1 .0) i) in
+          λ i. (let h : inlineLength x ≤ mostInline = ltb-false mostInline (inlineLength x) (and-off (isInline s) (ltb mostInline (inlineLength x)) (p .1 .1 .1 .1 .0) i) in
           let z : length x ≡ 576 = exact x (576 + 16 * s .count) (isInline s) (p .1 .1 .1 .1 .1 .1 .0) i in
           let y : s .count % 65536 ≤ mostInline = omega arith in
           (y, length-take-le (s .count % 65536) (drop 48 x) (simp length-drop (omega arith))));
       bytes = sym (inline-part x);
-      there = λ i. and-no (isInline s) (eqb (s .opcode) 4) (p .1 .1 .1 .0) i;
+      there = λ i. and-off (isInline s) (eqb (s .opcode) 4) (p .1 .1 .1 .0) i;
     }
 
 pub told : (x : List ℕ) (s : SendRecord) → Posted x s → Told x s

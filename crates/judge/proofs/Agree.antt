@@ -10,7 +10,7 @@ use lib.ListN.{length}
 use borrow.Author.Tests.{eqb-true, leb-false, ltb-false, not-true, not-false}
 use Rattle.wire.specs.Checks.{Passed}
 use Rattle.wire.specs.Fields.{putFields}
-use Rattle.wire.specs.Scan.{lowest-passes, and-left}
+use Rattle.wire.specs.Scan.{lowest-passes, and-left, and-off}
 use Rattle.wire.specs.Slots.{split, same}
 use Rattle.tables.specs.Limits.{mrCount, qpCount, mostAddress}
 use Rattle.tables.specs.Card.{Card, Mr, Qp, fresh}
@@ -114,10 +114,6 @@ ready-some c q (some d) e = refl
 ready-live : (c : Card) (q : ℕ) (o : Option ℕ) → ready c q o ≡ true → c .qp (orElse o qpCount) .live ≡ true
 ready-live c q none e = absurd (false≢true e)
 ready-live c q (some d) e = and-left _ _ (and-left _ _ e)
-
-and-off : (a b : Bool) → (a && b) ≡ false → a ≡ true → b ≡ false
-and-off true b e h = e
-and-off false b e h = absurd (false≢true h)
 
 pub sendable : (c : Card) (q : ℕ) (x m : List ℕ) → Passed (checks c (Call.send q x m)) → Sendable c q (requestOf x) m
 unfolding checks deliveryChecks sendChecks requestOf

@@ -13,9 +13,9 @@ use Rattle.wire.specs.Fields.{putFields}
 use Rattle.wire.specs.Scan.{and-left}
 use Rattle.wire.specs.Slots.{split, same}
 use Rattle.tables.specs.Limits.{qpCount}
-use Rattle.tables.specs.Card.{Card, Qp, Receive}
+use Rattle.tables.specs.Card.{Card, Qp, Receive, tail}
 use Rattle.tables.specs.Records.{Command, commandOf, ackFields, ackLeast}
-use Rattle.rules.specs.Lists.{isEmpty, rest}
+use Rattle.rules.specs.Lists.{isEmpty}
 use Rattle.rules.specs.Touch.{Request, requestOf, receiveIn, fills, reads}
 use Rattle.rules.specs.Control.{commandChecks, commandAck, commandEffect}
 use Rattle.tables.specs.Search.{freeQpn}
@@ -82,7 +82,7 @@ module _ (c : Card) (t : ℕ → Tally) (a : Counts (c .qp) t) (b : List ℕ) (w
 
 -- ---- a receive leaves
 
-rest-length : (ws : List Receive) → isEmpty ws ≡ false → 1 + length (rest ws) ≡ length ws
+rest-length : (ws : List Receive) → isEmpty ws ≡ false → 1 + length (tail ws) ≡ length ws
 rest-length [] e = absurd (true≢false e)
 rest-length (w ∷ ws) e = omega arith
 
@@ -186,7 +186,7 @@ counts-call c (Call.receive q x) t p a =
     (λ j e. rw e (a j))
 counts-call c (Call.flush q) t p a =
     split q _
-    (rw same (λ e. takes-one (c .qp q) (t q) 1 (rest (c .qp q .waiting)) (rest-length (c .qp q .waiting) (p .1 .1 .0)) (a q) e))
+    (rw same (λ e. takes-one (c .qp q) (t q) 1 (tail (c .qp q .waiting)) (rest-length (c .qp q .waiting) (p .1 .1 .0)) (a q) e))
     (λ j e. rw e (λ h. let k = a j h in omega arith))
 counts-call c (Call.poll n b) t p a = a
 

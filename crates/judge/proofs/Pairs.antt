@@ -9,8 +9,8 @@ use lib.Dec.{eqb}
 use lib.ListN.{length, drop, length-append}
 use lib.Seq.{drop-append-le}
 use Rattle.wire.specs.Slots.{split, same}
-use Rattle.tables.specs.Card.{Qp, Receive}
-use Rattle.rules.specs.Lists.{isSome, rest, isEmpty}
+use Rattle.tables.specs.Card.{Qp, Receive, tail}
+use Rattle.rules.specs.Lists.{isSome, isEmpty}
 use Rattle.rules.specs.Send.{errorIf, consumeIf}
 use Rattle.judge.specs.Log.{Log}
 use Rattle.judge.specs.Judge.{domain, peer, accepted, taken}
@@ -50,7 +50,7 @@ joins {v} w k =
       within = omega (arith, length-append (v .accepted) (w ∷ []), k .within);
     }
 
-drop-more : {A : Type 0} (n : ℕ) (xs : List A) → drop (suc n) xs ≡ rest (drop n xs)
+drop-more : {A : Type 0} (n : ℕ) (xs : List A) → drop (suc n) xs ≡ tail (drop n xs)
 drop-more zero [] = refl
 drop-more zero (x ∷ xs) = refl
 drop-more (suc n) [] = refl
@@ -66,12 +66,12 @@ abbrev pub took : Bool → Said → Said
 took b v = record { domain = v .domain; peer = v .peer; accepted = v .accepted; taken = cond b (suc (v .taken)) (v .taken) }
 
 -- the oldest receive leaves
-leaves : {p : ℕ} {d : Option ℕ} {ws : List Receive} {v : Said} → isEmpty ws ≡ false → Knows p d ws v → Knows p d (rest ws) (took true v)
+leaves : {p : ℕ} {d : Option ℕ} {ws : List Receive} {v : Said} → isEmpty ws ≡ false → Knows p d ws v → Knows p d (tail ws) (took true v)
 leaves {v} h k =
     record {
       domain = k .domain;
       peer = k .peer;
-      waits = ap rest (k .waits) ∙ sym (drop-more (v .taken) (v .accepted));
+      waits = ap tail (k .waits) ∙ sym (drop-more (v .taken) (v .accepted));
       within = drop-some (v .taken) (v .accepted) (rw (← k .waits) h);
     }
 

@@ -10,9 +10,8 @@ use lib.ListN.{length, getD}
 use borrow.Author.Tests.{ne-eqb, eqb-true, leb-true, le-leb}
 use Rattle.wire.specs.Scan.{and-left, and-right, both-true, all}
 use Rattle.wire.specs.Slots.{same}
-use Rattle.tables.specs.Card.{Card, Qp}
+use Rattle.tables.specs.Card.{Card, Qp, tail}
 use Rattle.tables.specs.Records.{Command}
-use Rattle.rules.specs.Lists.{rest}
 use Rattle.rules.specs.Touch.{Request, fills, takes, farBytes}
 use Rattle.rules.specs.Permit.{keyOf, lookup, covers, permits, permitsAll}
 use Rattle.rules.specs.Control.{commandEffect, newVariant, nextVariant}
@@ -48,8 +47,8 @@ module _ (f : ℕ → Qp) (q d : ℕ) where
   abbrev after-7 : ℕ → Qp
   after-7 = errorIf true d (consumeIf true d (errorIf true q f))
 
-  peer-after : (after-7 d .state ≡ 6) × (after-7 d .waiting ≡ rest (f d .waiting))
-  peer-after = rw (same d) (refl, ap rest (go (eqb q d) refl))
+  peer-after : (after-7 d .state ≡ 6) × (after-7 d .waiting ≡ tail (f d .waiting))
+  peer-after = rw (same d) (refl, ap tail (go (eqb q d) refl))
     where
       go : (b : Bool) → eqb q d ≡ b → errorIf true q f d .waiting ≡ f d .waiting
       go true e = rw e (ap (λ (x : ℕ). f x .waiting) (eqb-true q d e))

@@ -7,10 +7,9 @@ use Prim.Native.Nat.{ℕ, _/_, _≤_, _<_}
 use lib.Dec.{leb}
 use lib.ListN.{length, getD}
 use Rattle.tables.specs.Limits.{mostMessage}
-use Rattle.tables.specs.Card.{Card}
+use Rattle.tables.specs.Card.{Card, tail}
 use Rattle.tables.specs.Records.{Command}
 use Rattle.tables.specs.declared.Registration.{Registration}
-use Rattle.rules.specs.Lists.{rest}
 use Rattle.rules.specs.Touch.{Request, fills, total, sgeTotal, ownBytes, farBytes}
 use Rattle.rules.specs.Permit.{keyOf, lookup, permitsAll}
 use Rattle.rules.specs.Control.{commandEffect, newVariant}
@@ -24,7 +23,7 @@ pub record Fails (c : Card) (q : ℕ) (r : Request) (m : List ℕ) : Type 0 wher
   pub memory : sendMemory c q r m ≡ m
   pub sender-state : sendEffect c q r .qp q .state ≡ 6
   pub peer-state : sendEffect c q r .qp (peerOf c q) .state ≡ 6
-  pub consumed : sendEffect c q r .qp (peerOf c q) .waiting ≡ rest (c .qp (peerOf c q) .waiting)
+  pub consumed : sendEffect c q r .qp (peerOf c q) .waiting ≡ tail (c .qp (peerOf c q) .waiting)
 
 -- the key under which byte i of the peer's side is named
 abbrev pub farKey : Card → (q : ℕ) → Request → (i : ℕ) → ℕ

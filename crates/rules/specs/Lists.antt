@@ -15,10 +15,6 @@ abbrev pub isEmpty : {A : Type 0} → List A → Bool
 isEmpty [] = true
 isEmpty (x ∷ xs) = false
 
-abbrev pub rest : {A : Type 0} → List A → List A
-rest [] = []
-rest (x ∷ xs) = xs
-
 abbrev pub isSome : {A : Type 0} → Option A → Bool
 isSome none = false
 isSome (some a) = true

@@ -9,9 +9,9 @@ use lib.ListN.{length, getD}
 use Rattle.wire.specs.Checks.{Check, _if_}
 use Rattle.wire.specs.Slots.{upd}
 use Rattle.tables.specs.Limits.{qpCount, mostMessage}
-use Rattle.tables.specs.Card.{Card, Cq, Qp, Receive, noReceive, withCq, withQp, withWaiting}
+use Rattle.tables.specs.Card.{Card, Cq, Qp, Receive, noReceive, withCq, withQp, withWaiting, tail}
 use Rattle.tables.specs.declared.Completion.{Completion}
-use Rattle.rules.specs.Lists.{isEmpty, rest, names, orElse}
+use Rattle.rules.specs.Lists.{isEmpty, names, orElse}
 use Rattle.rules.specs.Touch.{Request, takes, fills, reads, total, sgeTotal, ownBytes, farBytes, delivered}
 use Rattle.rules.specs.Permit.{Use, permitsAll, place}
 
@@ -154,7 +154,7 @@ abbrev pub errorIf : Bool → (q : ℕ) → (ℕ → Qp) → ℕ → Qp
 errorIf b q f = cond b (upd f q (inError (f q))) f
 
 abbrev pub consumeIf : Bool → (q : ℕ) → (ℕ → Qp) → ℕ → Qp
-consumeIf b q f = cond b (upd f q (withWaiting (f q) (rest (f q .waiting)))) f
+consumeIf b q f = cond b (upd f q (withWaiting (f q) (tail (f q .waiting)))) f
 
 -- "The receive is consumed, both QPs go to error." "Statuses 1, 3, 8 move only the sender to error; no receive is consumed."
 unfoldable pub sendQps : Card → (q : ℕ) → Request → (s : ℕ) → ℕ → Qp

@@ -11,7 +11,7 @@ use lib.Dec.{eqb, ltb}
 use borrow.Author.Tests.{eq-eqb, ne-eqb}
 use Rattle.wire.specs.Ring.{ring-all-set}
 use Rattle.wire.specs.Fields.{Fit}
-use Rattle.wire.specs.Scan.{anyBelow, any-at, or-left, or-right}
+use Rattle.wire.specs.Scan.{anyBelow, any-at, or-left, or-right, and-off}
 use Rattle.wire.specs.Slots.{upd}
 use Rattle.wire.specs.Table.{rowAt, putRow, finish, elsewhere, table-other, row-stored, row-other, putRow-length}
 use Rattle.tables.specs.Accept.{cqLive, flagOk, completionOk, pdOk, cqSound, cqOk, mrOk, qpOk}
@@ -26,10 +26,6 @@ use Rattle.tables.specs.Stores.{Fits, pd-kept, cq-kept, entries-kept, re
 use Rattle.tables.specs.declared.Completion.{Completion}
 use Rattle.tables.specs.declared.QueueHead.{QueueHead}
 use Rattle.tables.specs.Kept.{memory-same, pd-same, cq-same, mr-same, mr-mono, qp-mono}
-
-and-off : (a b : Bool) → (a && b) ≡ false → a ≡ true → b ≡ false
-and-off true b e h = e
-and-off false b e h = absurd (false≢true h)
 
 -- an update at n, seen at m: the new value, or the old one
 upd-true : (f : ℕ → Bool) (n m : ℕ) (v : Bool) → f m ≡ true → (eqb n m ≡ true → v ≡ true) → upd f n v m ≡ true

@@ -22,6 +22,10 @@ and-right false b e = cc
 pub both-true : (a b : Bool) → a ≡ true → b ≡ true → (a && b) ≡ true
 both-true a b x y = rw (x, y)
 
+pub and-off : (a b : Bool) → (a && b) ≡ false → a ≡ true → b ≡ false
+and-off true b e h = e
+and-off false b e h = cc
+
 pub or-left : (a b : Bool) → (a || b) ≡ false → a ≡ false
 or-left true b e = e
 or-left false b e = refl
