@@ -1,7 +1,7 @@
 -- A post send that passed all tests: the message, its status and the memory after it, from the record and the rows, are the rules'.
 -- Assumes nothing.
 use mathlib.Core.Path.{_≡_, refl, sym, ap, ap₂, subst, _∙_}
-use mathlib.Core.Bool.{Bool, true, false, cond, not, _&&_, false≢true}
+use mathlib.Core.Bool.{Bool, true, false, cond, not, false≢true}
 use mathlib.Core.List.{List, [], _∷_, map, append-nil}
 use mathlib.Core.Option.{none, some}
 use Prim.Native.Nat.{ℕ, zero, suc, _+_, _*_, _%_, _-_, _≤_, _<_}
@@ -40,7 +40,7 @@ use Rattle.engine.specs.Grants.{allowsAll, places}
 use Rattle.engine.specs.Places.{moved}
 use Rattle.engine.specs.Send.{bare, endsAt, ownMask, farMask, ownBy, farList, totalBy, takenRow, Posted, Sending, statusIn, carried}
 use Rattle.engine.specs.SendCard.{row-live, some-wait}
-use Rattle.engine.specs.SendLimits.{Going, going}
+use Rattle.engine.specs.SendLimits.{Going, going, not-and}
 
 -- ---- the record
 
@@ -67,10 +67,6 @@ pub record Told (x : List ℕ) (s : SendRecord) : Type 0 where
   pub bytes : inlineBytes x ≡ take (s .count % 65536) (drop 48 x)
   pub there : isInline s ≡ true → reads (s .opcode) ≡ false
 
-and-no : (a b : Bool) → (a && b) ≡ false → a ≡ true → b ≡ false
-and-no true b e f = e
-and-no false b e f = absurd (false≢true f)
-
 exact : (x : List ℕ) (n : ℕ) (b : Bool) → not (eqb (length x) (cond b 576 n)) ≡ false → b ≡ true → length x ≡ 576
 exact x n true e i = eqb-true (length x) 576 (not-false (eqb (length x) 576) e)
 exact x n false e i = absurd (false≢true i)
@@ -83,14 +79,14 @@ told-read x g =
     let w = inline-length x in
     record {
       request = refl;
-      plain = λ i. ltb-false 4 (s .count) (and-no (not (isInline s)) (ltb mostSges (s .count)) (p .1 .1 .1 .1 .1 .0) (rw i));
+      plain = λ i. ltb-false 4 (s .count) (not-and (not (isInline s)) (ltb mostSges (s .count)) (p .1 .1 .1 .1 .1 .0) (rw i));
       short =
-          λ i. (let h : inlineLength x ≤ mostInline = ltb-false mostInline (inlineLength x) (and-no (isInline s) (ltb mostInline (inlineLength x)) (p .1 .1 .1 .1 .0) i) in
+          λ i. (let h : inlineLength x ≤ mostInline = ltb-false mostInline (inlineLength x) (not-and (isInline s) (ltb mostInline (inlineLength x)) (p .1 .1 .1 .1 .0) i) in
           let z : length x ≡ 576 = exact x (576 + 16 * s .count) (isInline s) (p .1 .1 .1 .1 .1 .1 .0) i in
           let y : s .count % 65536 ≤ mostInline = omega arith in
           (y, length-take-le (s .count % 65536) (drop 48 x) (simp length-drop (omega arith))));
       bytes = sym (inline-part x);
-      there = λ i. and-no (isInline s) (eqb (s .opcode) 4) (p .1 .1 .1 .0) i;
+      there = λ i. not-and (isInline s) (eqb (s .opcode) 4) (p .1 .1 .1 .0) i;
     }
 
 pub told : (x : List ℕ) (s : SendRecord) → Posted x s → Told x s
