@@ -128,13 +128,13 @@ fn put_receiver(state: &mut [u8], e: Ends, s: SendRecord, w: ReceiveRecord, st: 
         return;
     }
     let opcode = receiver_opcode(s.opcode);
-    let length = kept_if(st == 0, n);
+    let received = kept_if(st == 0, n);
     let carries = (st == 0) & ((s.opcode == 1) | (s.opcode == 3));
     let entry = Completion {
         wr: w.wr,
         status: receiver_status(st, n, w),
         opcode,
-        length,
+        length: received,
         imm: kept_if(carries, s.imm),
         owner: e.own.dest as u32,
     };
