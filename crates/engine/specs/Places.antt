@@ -38,8 +38,7 @@ unfoldable pub moved : List ℕ → List ℕ → List ℕ → List ℕ
 moved m sources targets = stored m targets (readBytes m sources)
 
 pub read-append : (m ps qs : List ℕ) → readBytes m (ps ++ qs) ≡ readBytes m ps ++ readBytes m qs
-read-append m [] qs = refl
-read-append m (p ∷ ps) qs = ap (λ (l : List ℕ). getD m p 0 ∷ l) (read-append m ps qs)
+read-append m ps qs = map-append (λ p. getD m p 0) ps qs
 
 -- ---- the places of one entry
 

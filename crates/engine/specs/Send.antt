@@ -1,5 +1,5 @@
--- Post send over the state's rows, as the code computes it. Laws that this is what the rules say: SendMeet, SendStatus, SendMove,
--- SendSettle. Assumes nothing.
+-- Post send over the state's rows, as the code computes it. That this is what the rules say: SendMeet (the tests), SendStatus, SendMove
+-- and SendRequest (the status and the memory), SendSettle and SendWhole (the stores), SendEnd (the whole). Assumes nothing.
 use mathlib.Core.Path.{_≡_}
 use mathlib.Core.Bool.{Bool, true, false, cond, not, _&&_, _||_}
 use mathlib.Core.List.{List, [], _∷_}

@@ -1,6 +1,6 @@
 -- A post send that passes its tests: what they tell of the two queue pairs, and that each completion which it puts has a place and is
 -- within its limits. Assumes nothing.
-use mathlib.Core.Path.{_≡_, refl, sym}
+use mathlib.Core.Path.{_≡_, refl}
 use mathlib.Core.Bool.{Bool, true, false, cond, not, _&&_, _||_, false≢true}
 use mathlib.Core.List.{[], _∷_, _++_}
 use mathlib.Core.Option.{Option, none, some}
@@ -8,7 +8,7 @@ use Prim.Native.Nat.{ℕ, _+_, _^_, _<_, _≤_}
 use native.Mathlib.Omega.{arith}
 use lib.Dec.{eqb, leb}
 use lib.ListN.{length, length-append}
-use borrow.Author.Tests.{leb-true, lt-ltb}
+use borrow.Author.Tests.{leb-true, lt-ltb, not-false}
 use Rattle.wire.specs.Checks.{Passed}
 use Rattle.wire.specs.Fields.{Fit}
 use Rattle.wire.specs.Scan.{and-left, and-right, and-off}
@@ -32,10 +32,6 @@ pub record Going (c : Card) (q o : ℕ) : Type 0 where
   pub waits : takes o ≡ true → isEmpty (c .qp (peerOf c q) .waiting) ≡ false
   pub places : hasPlaces c q (peerOf c q) o ≡ true
 
-not-not : (b : Bool) → not b ≡ false → b ≡ true
-not-not true e = refl
-not-not false e = absurd (false≢true (sym e))
-
 peer-live : (c : Card) (q : ℕ) (d : Option ℕ) → ready c q d ≡ true → c .qp (orElse d qpCount) .live ≡ true
 peer-live c q none e = absurd (false≢true e)
 peer-live c q (some d) e =
@@ -47,10 +43,10 @@ pub going : (c : Card) (q : ℕ) (r : Request) → Passed (deliveryChecks c q r)
 unfolding deliveryChecks
 going c q r p =
     record {
-      live = not-not (c .qp q .live) (p .0);
-      peer = peer-live c q (c .qp q .dest) (not-not (ready c q (c .qp q .dest)) (p .1 .1 .0));
+      live = not-false (c .qp q .live) (p .0);
+      peer = peer-live c q (c .qp q .dest) (not-false (ready c q (c .qp q .dest)) (p .1 .1 .0));
       waits = and-off (takes (r .opcode)) (isEmpty (c .qp (peerOf c q) .waiting)) (p .1 .1 .1 .0);
-      places = not-not (hasPlaces c q (peerOf c q) (r .opcode)) (p .1 .1 .1 .1 .0);
+      places = not-false (hasPlaces c q (peerOf c q) (r .opcode)) (p .1 .1 .1 .1 .0);
     }
 
 -- ---- the numbers of a completion

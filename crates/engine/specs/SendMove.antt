@@ -1,4 +1,4 @@
--- The message of a post send that succeeds: what the move asks, and that it leaves the memory that the rules say. Assumes nothing.
+-- The message of a post send that succeeds: what the move asks, as a transfer there or back asks it. Assumes nothing.
 use mathlib.Core.Path.{_≡_}
 use mathlib.Core.Bool.{false}
 use mathlib.Core.List.{List}

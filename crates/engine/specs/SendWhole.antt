@@ -1,6 +1,6 @@
 -- A post send that passed all tests: what the stores ask, and that they leave the bytes that the rules' card needs. Assumes nothing.
 use mathlib.Core.Path.{_≡_, refl, sym, ap, ap₂, subst, _∙_}
-use mathlib.Core.Bool.{Bool, true, false, cond, not, _||_, false≢true}
+use mathlib.Core.Bool.{Bool, true, false, cond, not, _||_}
 use mathlib.Core.List.{List, [], _∷_, _++_}
 use mathlib.Core.Option.{none}
 use Prim.Native.Nat.{ℕ, _+_, _^_, _≤_, _<_}
@@ -55,10 +55,6 @@ open-place l k n o =
     omega arith
 
 -- ---- two queue pairs that passed the tests; st is the status and k the number of bytes that the stores are told
-
-either : (a b : Bool) → (a || b) ≡ true → a ≡ false → b ≡ true
-either true b e f = absurd (false≢true (sym f))
-either false b e f = e
 
 module _ (l : List ℕ) (a : accepts l ≡ true) (q : ℕ) (x : List ℕ) (s : SendRecord) (t : Told x s)
     (good : refusal (deliveryChecks (card l) q (bare (s .opcode))) ≡ none) where

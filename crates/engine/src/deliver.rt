@@ -89,6 +89,7 @@ fn far_sges(s: SendRecord, w: ReceiveRecord, n: u32) -> [Sge; 4]
     [range, none, none, none]
 }
 
+// How many entries that is.
 fn far_count(opcode: u8, w: ReceiveRecord) -> usize
     ensures { λ r. ⌜ r ≡ farCount opcode w ⌝ }
 {
@@ -98,6 +99,7 @@ fn far_count(opcode: u8, w: ReceiveRecord) -> usize
     1
 }
 
+// The access bit that the peer's side needs.
 fn far_mask(opcode: u8) -> u8
     ensures { λ r. ⌜ r ≡ farMask opcode ⌝ }
 {

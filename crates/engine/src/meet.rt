@@ -52,6 +52,7 @@ fn answers_to(far: QueuePair, q: usize) -> bool
     (far.live == 1) & ((far.state == 2) | (far.state == 3)) & (far.dest as usize == q)
 }
 
+// Whether a completion queue has n free places.
 fn has_room(h: QueueHead, n: u32) -> bool
     requires { ⌜ n ≤ 2 ⌝ }
     ensures { λ r. ⌜ r ≡ leb (h .count + n) (h .places) ⌝ }
@@ -59,6 +60,7 @@ fn has_room(h: QueueHead, n: u32) -> bool
     h.count as u32 + n <= h.places as u32
 }
 
+// The places needed in the send queue, two where it is the receive queue too.
 fn places_needed(both: bool) -> u32
     ensures { λ r. ⌜ r ≡ cond both 2 1 ⌝ }
 {

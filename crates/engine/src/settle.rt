@@ -24,6 +24,7 @@ ghost use Rattle.engine.specs.Send.{receiverStatus, putFirst, putSecond,
 
 const SIGNALED_FLAG: u8 = 2;
 
+// x where b holds, else y.
 pub fn choose(b: bool, x: u8, y: u8) -> u8
     ensures { λ r. ⌜ r ≡ cond b x y ⌝ }
 {
@@ -33,18 +34,21 @@ pub fn choose(b: bool, x: u8, y: u8) -> u8
     y
 }
 
+// The opcode of the sender's completion: 0 send, 1 write, 2 read.
 fn sender_opcode(opcode: u8) -> u8
     ensures { λ r. ⌜ r ≡ senderOpcode opcode ⌝ }
 {
     choose(opcode == 4, 2, choose(meet::fills_receive(opcode), 0, 1))
 }
 
+// The opcode of the receiver's completion.
 fn receiver_opcode(opcode: u8) -> u8
     ensures { λ r. ⌜ r ≡ receiverOpcode opcode ⌝ }
 {
     choose(opcode == 1, 4, 3)
 }
 
+// n where b holds, else 0.
 fn kept_if(b: bool, n: u32) -> u32
     ensures { λ r. ⌜ r ≡ cond b n 0 ⌝ }
 {
@@ -124,19 +128,20 @@ fn put_receiver(state: &mut [u8], e: Ends, s: SendRecord, w: ReceiveRecord, st: 
         return;
     }
     let opcode = receiver_opcode(s.opcode);
-    let length = kept_if(st == 0, n);
+    let received = kept_if(st == 0, n);
     let carries = (st == 0) & ((s.opcode == 1) | (s.opcode == 3));
     let entry = Completion {
         wr: w.wr,
         status: receiver_status(st, n, w),
         opcode,
-        length,
+        length: received,
         imm: kept_if(carries, s.imm),
         owner: e.own.dest as u32,
     };
     queue::push_completion(state, e.far.rcq as usize, entry);
 }
 
+// A receive is consumed by opcodes 1 to 3 on success, and where it does not take the message.
 fn is_consumed(opcode: u8, st: u8) -> bool
     ensures { λ r. ⌜ r ≡ consumes opcode st ⌝ }
 {

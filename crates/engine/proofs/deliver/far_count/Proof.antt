@@ -12,7 +12,9 @@ cast-result : tie.Need-cast-result
 cast-result c = search needs
 
 returns : tie.Need-returns
-returns c = let e : fills (c .before .before .before .args .opcode) ≡ true = sym (c .before .before .fills-receive .ensures) ∙ c .before .if1 .taken in rw e
+returns c =
+    let e : fills (c .before .before .before .args .opcode) ≡ true = sym (c .before .before .fills-receive .ensures) ∙ c .before .if1 .taken in
+    rw e
 
 returns-2 : tie.Need-returns-2
 returns-2 c = let e : fills (c .before .before .args .opcode) ≡ false = sym (c .before .fills-receive .ensures) ∙ c .if1 .left in rw e

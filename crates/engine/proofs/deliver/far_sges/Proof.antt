@@ -19,7 +19,10 @@ cut-to-requires : tie.Need-cut-to-requires
 cut-to-requires c κs = search needs
 
 returns : tie.Need-returns
-returns c = let e : fills (c .before .before .before .before .before .args .s .opcode) ≡ true = sym (c .before .before .before .before .fills-receive .ensures) ∙ c .before .before .before .if1 .taken in rw e (c .cut-to .ensures ∙ ap (cut (c .before .before .before .before .before .args .n)) (c .before .before .receive-sges .ensures))
+returns c =
+    let e : fills (c .before .before .before .before .before .args .s .opcode) ≡ true = sym (c .before .before .before .before .fills-receive .ensures)
+    ∙ c .before .before .before .if1 .taken in
+    rw e (c .cut-to .ensures ∙ ap (cut (c .before .before .before .before .before .args .n)) (c .before .before .receive-sges .ensures))
 
 returns-2 : tie.Need-returns-2
 returns-2 c = let e : fills (c .before .before .args .s .opcode) ≡ false = sym (c .before .fills-receive .ensures) ∙ c .if1 .left in rw e

@@ -10,7 +10,9 @@ fills-receive-requires : tie.Need-fills-receive-requires
 fills-receive-requires c κs = search needs
 
 returns : tie.Need-returns
-returns c = let e : fills (c .before .before .args .opcode) ≡ false = sym (c .before .fills-receive .ensures) ∙ not-true _ (c .if1 .taken) in rw e
+returns c =
+    let e : fills (c .before .before .args .opcode) ≡ false = sym (c .before .fills-receive .ensures) ∙ not-true _ (c .if1 .taken) in
+    rw e
 
 receive-sges-requires : tie.Need-receive-sges-requires
 receive-sges-requires c κs = search needs
@@ -22,7 +24,10 @@ sges-total-requires : tie.Need-sges-total-requires
 sges-total-requires c κs = search needs
 
 returns-2 : tie.Need-returns-2
-returns-2 c = let e : fills (c .before .before .before .before .before .args .opcode) ≡ true = sym (c .before .before .before .before .fills-receive .ensures) ∙ not-false _ (c .before .before .before .if1 .left) in rw (e, c .sges-total .ensures, c .before .before .receive-sges .ensures)
+returns-2 c =
+    let e : fills (c .before .before .before .before .before .args .opcode) ≡ true = sym (c .before .before .before .before .fills-receive .ensures)
+    ∙ not-false _ (c .before .before .before .if1 .left) in
+    rw (e, c .sges-total .ensures, c .before .before .receive-sges .ensures)
 
 pub fits-receive-spec : {M : Type 1} → statement M
 fits-receive-spec =

@@ -21,34 +21,86 @@ inline-bytes-requires : tie.Need-inline-bytes-requires
 inline-bytes-requires c κs = search needs
 
 scatter-inline-requires : tie.Need-scatter-inline-requires
-scatter-inline-requires c κs = let b = c .before .before .before .before .before .before .before in let a = b .args in let k = b .pre .1 .2 in let h = k .short (sym (c .before .before .before .is-inline .ensures) ∙ c .before .before .if1 .taken) in let z : length (now (c .before .inline-bytes .result)) ≡ a .n = ap (λ (v : List ℕ). length v) (c .before .inline-bytes .ensures) ∙ h .1 in (b .pre .0, (b .pre .1 .0, k .target, k .total ∙ sym z, rw z (h .0)))
+scatter-inline-requires c κs =
+    let b = c .before .before .before .before .before .before .before in
+    let a = b .args in
+    let k = b .pre .1 .2 in
+    let h = k .short (sym (c .before .before .before .is-inline .ensures) ∙ c .before .before .if1 .taken) in
+    let z : length (now (c .before .inline-bytes .result)) ≡ a .n = ap (λ (v : List ℕ). length v) (c .before .inline-bytes .ensures) ∙ h .1 in
+    (b .pre .0, (b .pre .1 .0, k .target, k .total ∙ sym z, rw z (h .0)))
 
 same-length : tie.Need-same-length
 same-length c = search needs
 
 returns : tie.Need-returns
-returns c = let b = c .before .before .before .before .before .before .before .before .before .before in let a = b .args in let k = b .pre .1 .2 in let e : isInline (a .s) ≡ true = sym (c .before .before .before .before .before .before .is-inline .ensures) ∙ c .before .before .before .before .before .if1 .taken in rw e (c .before .before .scatter-inline .ensures ∙ ap (λ (v : List ℕ). stored (now (a .memory)) (places (card (now (a .state))) (take (a .count) (a .far))) v) (c .before .before .before .before .inline-bytes .ensures))
+returns c =
+    let b = c .before .before .before .before .before .before .before .before .before .before in
+    let a = b .args in
+    let k = b .pre .1 .2 in
+    let e : isInline (a .s) ≡ true = sym (c .before .before .before .before .before .before .is-inline .ensures)
+    ∙ c .before .before .before .before .before .if1 .taken in
+    rw e (c .before .before .scatter-inline .ensures ∙ ap
+    (λ (v : List ℕ). stored (now (a .memory)) (places (card (now (a .state))) (take (a .count) (a .far))) v)
+    (c .before .before .before .before .inline-bytes .ensures))
 
 cast-own : tie.Need-cast-own
 cast-own c = search needs
 
 transfer-requires : tie.Need-transfer-requires
-transfer-requires c κs = let b = c .before .before .before .before .before .before .before .before .before in let a = b .args in let k = b .pre .1 .2 in let e : isInline (a .s) ≡ false = sym (c .before .before .before .before .before .is-inline .ensures) ∙ c .before .before .before .before .if1 .left in (b .pre .0, (b .pre .1 .0, b .pre .1 .1 e, back (card (now (a .state))) (a .s) (now (a .sent)) (take (a .s .count) (a .sges)) (take (a .count) (a .far)) (a .n) k e))
+transfer-requires c κs =
+    let b = c .before .before .before .before .before .before .before .before .before in
+    let a = b .args in
+    let k = b .pre .1 .2 in
+    let e : isInline (a .s) ≡ false = sym (c .before .before .before .before .before .is-inline .ensures) ∙ c .before .before .before .before .if1 .left
+    in (
+      b .pre .0,
+      (
+        b .pre .1 .0,
+        b .pre .1 .1 e,
+        back (card (now (a .state))) (a .s) (now (a .sent)) (take (a .s .count) (a .sges))
+            (take (a .count) (a .far)) (a .n) k e,
+      ),
+    )
 
 same-length-2 : tie.Need-same-length-2
 same-length-2 c = search needs
 
 returns-2 : tie.Need-returns-2
-returns-2 c = let b = c .before .before .before .before .before .before .before .before .before .before .before .before in let a = b .args in let k = b .pre .1 .2 in let e : isInline (a .s) ≡ false = sym (c .before .before .before .before .before .before .before .before .is-inline .ensures) ∙ c .before .before .before .before .before .before .before .if1 .left in rw (e, eq-eqb (a .s .opcode) 4 (c .before .before .before .before .if2 .taken)) (c .before .before .transfer .ensures)
+returns-2 c =
+    let b = c .before .before .before .before .before .before .before .before .before .before .before .before in
+    let a = b .args in
+    let k = b .pre .1 .2 in
+    let e : isInline (a .s) ≡ false = sym (c .before .before .before .before .before .before .before .before .is-inline .ensures)
+    ∙ c .before .before .before .before .before .before .before .if1 .left in
+    rw (e, eq-eqb (a .s .opcode) 4 (c .before .before .before .before .if2 .taken)) (c .before .before .transfer .ensures)
 
 transfer-requires-2 : tie.Need-transfer-requires-2
-transfer-requires-2 c κs = let b = c .before .before .before .before .before .before .before .before .before in let a = b .args in let k = b .pre .1 .2 in let e : isInline (a .s) ≡ false = sym (c .before .before .before .before .before .is-inline .ensures) ∙ c .before .before .before .before .if1 .left in (b .pre .0, (b .pre .1 .1 e, b .pre .1 .0, there (card (now (a .state))) (a .s) (now (a .sent)) (take (a .s .count) (a .sges)) (take (a .count) (a .far)) (a .n) k e))
+transfer-requires-2 c κs =
+    let b = c .before .before .before .before .before .before .before .before .before in
+    let a = b .args in
+    let k = b .pre .1 .2 in
+    let e : isInline (a .s) ≡ false = sym (c .before .before .before .before .before .is-inline .ensures) ∙ c .before .before .before .before .if1 .left
+    in (
+      b .pre .0,
+      (
+        b .pre .1 .1 e,
+        b .pre .1 .0,
+        there (card (now (a .state))) (a .s) (now (a .sent)) (take (a .s .count) (a .sges))
+            (take (a .count) (a .far)) (a .n) k e,
+      ),
+    )
 
 same-length-3 : tie.Need-same-length-3
 same-length-3 c = search needs
 
 returns-3 : tie.Need-returns-3
-returns-3 c = let b = c .before .before .before .before .before .before .before .before .before .before .before .before in let a = b .args in let k = b .pre .1 .2 in let e : isInline (a .s) ≡ false = sym (c .before .before .before .before .before .before .before .before .is-inline .ensures) ∙ c .before .before .before .before .before .before .before .if1 .left in rw (e, ne-eqb (a .s .opcode) 4 (c .before .before .before .before .if2 .left)) (c .before .before .transfer2 .ensures)
+returns-3 c =
+    let b = c .before .before .before .before .before .before .before .before .before .before .before .before in
+    let a = b .args in
+    let k = b .pre .1 .2 in
+    let e : isInline (a .s) ≡ false = sym (c .before .before .before .before .before .before .before .before .is-inline .ensures)
+    ∙ c .before .before .before .before .before .before .before .if1 .left in
+    rw (e, ne-eqb (a .s .opcode) 4 (c .before .before .before .before .if2 .left)) (c .before .before .transfer2 .ensures)
 
 pub move-bytes-spec : {M : Type 1} → statement M
 move-bytes-spec =

@@ -20,10 +20,16 @@ cast-sges-permitted : tie.Need-cast-sges-permitted
 cast-sges-permitted c = search needs
 
 sges-permitted-requires : tie.Need-sges-permitted-requires
-sges-permitted-requires c κs = let e : isInline (c .before .before .before .before .before .before .args .s) ≡ false = sym (c .before .before .before .before .is-inline .ensures) ∙ c .before .before .before .if1 .left in (c .before .before .before .before .before .before .pre .1 e, c .before .before .before .before .before .before .pre .0)
+sges-permitted-requires c κs =
+    let e : isInline (c .before .before .before .before .before .before .args .s) ≡ false = sym (c .before .before .before .before .is-inline .ensures)
+    ∙ c .before .before .before .if1 .left in
+    (c .before .before .before .before .before .before .pre .1 e, c .before .before .before .before .before .before .pre .0)
 
 returns-2 : tie.Need-returns-2
-returns-2 c = let e : isInline (c .before .before .before .before .before .before .before .args .s) ≡ false = sym (c .before .before .before .before .before .is-inline .ensures) ∙ c .before .before .before .before .if1 .left in rw (e, c .sges-permitted .ensures, c .before .before .choose .ensures)
+returns-2 c =
+    let e : isInline (c .before .before .before .before .before .before .before .args .s) ≡ false = sym
+    (c .before .before .before .before .before .is-inline .ensures) ∙ c .before .before .before .before .if1 .left in
+    rw (e, c .sges-permitted .ensures, c .before .before .choose .ensures)
 
 pub own-permitted-spec : {M : Type 1} → statement M
 own-permitted-spec =

@@ -12,10 +12,14 @@ oldest-receive-requires : tie.Need-oldest-receive-requires
 oldest-receive-requires c κs = search needs
 
 returns : tie.Need-returns
-returns c = let e : takes (c .before .before .before .before .args .opcode) ≡ true = sym (c .before .before .takes-receive .ensures) ∙ c .before .if1 .taken in rw (e, c .oldest-receive .ensures)
+returns c =
+    let e : takes (c .before .before .before .before .args .opcode) ≡ true = sym (c .before .before .takes-receive .ensures) ∙ c .before .if1 .taken in
+    rw (e, c .oldest-receive .ensures)
 
 returns-2 : tie.Need-returns-2
-returns-2 c = let e : takes (c .before .before .before .args .opcode) ≡ false = sym (c .before .takes-receive .ensures) ∙ c .if1 .left in rw e
+returns-2 c =
+    let e : takes (c .before .before .before .args .opcode) ≡ false = sym (c .before .takes-receive .ensures) ∙ c .if1 .left in
+    rw e
 
 pub taken-receive-spec : {M : Type 1} → statement M
 taken-receive-spec =

@@ -12,16 +12,23 @@ cast-result : tie.Need-cast-result
 cast-result c = search needs
 
 returns : tie.Need-returns
-returns c = let e : isInline (c .before .before .before .args .s) ≡ true = sym (c .before .before .is-inline .ensures) ∙ c .before .if1 .taken in rw e
+returns c =
+    let e : isInline (c .before .before .before .args .s) ≡ true = sym (c .before .before .is-inline .ensures) ∙ c .before .if1 .taken in
+    rw e
 
 cast-sges-total : tie.Need-cast-sges-total
 cast-sges-total c = search needs
 
 sges-total-requires : tie.Need-sges-total-requires
-sges-total-requires c κs = let e : isInline (c .before .before .before .args .s) ≡ false = sym (c .before .before .is-inline .ensures) ∙ c .before .if1 .left in c .before .before .before .pre e
+sges-total-requires c κs =
+    let e : isInline (c .before .before .before .args .s) ≡ false = sym (c .before .before .is-inline .ensures) ∙ c .before .if1 .left in
+    c .before .before .before .pre e
 
 returns-2 : tie.Need-returns-2
-returns-2 c = let e : isInline (c .before .before .before .before .args .s) ≡ false = sym (c .before .before .before .is-inline .ensures) ∙ c .before .before .if1 .left in rw (e, c .sges-total .ensures)
+returns-2 c =
+    let e : isInline (c .before .before .before .before .args .s) ≡ false = sym (c .before .before .before .is-inline .ensures)
+    ∙ c .before .before .if1 .left in
+    rw (e, c .sges-total .ensures)
 
 pub total-of-spec : {M : Type 1} → statement M
 total-of-spec =

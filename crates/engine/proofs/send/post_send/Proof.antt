@@ -22,16 +22,36 @@ same-length : tie.Need-same-length
 same-length c = search needs
 
 returns : tie.Need-returns
-returns c = let b = c .before .before .before .before .before .before in let a = b .args in let l : List ℕ = now (a .state) in let m : List ℕ = now (a .memory) in let x : List ℕ = now (a .sent) in not-accepted l (a .qpn) x m (sym (c .before .accepted .ensures) ∙ not-true _ (c .if1 .taken))
+returns c =
+    let b = c .before .before .before .before .before .before in
+    let a = b .args in
+    let l : List ℕ = now (a .state) in
+    let m : List ℕ = now (a .memory) in
+    let x : List ℕ = now (a .sent) in
+    not-accepted l (a .qpn) x m (sym (c .before .accepted .ensures) ∙ not-true _ (c .if1 .taken))
 
 load-memory-requires : tie.Need-load-memory-requires
-load-memory-requires c κs = let b = c .before .before .before .before .before .before .before in let a = b .args in let l : List ℕ = now (a .state) in let m : List ℕ = now (a .memory) in let x : List ℕ = now (a .sent) in let y : accepts l ≡ true = sym (c .before .before .accepted .ensures) ∙ not-false _ (c .before .if1 .left) in accepted l y .sized
+load-memory-requires c κs =
+    let b = c .before .before .before .before .before .before .before in
+    let a = b .args in
+    let l : List ℕ = now (a .state) in
+    let m : List ℕ = now (a .memory) in
+    let x : List ℕ = now (a .sent) in
+    let y : accepts l ≡ true = sym (c .before .before .accepted .ensures) ∙ not-false _ (c .before .if1 .left) in
+    accepted l y .sized
 
 same-length-2 : tie.Need-same-length-2
 same-length-2 c = search needs
 
 returns-2 : tie.Need-returns-2
-returns-2 c = let b = c .before .before .before .before .before .before .before .before .before in let a = b .args in let l : List ℕ = now (a .state) in let m : List ℕ = now (a .memory) in let x : List ℕ = now (a .sent) in let y : accepts l ≡ true = sym (c .before .before .before .before .accepted .ensures) ∙ not-false _ (c .before .before .before .if1 .left) in other-memory l (a .qpn) x m y (λ z. c .if2 .taken (z ∙ memory-is l ∙ sym (c .before .load-memory .ensures)))
+returns-2 c =
+    let b = c .before .before .before .before .before .before .before .before .before in
+    let a = b .args in
+    let l : List ℕ = now (a .state) in
+    let m : List ℕ = now (a .memory) in
+    let x : List ℕ = now (a .sent) in
+    let y : accepts l ≡ true = sym (c .before .before .before .before .accepted .ensures) ∙ not-false _ (c .before .before .before .if1 .left) in
+    other-memory l (a .qpn) x m y (λ z. c .if2 .taken (z ∙ memory-is l ∙ sym (c .before .load-memory .ensures)))
 
 read-send-requires : tie.Need-read-send-requires
 read-send-requires c κs = search needs
@@ -40,7 +60,20 @@ enum-known-s : tie.Need-enum-known-s
 enum-known-s c = search needs
 
 send-checked-requires : tie.Need-send-checked-requires
-send-checked-requires c κs = let b = c .before .before .before .before .before .before .before .before .before .before .before .before .before .before .before in let a = b .args in let l : List ℕ = now (a .state) in let m : List ℕ = now (a .memory) in let x : List ℕ = now (a .sent) in let y : accepts l ≡ true = sym (c .before .before .before .before .before .before .before .before .before .before .accepted .ensures) ∙ not-false _ (c .before .before .before .before .before .before .before .before .before .if1 .left) in let v : length m ≡ card l .memory = c .before .before .before .before .before .before .if2 .left ∙ c .before .before .before .before .before .before .before .load-memory .ensures ∙ sym (memory-is l) in (record { accepted = y; size = accepted l y .sized; whole = v ∙ memory-is l }, posted x _ (sym (c .before .before .before .s .given .1) ∙ c .before .before .before .before .before .read-send .ensures))
+send-checked-requires c κs =
+    let b = c .before .before .before .before .before .before .before .before .before .before .before .before .before .before .before in
+    let a = b .args in
+    let l : List ℕ = now (a .state) in
+    let m : List ℕ = now (a .memory) in
+    let x : List ℕ = now (a .sent) in
+    let y : accepts l ≡ true = sym (c .before .before .before .before .before .before .before .before .before .before .accepted .ensures) ∙ not-false _
+    (c .before .before .before .before .before .before .before .before .before .if1 .left) in
+    let v : length m ≡ card l .memory = c .before .before .before .before .before .before .if2 .left
+    ∙ c .before .before .before .before .before .before .before .load-memory .ensures ∙ sym (memory-is l) in (
+      record { accepted = y; size = accepted l y .sized; whole = v ∙ memory-is l },
+      posted x _
+          (sym (c .before .before .before .s .given .1) ∙ c .before .before .before .before .before .read-send .ensures),
+    )
 
 enum-known-n : tie.Need-enum-known-n
 enum-known-n c = search needs
@@ -52,13 +85,34 @@ same-length-4 : tie.Need-same-length-4
 same-length-4 c = search needs
 
 returns-3 : tie.Need-returns-3
-returns-3 c = let b = c .before .before .before .before .before .before .before .before .before .before .before .before .before .before .before .before .before .before .before .before in let a = b .args in let l : List ℕ = now (a .state) in let m : List ℕ = now (a .memory) in let x : List ℕ = now (a .sent) in let y : accepts l ≡ true = sym (c .before .before .before .before .before .before .before .before .before .before .before .before .before .before .before .accepted .ensures) ∙ not-false _ (c .before .before .before .before .before .before .before .before .before .before .before .before .before .before .if1 .left) in let v : length m ≡ card l .memory = c .before .before .before .before .before .before .before .before .before .before .before .if2 .left ∙ c .before .before .before .before .before .before .before .before .before .before .before .before .load-memory .ensures ∙ sym (memory-is l) in ran l (a .qpn) x m y v (posted x _ (sym (c .before .before .before .before .before .before .before .before .s .given .1) ∙ c .before .before .before .before .before .before .before .before .before .before .read-send .ensures) .good) _ _ _ (c .before .before .before .before .send-checked .ensures)
+returns-3 c =
+    let b = c .before .before .before .before .before .before .before .before .before .before .before .before .before .before .before .before .before .before .before .before in
+    let a = b .args in
+    let l : List ℕ = now (a .state) in
+    let m : List ℕ = now (a .memory) in
+    let x : List ℕ = now (a .sent) in
+    let y : accepts l ≡ true = sym (c .before .before .before .before .before .before .before .before .before .before .before .before .before .before .before .accepted .ensures) ∙ not-false _ (c .before .before .before .before .before .before .before .before .before .before .before .before .before .before .if1 .left) in
+    let v : length m ≡ card l .memory = c .before .before .before .before .before .before .before .before .before .before .before .if2 .left
+    ∙ c .before .before .before .before .before .before .before .before .before .before .before .before .load-memory .ensures ∙ sym (memory-is l) in
+    ran l (a .qpn) x m y v (posted x _ (sym (c .before .before .before .before .before .before .before .before .s .given .1)
+    ∙ c .before .before .before .before .before .before .before .before .before .before .read-send .ensures) .good) _ _ _
+    (c .before .before .before .before .send-checked .ensures)
 
 same-length-5 : tie.Need-same-length-5
 same-length-5 c = search needs
 
 returns-4 : tie.Need-returns-4
-returns-4 c = let b = c .before .before .before .before .before .before .before .before .before .before .before .before .before in let a = b .args in let l : List ℕ = now (a .state) in let m : List ℕ = now (a .memory) in let x : List ℕ = now (a .sent) in let y : accepts l ≡ true = sym (c .before .before .before .before .before .before .before .before .accepted .ensures) ∙ not-false _ (c .before .before .before .before .before .before .before .if1 .left) in let v : length m ≡ card l .memory = c .before .before .before .before .if2 .left ∙ c .before .before .before .before .before .load-memory .ensures ∙ sym (memory-is l) in bad-record l (a .qpn) x m y v _ (sym (c .before .n .given .1) ∙ c .before .before .before .read-send .ensures)
+returns-4 c =
+    let b = c .before .before .before .before .before .before .before .before .before .before .before .before .before in
+    let a = b .args in
+    let l : List ℕ = now (a .state) in
+    let m : List ℕ = now (a .memory) in
+    let x : List ℕ = now (a .sent) in
+    let y : accepts l ≡ true = sym (c .before .before .before .before .before .before .before .before .accepted .ensures) ∙ not-false _
+    (c .before .before .before .before .before .before .before .if1 .left) in
+    let v : length m ≡ card l .memory = c .before .before .before .before .if2 .left ∙ c .before .before .before .before .before .load-memory .ensures
+    ∙ sym (memory-is l) in
+    bad-record l (a .qpn) x m y v _ (sym (c .before .n .given .1) ∙ c .before .before .before .read-send .ensures)
 
 pub post-send-spec : {M : Type 1} → statement M
 post-send-spec =

@@ -15,7 +15,19 @@ enum-known-e : tie.Need-enum-known-e
 enum-known-e c = search needs
 
 carry-out-requires : tie.Need-carry-out-requires
-carry-out-requires c κs = let b = c .before .before .before .before .before .before .before .before .before .before in let a = b .args in let l : List ℕ = now (a .state) in let m : List ℕ = now (a .memory) in let x : List ℕ = now (a .sent) in (b .pre .0, (b .pre .1, is-met l (a .qpn) (a .s .opcode) _ (sym (c .before .before .before .e .given .1) ∙ c .before .before .before .before .before .meet .ensures)))
+carry-out-requires c κs =
+    let b = c .before .before .before .before .before .before .before .before .before .before in
+    let a = b .args in
+    let l : List ℕ = now (a .state) in
+    let m : List ℕ = now (a .memory) in
+    let x : List ℕ = now (a .sent) in (
+      b .pre .0,
+      (
+        b .pre .1,
+        is-met l (a .qpn) (a .s .opcode) _
+            (sym (c .before .before .before .e .given .1) ∙ c .before .before .before .before .before .meet .ensures),
+      ),
+    )
 
 enum-known-a : tie.Need-enum-known-a
 enum-known-a c = search needs
@@ -27,13 +39,29 @@ same-length-2 : tie.Need-same-length-2
 same-length-2 c = search needs
 
 returns : tie.Need-returns
-returns c = let b = c .before .before .before .before .before .before .before .before .before .before .before .before .before .before .before in let a = b .args in let l : List ℕ = now (a .state) in let m : List ℕ = now (a .memory) in let x : List ℕ = now (a .sent) in ran-on l (a .qpn) (a .s .opcode) (requestOf x) (opcode-is x (a .s) (b .pre .1)) m _ (sym (c .before .before .before .before .before .before .before .before .e .given .1) ∙ c .before .before .before .before .before .before .before .before .before .before .meet .ensures) _ _ _ (c .before .before .before .before .carry-out .ensures)
+returns c =
+    let b = c .before .before .before .before .before .before .before .before .before .before .before .before .before .before .before in
+    let a = b .args in
+    let l : List ℕ = now (a .state) in
+    let m : List ℕ = now (a .memory) in
+    let x : List ℕ = now (a .sent) in
+    ran-on l (a .qpn) (a .s .opcode) (requestOf x) (opcode-is x (a .s) (b .pre .1)) m _
+    (sym (c .before .before .before .before .before .before .before .before .e .given .1)
+    ∙ c .before .before .before .before .before .before .before .before .before .before .meet .ensures) _ _ _
+    (c .before .before .before .before .carry-out .ensures)
 
 same-length-3 : tie.Need-same-length-3
 same-length-3 c = search needs
 
 returns-2 : tie.Need-returns-2
-returns-2 c = let b = c .before .before .before .before .before .before .before .before in let a = b .args in let l : List ℕ = now (a .state) in let m : List ℕ = now (a .memory) in let x : List ℕ = now (a .sent) in stopped l (a .qpn) (a .s .opcode) (requestOf x) (opcode-is x (a .s) (b .pre .1)) m _ (sym (c .before .a .given .1) ∙ c .before .before .before .meet .ensures)
+returns-2 c =
+    let b = c .before .before .before .before .before .before .before .before in
+    let a = b .args in
+    let l : List ℕ = now (a .state) in
+    let m : List ℕ = now (a .memory) in
+    let x : List ℕ = now (a .sent) in
+    stopped l (a .qpn) (a .s .opcode) (requestOf x) (opcode-is x (a .s) (b .pre .1)) m _
+    (sym (c .before .a .given .1) ∙ c .before .before .before .meet .ensures)
 
 pub send-checked-spec : {M : Type 1} → statement M
 send-checked-spec =

@@ -15,7 +15,9 @@ same-length : tie.Need-same-length
 same-length c = search needs
 
 returns-2 : tie.Need-returns-2
-returns-2 c = let e : c .before .before .before .before .before .before .args .b ≡ true = not-false _ (c .before .before .before .before .if1 .left) in rw (e, c .before .before .take-receive .ensures)
+returns-2 c =
+    let e : c .before .before .before .before .before .before .args .b ≡ true = not-false _ (c .before .before .before .before .if1 .left) in
+    rw (e, c .before .before .take-receive .ensures)
 
 pub consume-if-spec : {M : Type 1} → statement M
 consume-if-spec = tie.close (tie.spec returns take-receive-requires same-length returns-2)

@@ -18,7 +18,10 @@ same-length : tie.Need-same-length
 same-length c = search needs
 
 returns-2 : tie.Need-returns-2
-returns-2 c = let e : c .before .before .before .before .before .before .before .before .args .b ≡ true = not-false _ (c .before .before .before .before .before .before .if1 .left) in rw (e, c .before .before .store-qp .ensures, c .before .before .before .before .load-qp .ensures)
+returns-2 c =
+    let e : c .before .before .before .before .before .before .before .before .args .b ≡ true = not-false _
+    (c .before .before .before .before .before .before .if1 .left) in
+    rw (e, c .before .before .store-qp .ensures, c .before .before .before .before .load-qp .ensures)
 
 pub fail-if-spec : {M : Type 1} → statement M
 fail-if-spec =

@@ -10,7 +10,9 @@ is-consumed-requires : tie.Need-is-consumed-requires
 is-consumed-requires c κs = search needs
 
 returns : tie.Need-returns
-returns c = let a = c .before .before .before .args in not-consumed (now (a .state)) (a .e) (a .s) (a .st) (a .n) (a .w) (sym (c .before .is-consumed .ensures) ∙ not-true _ (c .if1 .taken))
+returns c =
+    let a = c .before .before .before .args in
+    not-consumed (now (a .state)) (a .e) (a .s) (a .st) (a .n) (a .w) (sym (c .before .is-consumed .ensures) ∙ not-true _ (c .if1 .taken))
 
 receiver-opcode-requires : tie.Need-receiver-opcode-requires
 receiver-opcode-requires c κs = search needs
@@ -31,13 +33,28 @@ cast-push-completion : tie.Need-cast-push-completion
 cast-push-completion c = search needs
 
 push-completion-requires : tie.Need-push-completion-requires
-push-completion-requires c κs = let b = c .before .before .before .before .before .before .before .before .before .before .before .before in let k = b .pre .1 (sym (c .before .before .before .before .before .before .before .before .before .before .is-consumed .ensures) ∙ not-false _ (c .before .before .before .before .before .before .before .before .before .if1 .left)) in (k .0, b .pre .0 .1, k .1)
+push-completion-requires c κs =
+    let b = c .before .before .before .before .before .before .before .before .before .before .before .before in
+    let k = b .pre .1 (sym (c .before .before .before .before .before .before .before .before .before .before .is-consumed .ensures) ∙ not-false _
+    (c .before .before .before .before .before .before .before .before .before .if1 .left)) in
+    (k .0, b .pre .0 .1, k .1)
 
 same-length : tie.Need-same-length
 same-length c = search needs
 
 returns-2 : tie.Need-returns-2
-returns-2 c = let a = c .before .before .before .before .before .before .before .before .before .before .before .before .before .before .before .args in rw (c .before .before .push-completion .ensures, c .before .before .before .before .before .before .kept-if2 .ensures, c .before .before .before .before .before .before .before .receiver-status .ensures, c .before .before .before .before .before .before .before .before .before .before .kept-if .ensures, c .before .before .before .before .before .before .before .before .before .before .before .receiver-opcode .ensures) (consumed (now (a .state)) (a .e) (a .s) (a .st) (a .n) (a .w) (sym (c .before .before .before .before .before .before .before .before .before .before .before .before .before .is-consumed .ensures) ∙ not-false _ (c .before .before .before .before .before .before .before .before .before .before .before .before .if1 .left)))
+returns-2 c =
+    let a = c .before .before .before .before .before .before .before .before .before .before .before .before .before .before .before .args in
+    rw (
+      c .before .before .push-completion .ensures,
+      c .before .before .before .before .before .before .kept-if2 .ensures,
+      c .before .before .before .before .before .before .before .receiver-status .ensures,
+      c .before .before .before .before .before .before .before .before .before .before .kept-if .ensures,
+      c .before .before .before .before .before .before .before .before .before .before .before .receiver-opcode .ensures,
+    )
+    (consumed (now (a .state)) (a .e) (a .s) (a .st) (a .n) (a .w)
+    (sym (c .before .before .before .before .before .before .before .before .before .before .before .before .before .is-consumed .ensures) ∙ not-false _
+    (c .before .before .before .before .before .before .before .before .before .before .before .before .if1 .left)))
 
 pub put-receiver-spec : {M : Type 1} → statement M
 put-receiver-spec =

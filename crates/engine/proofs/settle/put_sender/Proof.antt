@@ -26,7 +26,14 @@ same-length : tie.Need-same-length
 same-length c = search needs
 
 returns-2 : tie.Need-returns-2
-returns-2 c = let a = c .before .before .before .before .before .before .before .before .before .before .before .before .args in rw (c .before .before .push-completion .ensures, c .before .before .before .before .before .before .kept-if .ensures, c .before .before .before .before .before .before .before .sender-opcode .ensures) (put-told (now (a .state)) (a .e) (a .s) (a .st) (a .n) (c .before .before .before .before .before .before .before .before .if1 .left))
+returns-2 c =
+    let a = c .before .before .before .before .before .before .before .before .before .before .before .before .args in
+    rw (
+      c .before .before .push-completion .ensures,
+      c .before .before .before .before .before .before .kept-if .ensures,
+      c .before .before .before .before .before .before .before .sender-opcode .ensures,
+    )
+    (put-told (now (a .state)) (a .e) (a .s) (a .st) (a .n) (c .before .before .before .before .before .before .before .before .if1 .left))
 
 pub put-sender-spec : {M : Type 1} → statement M
 put-sender-spec =

@@ -18,10 +18,16 @@ sges-total-requires : tie.Need-sges-total-requires
 sges-total-requires c κs = search needs
 
 returns-2 : tie.Need-returns-2
-returns-2 c = let a = c .before .before .before .before .before .args in let t = c .before .sges-total .ensures ∙ ap sgeTotal (c .before .before .before .receive-sges .ensures) in status-long (a .w) (a .st) (a .n) (c .before .before .before .before .if1 .left) (c .before .sges-total .result) t (c .if2 .taken)
+returns-2 c =
+    let a = c .before .before .before .before .before .args in
+    let t = c .before .sges-total .ensures ∙ ap sgeTotal (c .before .before .before .receive-sges .ensures) in
+    status-long (a .w) (a .st) (a .n) (c .before .before .before .before .if1 .left) (c .before .sges-total .result) t (c .if2 .taken)
 
 returns-3 : tie.Need-returns-3
-returns-3 c = let a = c .before .before .before .before .before .args in let t = c .before .sges-total .ensures ∙ ap sgeTotal (c .before .before .before .receive-sges .ensures) in status-refused (a .w) (a .st) (a .n) (c .before .before .before .before .if1 .left) (c .before .sges-total .result) t (c .if2 .left)
+returns-3 c =
+    let a = c .before .before .before .before .before .args in
+    let t = c .before .sges-total .ensures ∙ ap sgeTotal (c .before .before .before .receive-sges .ensures) in
+    status-refused (a .w) (a .st) (a .n) (c .before .before .before .before .if1 .left) (c .before .sges-total .result) t (c .if2 .left)
 
 pub receiver-status-spec : {M : Type 1} → statement M
 receiver-status-spec =

@@ -17,7 +17,9 @@ put-sender-requires : tie.Need-put-sender-requires
 put-sender-requires c κs = search needs
 
 put-receiver-requires : tie.Need-put-receiver-requires
-put-receiver-requires c κs = let p = c .before .before .before .before .before .before .before .pre in ((p .count, search needs), λ t. rw (c .before .before .before .put-sender .ensures) (p .second t))
+put-receiver-requires c κs =
+    let p = c .before .before .before .before .before .before .before .pre in
+    ((p .count, search needs), λ t. rw (c .before .before .before .put-sender .ensures) (p .second t))
 
 fail-if-requires : tie.Need-fail-if-requires
 fail-if-requires c κs = search needs
@@ -26,7 +28,17 @@ is-consumed-requires : tie.Need-is-consumed-requires
 is-consumed-requires c κs = search needs
 
 consume-if-requires : tie.Need-consume-if-requires
-consume-if-requires c κs = let p = c .before .before .before .before .before .before .before .before .before .before .before .before .before .before .before .before .pre in (p .far, search needs, λ t. rw (c .before .before .before .before .fail-if .ensures, c .before .before .before .before .before .before .before .before .put-receiver .ensures, c .before .before .before .before .before .before .before .before .before .before .before .before .put-sender .ensures) (p .waits (sym (c .is-consumed .ensures) ∙ t)))
+consume-if-requires c κs =
+    let p = c .before .before .before .before .before .before .before .before .before .before .before .before .before .before .before .before .pre in (
+      p .far,
+      search needs,
+      λ t. rw (
+        c .before .before .before .before .fail-if .ensures,
+        c .before .before .before .before .before .before .before .before .put-receiver .ensures,
+        c .before .before .before .before .before .before .before .before .before .before .before .before .put-sender .ensures,
+      )
+          (p .waits (sym (c .is-consumed .ensures) ∙ t)),
+    )
 
 fail-if-requires-2 : tie.Need-fail-if-requires-2
 fail-if-requires-2 c κs = search needs
