@@ -1,7 +1,7 @@
 -- What one completion more and one fewer in a completion queue mean: the struct's push and pop, the card, and that the state stays
 -- accepted. Assumes nothing.
 use mathlib.Core.Path.{_≡_, ap, _∙_}
-use mathlib.Core.Bool.{true}
+use mathlib.Core.Bool.{Bool, true, _&&_}
 use mathlib.Core.List.{List, [], _∷_, _++_}
 use Prim.Native.Nat.{ℕ, _+_, _*_, _-_, _%_, _<_, _≤_}
 use native.Mathlib.Nat.{mod-lt}
@@ -12,7 +12,7 @@ use borrow.Author.Tests.{lt-ltb}
 use Rattle.wire.specs.Fields.{Fit, fieldsAt, fieldsAt-fit}
 use Rattle.wire.specs.Ring.{ringList, ring-push, ring-pop, ring-rest}
 use Rattle.wire.specs.Rows.{length-rows}
-use Rattle.wire.specs.Scan.{all-append}
+use Rattle.wire.specs.Scan.{all, all-append, all-cons, and-left}
 use Rattle.wire.specs.Slots.{upd, upd-twice}
 use Rattle.wire.specs.Table.{rowAt, putRow, finish, elsewhere, row-stored, putRow-length}
 use Rattle.tables.specs.Accept.{completionOk}
@@ -124,6 +124,14 @@ module _ (l : List ℕ) (ok : Accepted l) (n : ℕ) (b : n < cqCount) (live : ro
     -- the oldest completion of the card's queue
     pub oldest-is : getD (card l .cq n .entries) 0 noCompletion ≡ rowAt entryT l (mostPlaces * n + h .first)
     oldest-is = rw (queue-is, led) (entry-at l n (h .first) (queue-sound .first))
+
+    -- what a poll gives back is within the limits that 15 tests
+    pub oldest-ok : completionOk (getD (card l .cq n .entries) 0 noCompletion) ≡ true
+    oldest-ok =
+        let first : Completion = getD (entriesAt l n) (h .first) noCompletion in
+        let others : List Completion = unread (shorter h) (entriesAt l n) in
+        let e : (completionOk first && all completionOk others) ≡ true = sym (ap (all completionOk) led ∙ all-cons completionOk first others) ∙ queue-sound .entries in
+        rw (queue-is, led) (and-left (completionOk first) (all completionOk others) e)
 
     pub pop-card : card (popBytes l n) ≡ withCq (card l) (upd (card l .cq) n (record { places = card l .cq n .places; entries = tail (card l .cq n .entries) }))
     unfolding popBytes cqOf
