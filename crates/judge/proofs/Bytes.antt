@@ -19,6 +19,7 @@ use Rattle.rules.proofs.Stored.{stored-length, stored-other, stored-last, map-l
 use Rattle.judge.specs.Log.{Log}
 use Rattle.judge.specs.Judge.{Right, passes, placed, peerNo, oldestAt, ownRight, farRight, fitsReceive, judge, judgedMemory}
 use Rattle.judge.specs.Demand3.{Correct, Bytewise, noByte, target, source, Demand3Bytes}
+use Rattle.judge.specs.Apart.{writer, writeRight, targetByte}
 use Rattle.judge.proofs.Rights.{same-fills}
 use Rattle.judge.proofs.Agree.{Agree, Sendable}
 use Rattle.judge.proofs.Demand3.{correct}
@@ -91,6 +92,14 @@ module _ (l : Log) (q : ℕ) (r : Request) (ok : judge l q r ≡ true) (small : 
       go true = far-length
       go false = own-length r h
 
+  pub target-passes : (i : ℕ) → i < total r → passes l (writer l q r) (writeRight (r .opcode)) (targetByte l q r i) ≡ true
+  target-passes i h = go (reads (r .opcode)) targets-length
+    where
+      go : (b : Bool) → length (cond b (ownBytes r) (farBytes r w)) ≡ total r →
+          passes l (cond b q (peerNo l q)) (cond b (ownRight (r .opcode)) (farRight (r .opcode))) (getD (cond b (ownBytes r) (farBytes r w)) i noByte) ≡ true
+      go true n = all-at (passes l q (ownRight (r .opcode))) (ownBytes r) i noByte (omega arith) own-passes
+      go false n = all-at (passes l (peerNo l q) (farRight (r .opcode))) (farBytes r w) i noByte (omega arith) far-passes
+
   module _ (m : List ℕ) (inside : (x : ℕ) (u : Right) (b : Byte) → passes l x u b ≡ true → (placed l b < length m) × (b .address < 2 ^ 64)) where
     abbrev places : List ℕ
     places = map (placed l) (targetBytes r w)
@@ -122,13 +131,7 @@ module _ (l : Log) (q : ℕ) (r : Request) (ok : judge l q r ≡ true) (small : 
 
     target-inside : (i : ℕ) → i < total r → target l q r i < length m
     unfolding target
-    target-inside i h = go (reads (r .opcode)) refl targets-length
-      where
-        go : (b : Bool) → reads (r .opcode) ≡ b → length (cond b (ownBytes r) (farBytes r w)) ≡ total r →
-            placed l (getD (cond b (ownBytes r) (farBytes r w)) i noByte) < length m
-        go true e n = inside q (ownRight (r .opcode)) _ (all-at (passes l q (ownRight (r .opcode))) (ownBytes r) i noByte (omega arith) own-passes) .0
-        go false e n =
-            inside (peerNo l q) (farRight (r .opcode)) _ (all-at (passes l (peerNo l q) (farRight (r .opcode))) (farBytes r w) i noByte (omega arith) far-passes) .0
+    target-inside i h = inside (writer l q r) (writeRight (r .opcode)) (targetByte l q r i) (target-passes i h) .0
 
     written : (i : ℕ) → i < total r → ((j : ℕ) → i < j → j < total r → target l q r j ≢ target l q r i) →
         getD (stored m places values) (target l q r i) 0 ≡ source l q r m i
@@ -160,7 +163,7 @@ module _ (l : Log) (q : ℕ) (r : Request) (s : ℕ) (m m′ : List ℕ) (k : Co
       go true = stored-length m _ _
       go false = refl
 
-bytewise : (c : Card) (l : Log) (a : Agree c l) (q : ℕ) (r : Request) (m : List ℕ) → Sendable c q r m → Bytewise l q r m (sendMemory c q r m)
+pub bytewise : (c : Card) (l : Log) (a : Agree c l) (q : ℕ) (r : Request) (m : List ℕ) → Sendable c q r m → Bytewise l q r m (sendMemory c q r m)
 bytewise c l a q r m p = correct-bytes l q r (sendStatus c q r) m (sendMemory c q r m) (correct c l a q r m p) (p .opcode) (p .inline)
 
 module _ (cardOf : List ℕ → Card) (accepts : List ℕ → Bool) where

@@ -6,6 +6,7 @@ pub mod Agree
 pub mod Demand3
 pub mod Run
 pub mod Bytes
+pub mod Apart
 pub mod Example
 pub mod Count
 pub mod Whole

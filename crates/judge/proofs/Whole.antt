@@ -13,6 +13,7 @@ use Rattle.tables.specs.Layout.{image}
 use Rattle.judge.specs.Whole.{Whole}
 use Rattle.judge.proofs.Run.{demand3, resumed, steady}
 use Rattle.judge.proofs.Bytes.{demand3-bytes}
+use Rattle.judge.proofs.Apart.{domains-apart}
 use Rattle.judge.proofs.Count.{counted}
 
 accepted-length : (l : List ℕ) → accepts l ≡ true → eqb (length l) image ≡ true
@@ -22,6 +23,7 @@ pub whole : Whole
 whole = record {
   judged = demand3 card accepts;
   bytes = demand3-bytes card accepts;
+  apart = domains-apart card accepts;
   resumed = resumed card accepts;
   steady = steady card accepts accepted-length;
   counted = counted card accepts;

@@ -1,5 +1,6 @@
 pub mod Log
 pub mod Judge
 pub mod Demand3
+pub mod Apart
 pub mod Count
 pub mod Whole

@@ -2,6 +2,7 @@
 use Rattle.tables.specs.Accept.{accepts}
 use Rattle.tables.specs.Image.{card}
 use Rattle.judge.specs.Demand3.{Demand3, Demand3Bytes, Resumed, Steady}
+use Rattle.judge.specs.Apart.{DomainsApart}
 use Rattle.judge.specs.Count.{Counted}
 
 pub record Whole : Type 0 where
@@ -9,7 +10,9 @@ pub record Whole : Type 0 where
   pub judged : Demand3 card accepts
   -- one byte at a time
   pub bytes : Demand3Bytes card accepts
-  -- and so from a state that means a card that a list left
+  -- no byte outside the regions of the writer's domain is written
+  pub apart : DomainsApart card accepts
+  -- each work request is judged right from a state that means a card that a list left, too
   pub resumed : Resumed card accepts
   -- no call of the list finds its state unacceptable
   pub steady : Steady card accepts
