@@ -1,9 +1,9 @@
 -- A run, computed from the bytes of its calls: a write, a hold, a receive, a send, a read and a failed write, each with its answer, the
--- memory after it, and the judge's verdict. Assumes nothing.
+-- memory after it, and the judge's verdict; and the records' layouts by literal bytes. Assumes nothing.
 use mathlib.Core.Path.{_≡_, refl}
 use mathlib.Core.Bool.{Bool, true, false}
 use mathlib.Core.List.{List, [], _∷_, _++_}
-use Prim.Native.Nat.{ℕ, _+_}
+use Prim.Native.Nat.{ℕ, _+_, _*_, _^_}
 use lib.ListN.{replicate, drop, length}
 use Rattle.wire.specs.Fields.{fieldsAt, putFields}
 use Rattle.wire.specs.Le.{leAt, putLe}
@@ -11,7 +11,7 @@ use Rattle.wire.specs.Rows.{rows, rowsFrom}
 use Rattle.wire.specs.Scan.{lowest, lowestFrom, anyBelow, all}
 use Rattle.tables.specs.Card.{Card, fresh}
 use Rattle.tables.specs.Image.{receiveOf}
-use Rattle.tables.specs.Records.{commandOf, dataSize, numberCodec, registerCodec, createQpCodec, modifyQpCodec, sendCodec, sgeCodec, receiveCodec, sendChecks, receiveChecks, receiveSges, sendSge, inlineBytes, inlineLength}
+use Rattle.tables.specs.Records.{Command, commandOf, dataSize, numberCodec, registerCodec, createQpCodec, modifyQpCodec, sendCodec, sgeCodec, receiveCodec, sendChecks, receiveChecks, receiveSges, sendSge, inlineBytes, inlineLength}
 use Rattle.rules.specs.declared.Answer.{Answer}
 use Rattle.rules.specs.declared.Cause.the-variants.{Peer}
 use Rattle.rules.specs.declared.Answer.the-variants.{Done, Held}
@@ -100,3 +100,71 @@ pub works : drop 11 (run (fresh 8) [] (setup ++ (posted 0 257 ∷ posted 2 0 ∷
     ∷ []
 unfolding run fieldsAt putFields leAt putLe rows rowsFrom lowest lowestFrom anyBelow commandOf dataSize numberCodec registerCodec createQpCodec modifyQpCodec sendCodec sgeCodec sendChecks receiveChecks receiveSges sendSge inlineBytes inlineLength all stored requestOf receiveIn receiveOf range sgeBytes sgeTotal total ownBytes farBytes byteOf message delivered permits permitsAll place lookup covers commandChecks commandAck commandEffect deliveryChecks sendStatus sendPuts putAll sendQps sendEffect sendMemory joinChecks joined flushChecks flushed pollChecks polled checks resetChecks controlChecks bufferChecks statusOf effect memoryAfter bufferAfter step fed ackData judge passes placed peerNo oldestAt waiting standing domain peer accepted taken
 works = refl
+
+-- ---- the layouts, byte by byte
+
+-- "Class byte 6, command byte, data": pdn, access, start, length, virt
+abbrev registerBytes : List ℕ
+registerBytes =
+    6 ∷ 7 ∷ 1 ∷ 2 ∷ 3 ∷ 4 ∷ 7 ∷ 0 ∷ 0 ∷ 0 ∷ 5 ∷ 0 ∷ 0 ∷ 0 ∷ 0 ∷ 0 ∷ 0 ∷ 1 ∷ 6 ∷ 0 ∷ 0 ∷ 0 ∷ 0 ∷ 0 ∷ 0 ∷ 2 ∷ 7 ∷ 0 ∷ 0 ∷ 0 ∷ 0 ∷ 0 ∷ 0 ∷ 3 ∷ []
+
+pub register-read : commandOf registerBytes
+    ≡ Command.register (record { pd = 67305985; access = 7; start = 5 + 2 ^ 56; length = 6 + 2 * 2 ^ 56; virt = 7 + 3 * 2 ^ 56 })
+unfolding fieldsAt leAt commandOf numberCodec registerCodec createQpCodec modifyQpCodec
+register-read = refl
+
+-- pdn, type, signal, 2 ignored, send cqn, receive cqn
+pub create-read : commandOf (6 ∷ 9 ∷ 1 ∷ 0 ∷ 0 ∷ 0 ∷ 2 ∷ 3 ∷ 99 ∷ 99 ∷ 4 ∷ 0 ∷ 0 ∷ 0 ∷ 5 ∷ 0 ∷ 0 ∷ 0 ∷ [])
+    ≡ Command.createQp (record { pd = 1; kind = 2; signal = 3; scq = 4; rcq = 5 })
+unfolding fieldsAt leAt commandOf numberCodec registerCodec createQpCodec modifyQpCodec
+create-read = refl
+
+-- qpn, mask, state, 3 padding bytes, destination
+pub modify-read : commandOf (6 ∷ 10 ∷ 1 ∷ 0 ∷ 0 ∷ 0 ∷ 1 ∷ 128 ∷ 0 ∷ 0 ∷ 2 ∷ 3 ∷ 4 ∷ 5 ∷ 6 ∷ 0 ∷ 0 ∷ 0 ∷ [])
+    ≡ Command.modifyQp (record { qpn = 1; mask = 32769; state = 2; pad0 = 3; pad1 = 4; pad2 = 5; dest = 6 })
+unfolding fieldsAt leAt commandOf numberCodec registerCodec createQpCodec modifyQpCodec
+modify-read = refl
+
+-- wr_id at 0, opcode 8, flags 9, immediate 12, remote address 16, remote key 24, piece count 560, one piece at 576
+abbrev sendBytes : List ℕ
+sendBytes =
+    (1 ∷ 2 ∷ 0 ∷ 0 ∷ 0 ∷ 0 ∷ 0 ∷ 3 ∷ 3 ∷ 2 ∷ 99 ∷ 99 ∷ 4 ∷ 5 ∷ 6 ∷ 7 ∷ 8 ∷ 0 ∷ 0 ∷ 0 ∷ 0 ∷ 0 ∷ 0 ∷ 9 ∷ 10 ∷ 0 ∷ 0 ∷ 11 ∷ [])
+    ++ (replicate 532 99 ++ (1 ∷ 0 ∷ 0 ∷ 0 ∷ (replicate 12 99 ++ (101 ∷ 0 ∷ 0 ∷ 0 ∷ 0 ∷ 0 ∷ 0 ∷ 0 ∷ 2 ∷ 0 ∷ 0 ∷ 0 ∷ 1 ∷ 0 ∷ 0 ∷ 0 ∷ []))))
+
+pub send-read : requestOf sendBytes
+    ≡ record {
+      wr = 513 + 3 * 2 ^ 56;
+      opcode = 3;
+      signaled = true;
+      inline = false;
+      bytes = 99 ∷ [];
+      imm = 117835012;
+      address = 8 + 9 * 2 ^ 56;
+      key = 10 + 11 * 2 ^ 24;
+      sges = record { address = 101; length = 2; key = 1 } ∷ [];
+    }
+unfolding fieldsAt leAt rows rowsFrom sendCodec sgeCodec sendSge inlineBytes inlineLength requestOf
+send-read = refl
+
+-- wr_id 0, count 8, pieces from 24
+abbrev receiveBytes : List ℕ
+receiveBytes =
+    1 ∷ 0 ∷ 0 ∷ 0 ∷ 0 ∷ 0 ∷ 0 ∷ 2 ∷ 1 ∷ 0 ∷ 0 ∷ 0 ∷ (replicate 12 99 ++ (1 ∷ 16 ∷ 0 ∷ 0 ∷ 0 ∷ 0 ∷ 0 ∷ 0 ∷ 3 ∷ 0 ∷ 0 ∷ 0 ∷ 1 ∷ 1 ∷ 0 ∷ 0 ∷ []))
+
+abbrev polling : Call
+polling = Call.poll 0 (replicate 25 99)
+
+-- the answer buffers of a list of calls
+unfoldable pub buffers : Card → List Call → List (List ℕ)
+buffers c [] = []
+buffers c (k ∷ ks) = let r = step c k in r .buffer ∷ buffers (r .card) ks
+
+-- wr_id, status, opcode, zero, byte length, immediate, owner: the sender's completion, its receiver's, a failed write's; byte 24 stays
+pub polled-bytes :
+    drop 14 (buffers (fresh 8) (setup ++ (Call.receive 1 receiveBytes ∷ Call.send 0 sendBytes mem ∷ posted 0 258 ∷ polling ∷ polling ∷ polling ∷ [])))
+    ≡ (1 ∷ 2 ∷ 0 ∷ 0 ∷ 0 ∷ 0 ∷ 0 ∷ 3 ∷ 0 ∷ 0 ∷ 0 ∷ 0 ∷ 2 ∷ 0 ∷ 0 ∷ 0 ∷ 0 ∷ 0 ∷ 0 ∷ 0 ∷ 0 ∷ 0 ∷ 0 ∷ 0 ∷ 99 ∷ [])
+    ∷ (1 ∷ 0 ∷ 0 ∷ 0 ∷ 0 ∷ 0 ∷ 0 ∷ 2 ∷ 0 ∷ 3 ∷ 0 ∷ 0 ∷ 2 ∷ 0 ∷ 0 ∷ 0 ∷ 4 ∷ 5 ∷ 6 ∷ 7 ∷ 1 ∷ 0 ∷ 0 ∷ 0 ∷ 99 ∷ [])
+    ∷ (7 ∷ 0 ∷ 0 ∷ 0 ∷ 0 ∷ 0 ∷ 0 ∷ 0 ∷ 8 ∷ 1 ∷ 0 ∷ 0 ∷ 0 ∷ 0 ∷ 0 ∷ 0 ∷ 0 ∷ 0 ∷ 0 ∷ 0 ∷ 0 ∷ 0 ∷ 0 ∷ 0 ∷ 99 ∷ [])
+    ∷ []
+unfolding buffers fieldsAt putFields leAt putLe rows rowsFrom lowest lowestFrom anyBelow commandOf dataSize numberCodec registerCodec createQpCodec modifyQpCodec sendCodec sgeCodec sendChecks receiveChecks receiveSges sendSge inlineBytes inlineLength all stored requestOf receiveIn receiveOf range sgeBytes sgeTotal total ownBytes farBytes byteOf message delivered permits permitsAll place lookup covers commandChecks commandAck commandEffect deliveryChecks sendStatus sendPuts putAll sendQps sendEffect sendMemory joinChecks joined flushChecks flushed pollChecks polled checks resetChecks controlChecks bufferChecks statusOf effect memoryAfter bufferAfter step
+polled-bytes = refl
