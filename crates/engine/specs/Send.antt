@@ -6,13 +6,14 @@ use mathlib.Core.List.{List, [], _∷_}
 use mathlib.Core.Option.{Option, none, some}
 use Prim.Native.Nat.{ℕ, _+_, _*_, _%_, _<_, _≤_}
 use lib.Dec.{eqb, leb}
-use lib.ListN.{length, take, drop}
+use lib.ListN.{length, take}
 use Rattle.wire.specs.Checks.{refusal}
 use Rattle.wire.specs.Table.{rowAt}
 use Rattle.tables.specs.Card.{Card}
 use Rattle.tables.specs.Image.{card, noRecord}
 use Rattle.tables.specs.Layout.{image, cqT, qpT, waitingT, receiveT}
 use Rattle.tables.specs.Limits.{cqCount, qpCount, mostPlaces, mostWaiting, mostMessage, mostInline}
+use Rattle.tables.specs.Reading.{inlinePart}
 use Rattle.tables.specs.Records.{isSignaled, isInline, receiveSges, sendCodec, sendChecks}
 use Rattle.tables.specs.declared.Completion.{Completion}
 use Rattle.tables.specs.declared.QueueHead.{QueueHead}
@@ -144,12 +145,12 @@ pub record Carries (c : Card) (s : SendRecord) (x : List ℕ) (own far : List Sg
   pub target : mappedAll c (sgeBytes far) ≡ true
   pub total : sgeTotal far ≡ n
   pub plain : isInline s ≡ false → (mappedAll c (sgeBytes own) ≡ true) × (sgeTotal own ≡ n)
-  pub short : isInline s ≡ true → (n ≤ mostInline) × (length (take n (drop 48 x)) ≡ n)
+  pub short : isInline s ≡ true → (n ≤ mostInline) × (length (inlinePart x) ≡ n)
 
 -- the memory m after the move; x is the send record
 abbrev pub carried : Card → SendRecord → (x : List ℕ) → (own far : List Sge) → (n : ℕ) → (m : List ℕ) → List ℕ
 carried c s x own far n m =
-    cond (isInline s) (stored m (places c far) (take n (drop 48 x)))
+    cond (isInline s) (stored m (places c far) (inlinePart x))
     (cond (reads (s .opcode)) (moved m (places c far) (places c own)) (moved m (places c own) (places c far)))
 
 -- what steps 4 to 6 ask of a message of n bytes
@@ -157,7 +158,7 @@ pub record Sending (s : SendRecord) (x : List ℕ) (sges : List Sge) (n : ℕ) :
   pub plain : isInline s ≡ false → s .count ≤ 4
   pub total : totalBy s sges ≡ n
   pub most : n ≤ mostMessage
-  pub short : isInline s ≡ true → (n ≤ mostInline) × (length (take n (drop 48 x)) ≡ n)
+  pub short : isInline s ≡ true → (n ≤ mostInline) × (length (inlinePart x) ≡ n)
 
 -- the status of a message of n bytes that is not too long
 abbrev pub statusIn : List ℕ → Ends → SendRecord → List Sge → ReceiveRecord → (n : ℕ) → ℕ

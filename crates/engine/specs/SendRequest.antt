@@ -22,7 +22,7 @@ use Rattle.tables.specs.Image.{card, receiveOf, liveQp, noRecord, posted, recei
 use Rattle.tables.specs.Layout.{qpT, waitingT, receiveT}
 use Rattle.tables.specs.Limits.{qpCount, mostWaiting, mostMessage, mostInline, mostSges, mostReceiveSges}
 use Rattle.tables.specs.Objects.{qp-below, qp-row, receive-at}
-use Rattle.tables.specs.Reading.{inline-length, inline-part}
+use Rattle.tables.specs.Reading.{inlinePart, inline-length, inline-part}
 use Rattle.tables.specs.Records.{isSignaled, isInline, inlineLength, inlineBytes, sendCodec, sendChecks, sendSge, receiveSges}
 use Rattle.tables.specs.WaitingLaws.{pair-sound, first-is}
 use Rattle.tables.specs.declared.QueuePair.{QueuePair}
@@ -63,8 +63,8 @@ requestBy s x =
 pub record Told (x : List ℕ) (s : SendRecord) : Type 0 where
   pub request : requestOf x ≡ requestBy s x
   pub plain : isInline s ≡ false → s .count ≤ 4
-  pub short : isInline s ≡ true → (s .count % 65536 ≤ mostInline) × (length (take (s .count % 65536) (drop 48 x)) ≡ s .count % 65536)
-  pub bytes : inlineBytes x ≡ take (s .count % 65536) (drop 48 x)
+  pub short : isInline s ≡ true → (s .count % 65536 ≤ mostInline) × (length (inlinePart x) ≡ s .count % 65536)
+  pub bytes : inlineBytes x ≡ inlinePart x
   pub there : isInline s ≡ true → reads (s .opcode) ≡ false
 
 exact : (x : List ℕ) (n : ℕ) (b : Bool) → not (eqb (length x) (cond b 576 n)) ≡ false → b ≡ true → length x ≡ 576
@@ -72,11 +72,12 @@ exact x n true e i = eqb-true (length x) 576 (not-false (eqb (length x) 576) e)
 exact x n false e i = absurd (false≢true i)
 
 told-read : (x : List ℕ) → refusal (sendChecks x) ≡ none → Told x (sendCodec .read x 0)
-unfolding sendChecks requestOf
+unfolding sendChecks requestOf inlineBytes
 told-read x g =
     let s : SendRecord = sendCodec .read x 0 in
     let p = passed (sendChecks x) g in
     let w = inline-length x in
+    let v : inlinePart x ≡ inlineBytes x = inline-part x (let l = ltb-false (length x) 576 (p .0) in omega arith) in
     record {
       request = refl;
       plain = λ i. ltb-false 4 (s .count) (and-off (not (isInline s)) (ltb mostSges (s .count)) (p .1 .1 .1 .1 .1 .0) (rw i));
@@ -84,8 +85,8 @@ told-read x g =
           λ i. (let h : inlineLength x ≤ mostInline = ltb-false mostInline (inlineLength x) (and-off (isInline s) (ltb mostInline (inlineLength x)) (p .1 .1 .1 .1 .0) i) in
           let z : length x ≡ 576 = exact x (576 + 16 * s .count) (isInline s) (p .1 .1 .1 .1 .1 .1 .0) i in
           let y : s .count % 65536 ≤ mostInline = omega arith in
-          (y, length-take-le (s .count % 65536) (drop 48 x) (simp length-drop (omega arith))));
-      bytes = sym (inline-part x);
+          (y, ap (λ (k : List ℕ). length k) v ∙ length-take-le (inlineLength x) (drop 48 x) (simp length-drop (omega arith)) ∙ w));
+      bytes = sym v;
       there = λ i. and-off (isInline s) (eqb (s .opcode) 4) (p .1 .1 .1 .0) i;
     }
 
@@ -334,13 +335,12 @@ module _ (l : List ℕ) (a : accepts l ≡ true) (q : ℕ) (x : List ℕ) (s : S
     moved-is i j = go (isInline s) refl
       where
         go : (b : Bool) → isInline s ≡ b →
-            cond b (stored m (places c (farList s w n)) (take n (drop 48 x)))
+            cond b (stored m (places c (farList s w n)) (inlinePart x))
             (cond (reads o) (moved m (places c (farList s w n)) (places c (take (s .count) (entries x s t)))) (moved m (places c (take (s .count) (entries x s t))) (places c (farList s w n))))
             ≡ stored m (map (place c) (cond (reads o) (ownBytes r) (farBytes r (takenBy c q))))
             (cond b (inlineBytes x) (map (λ k. getD m (place c k) 0) (cond (reads o) (farBytes r (takenBy c q)) (ownBytes r))))
         go true k =
-            let z : n ≡ s .count % 65536 = rw k in
-            rw (t .there k, far-places j, t .bytes, z)
+            rw (t .there k, far-places j, t .bytes)
         go false k = both-ways (reads o) (farBytes r (takenBy c q)) (ownBytes r) (places c (farList s w n)) (places c (take (s .count) (entries x s t))) (far-places j) (own-places k i)
 
     pub memory-is : n ≤ mostMessage → (st : ℕ) → st ≡ sendStatus c q r → cond (eqb st 0) mem m ≡ sendMemory c q r m

@@ -11,6 +11,7 @@ use tables::accept;
 use tables::find;
 use tables::image;
 use tables::limits::CQ_COUNT;
+use tables::limits::MOST_ACCESS;
 use tables::limits::MOST_ADDRESS;
 use tables::limits::MOST_PLACES;
 use tables::limits::MR_COUNT;
@@ -45,8 +46,6 @@ pub enum Outcome {
 const CONTROL_CLASS: u8 = 6;
 
 const ACK_LEAST: usize = 13;
-
-const ACCESS_BITS: u32 = 7;
 
 // ---- completion queues
 
@@ -141,7 +140,7 @@ pub fn destroy_pd(state: &mut [u8], read: NumberRead) -> Outcome
 fn known_access(access: u32) -> bool
     ensures { λ r. ⌜ r ≡ only mostAccess access ⌝ }
 {
-    access & ACCESS_BITS == access
+    access & (MOST_ACCESS as u32) == access
 }
 
 // The tests of answer 11; no sum wraps.

@@ -11,7 +11,11 @@ use tables::WaitingHead;
 use tables::accept;
 use tables::find;
 use tables::image;
+use tables::limits::ERROR;
 use tables::limits::QP_COUNT;
+use tables::limits::RESET;
+use tables::limits::RTR;
+use tables::limits::RTS;
 ghost use mathlib.Core.Path.{_≡_};
 ghost use mathlib.Core.Bool.{true};
 ghost use Prim.Native.Nat.{_<_};
@@ -32,8 +36,6 @@ const STATE_BIT: u32 = 1;
 const DEST_BIT: u32 = 32768;
 
 const RC: u8 = 2;
-
-const RTR: u8 = 2;
 
 const NO_DEST: u8 = 8;
 
@@ -63,7 +65,7 @@ fn new_pair(r: CreateQp) -> QueuePair
         signal: r.signal,
         scq: (r.scq % 256) as u8,
         rcq: (r.rcq % 256) as u8,
-        state: 0,
+        state: RESET,
         dest: NO_DEST,
     }
 }
@@ -106,7 +108,7 @@ fn modify_bad(r: ModifyQp) -> bool
     let unknown = r.mask & (STATE_BIT + DEST_BIT) != r.mask;
     let state_bit = r.mask & STATE_BIT != 0;
     let dest_bit = r.mask & DEST_BIT != 0;
-    let state = (r.state <= 3) | (r.state == 6);
+    let state = accept::is_state(r.state);
     let padding = (r.pad0 == 0) & (r.pad1 == 0) & (r.pad2 == 0);
     let ready = r.state == RTR;
     let number = r.dest as usize;
@@ -119,7 +121,7 @@ fn is_move(from: u8, to: u8) -> bool
     ensures { λ r. ⌜ r ≡ isMove from to ⌝ }
 {
     let next = from as u32 + 1;
-    (to == 0) | (to == 6) | ((to as u32 == next) & (to <= 3))
+    (to == RESET) | (to == ERROR) | ((to as u32 == next) & (to <= RTS))
 }
 
 // Whether queue pair n is live.
@@ -139,7 +141,7 @@ fn moved_pair(p: QueuePair, to: u8, dest: u8) -> QueuePair
 {
     let mut r = p;
     r.state = to;
-    if to == 0 {
+    if to == RESET {
         r.dest = NO_DEST;
         return r;
     }
@@ -153,7 +155,7 @@ fn moved_head(h: WaitingHead, to: u8) -> WaitingHead
     ensures { λ r. ⌜ r ≡ movedHead h to ⌝ }
 {
     let mut r = h;
-    if to == 0 {
+    if to == RESET {
         r.count = 0;
     }
     r
@@ -208,7 +210,7 @@ pub fn destroy_qp(state: &mut [u8], read: NumberRead) -> Outcome
         signal: 0,
         scq: 0,
         rcq: 0,
-        state: 0,
+        state: RESET,
         dest: 0,
     };
     image::store_qp(state, n as usize, none);

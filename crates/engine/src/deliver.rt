@@ -8,6 +8,15 @@ use crate::transfer;
 use tables::ReceiveRecord;
 use tables::SendRecord;
 use tables::Sge;
+use tables::limits::INLINE_FLAG;
+use tables::limits::LOCAL_PROTECTION;
+use tables::limits::LOCAL_WRITE;
+use tables::limits::READ;
+use tables::limits::REMOTE_ACCESS;
+use tables::limits::REMOTE_INVALID;
+use tables::limits::REMOTE_READ;
+use tables::limits::REMOTE_WRITE;
+use tables::limits::SUCCESS;
 use tables::queue;
 use tables::records;
 ghost use mathlib.Core.Path.{_≡_};
@@ -24,8 +33,6 @@ ghost use Rattle.rules.specs.Touch.{fills, sgeTotal};
 ghost use Rattle.engine.specs.Grants.{allowsAll};
 ghost use Rattle.engine.specs.Places.{Ready};
 ghost use Rattle.engine.specs.Send.{takenRow, Sending, Delivery, totalBy, ownMask, ownBy, farCount, farList, farMask, Carries, carried};
-
-const INLINE_FLAG: u8 = 8;
 
 fn is_inline(s: SendRecord) -> bool
     ensures { λ r. ⌜ r ≡ isInline s ⌝ }
@@ -44,7 +51,7 @@ pub fn total_of(s: SendRecord, sges: [Sge; 4]) -> u64
     permit::sges_total(sges, s.count as usize)
 }
 
-// Step 4: whether each byte of the sender's own entries is permitted.
+// Step 3: whether each byte of the sender's own entries is permitted.
 fn own_permitted(state: &[u8], pd: u8, s: SendRecord, sges: [Sge; 4]) -> bool
     requires { ⌜ (length (now state) ≡ image) × (isInline s ≡ false → s .count ≤ 4) ⌝ }
     ensures { λ r. ⌜ r ≡ allowsAll (card (now (state .entry))) pd (ownMask (s .opcode)) (ownBy s sges) ⌝ }
@@ -52,7 +59,7 @@ fn own_permitted(state: &[u8], pd: u8, s: SendRecord, sges: [Sge; 4]) -> bool
     if is_inline(s) {
         return true;
     }
-    let mask = settle::choose(s.opcode == 4, 1, 0);
+    let mask = settle::choose(s.opcode == READ, LOCAL_WRITE, 0);
     permit::sges_permitted(state, pd, mask, sges, s.count as usize)
 }
 
@@ -105,8 +112,8 @@ fn far_mask(opcode: u8) -> u8
 {
     settle::choose(
         meet::fills_receive(opcode),
-        1,
-        settle::choose(opcode == 4, 4, 2),
+        LOCAL_WRITE,
+        settle::choose(opcode == READ, REMOTE_READ, REMOTE_WRITE),
     )
 }
 
@@ -126,12 +133,12 @@ fn move_bytes(
     ensures { λ _. ⌜ now (memory .exit) ≡ carried (card (now (state .entry))) s (now (sent .entry)) (take (s .count) sges) (take count far) n (now (memory .entry)) ⌝ }
 {
     if is_inline(s) {
-        let bytes = records::inline_bytes(sent, n as usize);
+        let bytes = records::inline_bytes(sent);
         transfer::scatter_inline(state, memory, bytes, far, count);
         return;
     }
     let own = s.count as usize;
-    if s.opcode == 4 {
+    if s.opcode == READ {
         transfer::transfer(state, memory, far, count, sges, own);
         return;
     }
@@ -158,7 +165,7 @@ pub fn taken_receive(state: &[u8], d: usize, opcode: u8) -> ReceiveRecord
     }
 }
 
-// Steps 4 to 6 of a message of n bytes: the status, and on success the message moved.
+// Steps 3 to 6 of a message of n bytes, which is not too long: the status, and on success the message moved.
 pub fn deliver(
     state: &[u8],
     memory: &mut [u8],
@@ -174,17 +181,17 @@ pub fn deliver(
     ensures { λ r. ⌜ Delivery (now (state .entry)) (now (memory .entry)) e s (now (sent .entry)) sges w n r (now (memory .exit)) ⌝ }
 {
     if !own_permitted(state, e.own.pd, s, sges) {
-        return 3;
+        return LOCAL_PROTECTION;
     }
     if !fits_receive(s.opcode, w, n) {
-        return 7;
+        return REMOTE_INVALID;
     }
     let far = far_sges(s, w, n);
     let count = far_count(s.opcode, w);
     let mask = far_mask(s.opcode);
     if !permit::sges_permitted(state, e.far.pd, mask, far, count) {
-        return settle::choose(meet::fills_receive(s.opcode), 7, 8);
+        return settle::choose(meet::fills_receive(s.opcode), REMOTE_INVALID, REMOTE_ACCESS);
     }
     move_bytes(state, memory, s, sent, sges, far, count, n);
-    0
+    SUCCESS
 }

@@ -6,6 +6,11 @@ use tables::QueueHead;
 use tables::QueuePair;
 use tables::image;
 use tables::limits::QP_COUNT;
+use tables::limits::RTR;
+use tables::limits::RTS;
+use tables::limits::SEND;
+use tables::limits::SEND_IMM;
+use tables::limits::WRITE_IMM;
 ghost use mathlib.Core.Path.{_≡_};
 ghost use mathlib.Core.Bool.{true, cond};
 ghost use Prim.Native.Nat.{_<_, _≤_, _+_};
@@ -35,21 +40,21 @@ pub enum Meeting {
 pub fn takes_receive(opcode: u8) -> bool
     ensures { λ r. ⌜ r ≡ takes opcode ⌝ }
 {
-    (1 <= opcode) & (opcode <= 3)
+    (WRITE_IMM <= opcode) & (opcode <= SEND_IMM)
 }
 
 // Opcodes 2 and 3 fill it.
 pub fn fills_receive(opcode: u8) -> bool
     ensures { λ r. ⌜ r ≡ fills opcode ⌝ }
 {
-    (2 <= opcode) & (opcode <= 3)
+    (SEND <= opcode) & (opcode <= SEND_IMM)
 }
 
 // Whether a queue pair is ready and names q back.
 fn answers_to(far: QueuePair, q: usize) -> bool
     ensures { λ r. ⌜ r ≡ answers far q ⌝ }
 {
-    (far.live == 1) & ((far.state == 2) | (far.state == 3)) & (far.dest as usize == q)
+    (far.live == 1) & ((far.state == RTR) | (far.state == RTS)) & (far.dest as usize == q)
 }
 
 // Whether a completion queue has n free places.
@@ -112,7 +117,7 @@ pub fn meet(state: &[u8], qpn: u32, opcode: u8) -> Meeting
     if own.live != 1 {
         return Meeting::Stopped(Answer::Refused(2));
     }
-    if own.state != 3 {
+    if own.state != RTS {
         return Meeting::Stopped(Answer::Refused(3));
     }
     let d = own.dest as usize;

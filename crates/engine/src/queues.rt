@@ -8,9 +8,13 @@ use tables::ReceiveRecord;
 use tables::accept;
 use tables::image;
 use tables::limits::CQ_COUNT;
+use tables::limits::ERROR;
+use tables::limits::FLUSHED;
 use tables::limits::MOST_MEMORY;
 use tables::limits::MOST_WAITING;
 use tables::limits::QP_COUNT;
+use tables::limits::RECEIVED;
+use tables::limits::RESET;
 use tables::queue;
 use tables::records;
 use tables::reset as fresh;
@@ -24,11 +28,6 @@ ghost use Rattle.tables.specs.Layout.{image};
 ghost use Rattle.rules.specs.Call.{Call};
 ghost use Rattle.engine.specs.Owed.{Owes};
 ghost use Rattle.engine.specs.ReceiveLaws.{Joins};
-
-// A flushed receive's status and opcode.
-const FLUSHED: u8 = 4;
-
-const RECEIVED: u8 = 3;
 
 // ---- reset
 
@@ -101,7 +100,7 @@ fn join(state: &mut [u8], qpn: u32, w: ReceiveRecord) -> Answer
     if p.live != 1 {
         return Answer::Refused(2);
     }
-    if (p.state == 0) | (p.state == 6) {
+    if (p.state == RESET) | (p.state == ERROR) {
         return Answer::Refused(3);
     }
     let h = image::load_waiting(state, q);
@@ -140,7 +139,7 @@ fn flush_one(state: &mut [u8], qpn: u32) -> Answer
     if p.live != 1 {
         return Answer::Refused(2);
     }
-    if p.state != 6 {
+    if p.state != ERROR {
         return Answer::Refused(3);
     }
     let h = image::load_waiting(state, q);

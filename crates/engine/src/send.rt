@@ -9,6 +9,7 @@ use tables::SendRead;
 use tables::SendRecord;
 use tables::accept;
 use tables::image;
+use tables::limits::LOCAL_LENGTH;
 use tables::limits::MOST_MESSAGE;
 use tables::records;
 ghost use mathlib.Core.List.{[]};
@@ -29,8 +30,8 @@ fn carry_out(state: &mut [u8], memory: &mut [u8], e: Ends, s: SendRecord, sent: 
     let total = deliver::total_of(s, sges);
     let w = deliver::taken_receive(state, e.own.dest as usize, s.opcode);
     if (MOST_MESSAGE as u64) < total {
-        settle::settle(state, e, s, w, 1, 0);
-        return 1;
+        settle::settle(state, e, s, w, LOCAL_LENGTH, 0);
+        return LOCAL_LENGTH;
     }
     let n = total as u32;
     let st = deliver::deliver(state, memory, e, s, sent, sges, w, n);

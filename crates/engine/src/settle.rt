@@ -9,6 +9,20 @@ use tables::ReceiveRecord;
 use tables::SendRecord;
 use tables::Sge;
 use tables::image;
+use tables::limits::ERROR;
+use tables::limits::LOCAL_LENGTH;
+use tables::limits::LOCAL_PROTECTION;
+use tables::limits::READ;
+use tables::limits::READ_BACK;
+use tables::limits::RECEIVED;
+use tables::limits::RECEIVED_WRITE;
+use tables::limits::REMOTE_INVALID;
+use tables::limits::SEND_IMM;
+use tables::limits::SENT;
+use tables::limits::SIGNALED_FLAG;
+use tables::limits::SUCCESS;
+use tables::limits::WRITE_IMM;
+use tables::limits::WRITTEN;
 use tables::queue;
 ghost use mathlib.Core.Path.{_≡_};
 ghost use mathlib.Core.Bool.{true, cond};
@@ -21,8 +35,6 @@ ghost use Rattle.tables.specs.Records.{receiveSges};
 ghost use Rattle.rules.specs.Send.{senderOpcode, receiverOpcode, consumes};
 ghost use Rattle.engine.specs.Bytes.{pushAll, errorBytes, consumeBytes};
 ghost use Rattle.engine.specs.Send.{receiverStatus, putFirst, putSecond, settled, Settling};
-
-const SIGNALED_FLAG: u8 = 2;
 
 // x where b holds, else y.
 pub fn choose(b: bool, x: u8, y: u8) -> u8
@@ -38,14 +50,18 @@ pub fn choose(b: bool, x: u8, y: u8) -> u8
 fn sender_opcode(opcode: u8) -> u8
     ensures { λ r. ⌜ r ≡ senderOpcode opcode ⌝ }
 {
-    choose(opcode == 4, 2, choose(meet::fills_receive(opcode), 0, 1))
+    choose(
+        opcode == READ,
+        READ_BACK,
+        choose(meet::fills_receive(opcode), SENT, WRITTEN),
+    )
 }
 
 // The opcode of the receiver's completion.
 fn receiver_opcode(opcode: u8) -> u8
     ensures { λ r. ⌜ r ≡ receiverOpcode opcode ⌝ }
 {
-    choose(opcode == 1, 4, 3)
+    choose(opcode == WRITE_IMM, RECEIVED_WRITE, RECEIVED)
 }
 
 // n where b holds, else 0.
@@ -86,14 +102,14 @@ fn receiver_status(st: u8, n: u32, w: ReceiveRecord) -> u8
     requires { ⌜ w .count ≤ 2 ⌝ }
     ensures { λ r. ⌜ r ≡ receiverStatus w st n ⌝ }
 {
-    if st == 0 {
-        return 0;
+    if st == SUCCESS {
+        return SUCCESS;
     }
     let room = permit::sges_total(receive_sges(w), w.count as usize);
     if room < n as u64 {
-        return 1;
+        return LOCAL_LENGTH;
     }
-    3
+    LOCAL_PROTECTION
 }
 
 // The sender's completion, where one is put.
@@ -101,12 +117,12 @@ fn put_sender(state: &mut [u8], e: Ends, s: SendRecord, st: u8, n: u32)
     requires { ⌜ (e .q < qpCount) × (e .own .scq < cqCount) × (length (now state) ≡ image) × (rowAt cqT (now state) (e .own .scq) .count < mostPlaces) ⌝ }
     ensures { λ _. ⌜ now (state .exit) ≡ pushAll (now (state .entry)) (putFirst e s st n) ⌝ }
 {
-    let silent = (st == 0) & (e.own.signal != 0) & (s.flags & SIGNALED_FLAG == 0);
+    let silent = (st == SUCCESS) & (e.own.signal != 0) & (s.flags & SIGNALED_FLAG == 0);
     if silent {
         return;
     }
     let opcode = sender_opcode(s.opcode);
-    let length = kept_if(st == 0, n);
+    let length = kept_if(st == SUCCESS, n);
     let entry = Completion {
         wr: s.wr,
         status: st,
@@ -128,8 +144,8 @@ fn put_receiver(state: &mut [u8], e: Ends, s: SendRecord, w: ReceiveRecord, st: 
         return;
     }
     let opcode = receiver_opcode(s.opcode);
-    let received = kept_if(st == 0, n);
-    let carries = (st == 0) & ((s.opcode == 1) | (s.opcode == 3));
+    let received = kept_if(st == SUCCESS, n);
+    let carries = (st == SUCCESS) & ((s.opcode == WRITE_IMM) | (s.opcode == SEND_IMM));
     let entry = Completion {
         wr: w.wr,
         status: receiver_status(st, n, w),
@@ -145,7 +161,7 @@ fn put_receiver(state: &mut [u8], e: Ends, s: SendRecord, w: ReceiveRecord, st: 
 fn is_consumed(opcode: u8, st: u8) -> bool
     ensures { λ r. ⌜ r ≡ consumes opcode st ⌝ }
 {
-    meet::takes_receive(opcode) & ((st == 0) | (st == 7))
+    meet::takes_receive(opcode) & ((st == SUCCESS) | (st == REMOTE_INVALID))
 }
 
 // Queue pair q goes to error, where b holds.
@@ -163,7 +179,7 @@ fn fail_if(state: &mut [u8], b: bool, q: usize)
         signal: p.signal,
         scq: p.scq,
         rcq: p.rcq,
-        state: 6,
+        state: ERROR,
         dest: p.dest,
     };
     image::store_qp(state, q, failed);
@@ -188,7 +204,7 @@ pub fn settle(state: &mut [u8], e: Ends, s: SendRecord, w: ReceiveRecord, st: u8
     let d = e.own.dest as usize;
     put_sender(state, e, s, st, n);
     put_receiver(state, e, s, w, st, n);
-    fail_if(state, st != 0, e.q);
+    fail_if(state, st != SUCCESS, e.q);
     consume_if(state, is_consumed(s.opcode, st), d);
-    fail_if(state, st == 7, d);
+    fail_if(state, st == REMOTE_INVALID, d);
 }

@@ -165,7 +165,7 @@ pub fn scatter_inline(state: &[u8], memory: &mut [u8], bytes: &[u8], to: [Sge; 4
     requires { ⌜ (nt ≤ 4) × (mappedAll (card (now state)) (sgeBytes (take nt to)) ≡ true) × (sgeTotal (take nt to) ≡ length (now bytes)) × (length (now bytes) ≤ mostInline) ⌝ }
     ensures { λ _. ⌜ now (memory .exit) ≡ stored (now (memory .entry)) (places (card (now (state .entry))) (take nt to)) (now (bytes .entry)) ⌝ }
 {
-    let mut staging = [0u8; 512];
+    let mut staging = [0u8; 4096];
     let n = bytes.len();
     copy_bytes(&mut staging, 0, bytes, 0, n);
     scatter(state, memory, to, nt, &staging);

@@ -17,7 +17,7 @@ use Rattle.tables.specs.Card.{Card}
 use Rattle.tables.specs.Image.{card}
 use Rattle.tables.specs.Limits.{mostSges}
 use Rattle.tables.specs.Search.{freePdn, freeCqn, freeMrn, freeQpn}
-use Rattle.tables.specs.Records.{controlClass, inlineLength, sgeCodec, sendSge}
+use Rattle.tables.specs.Records.{controlClass, sgeCodec, sendSge}
 use Rattle.tables.specs.Reading.{numberRead, registerRead, createQpRead, modifyQpRead}
 use Rattle.tables.specs.declared.CreateQpRead.{CreateQpRead}
 use Rattle.tables.specs.declared.CreateQpRead.the-variants as create
@@ -63,10 +63,6 @@ sendAnswer (send.Refused n) = n
 abbrev pub sendOut : SendRead → List ℕ → List ℕ → List ℕ
 sendOut (send.Record s) x o = cond (ltb (length o) 96) o (putSges (putFields sendFields o 0 (sendValues s)) 32 (rows mostSges (sendSge x)))
 sendOut (send.Refused n) x o = o
-
--- the inline part: as long as the number at 560 says, where the record has it
-abbrev pub inlinePart : List ℕ → List ℕ
-inlinePart x = take (cond (ltb (length x) 562) 0 (inlineLength x)) (drop 48 x)
 
 -- the part p over the buffer's first bytes, as much as it holds
 abbrev pub laid : List ℕ → List ℕ → List ℕ

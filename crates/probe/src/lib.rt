@@ -17,9 +17,9 @@ ghost use Rattle.wire.specs.Fields.{putFields};
 ghost use Rattle.tables.specs.Accept.{accepts};
 ghost use Rattle.tables.specs.Image.{card};
 ghost use Rattle.tables.specs.Layout.{image};
-ghost use Rattle.tables.specs.Reading.{numberRead, registerRead, createQpRead, modifyQpRead};
+ghost use Rattle.tables.specs.Reading.{inlinePart, numberRead, registerRead, createQpRead, modifyQpRead};
 ghost use Rattle.tables.specs.Records.{receiveRead, sendRead, sgeCodec};
-ghost use Rattle.probe.specs.Shown.{freeOf, freeShown, putSges, sendFields, sendValues, sendAnswer, sendOut, inlinePart, laid, receiveFields, receiveAnswer, receiveOut, bothSges, wordFields, toldAnswer, toldOut, numberTold, createPdTold, registerTold, createQpTold, modifyQpTold, isNumber, dataTold, commandTold};
+ghost use Rattle.probe.specs.Shown.{freeOf, freeShown, putSges, sendFields, sendValues, sendAnswer, sendOut, laid, receiveFields, receiveAnswer, receiveOut, bothSges, wordFields, toldAnswer, toldOut, numberTold, createPdTold, registerTold, createQpTold, modifyQpTold, isNumber, dataTold, commandTold};
 
 // 1 where the state is acceptable.
 #[no_mangle]
@@ -131,23 +131,13 @@ fn copy_held(part: &[u8], out: &mut [u8])
     copy(part, out, room);
 }
 
-fn inline_part(request: &[u8]) -> &[u8]
-    ensures { λ r. ⌜ now r ≡ inlinePart (now (request .entry)) ⌝ }
-{
-    if request.len() < 562 {
-        return tables::records::inline_bytes(request, 0);
-    }
-    let n = wire::get16(request, 560) as usize;
-    tables::records::inline_bytes(request, n)
-}
-
 // The inline part's length; the part itself, as much as the buffer holds.
 #[no_mangle]
 pub extern "C" fn probe_inline(request: &[u8], out: &mut [u8]) -> usize
     ensures { λ r. ⌜ r ≡ length (inlinePart (now (request .entry))) ⌝ }
     ensures { λ _. ⌜ now (out .exit) ≡ laid (inlinePart (now (request .entry))) (now (out .entry)) ⌝ }
 {
-    let part = inline_part(request);
+    let part = tables::records::inline_bytes(request);
     copy_held(part, out);
     part.len()
 }

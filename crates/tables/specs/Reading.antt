@@ -118,10 +118,14 @@ inline-length x =
     let g : leAt 2 x 560 ≡ leAt 4 x 560 % 65536 = omega arith in
     g
 
--- and the inline bytes are so many from byte 48 on
-pub inline-part : (x : List ℕ) → take (sendCodec .read x 0 .count % 65536) (drop 48 x) ≡ inlineBytes x
+-- the part of a record that the reader hands back; one too short for an inline length has none
+abbrev pub inlinePart : List ℕ → List ℕ
+inlinePart x = take (cond (ltb (length x) 562) 0 (inlineLength x)) (drop 48 x)
+
+-- of any other it is the inline bytes
+pub inline-part : (x : List ℕ) → 562 ≤ length x → inlinePart x ≡ inlineBytes x
 unfolding inlineBytes
-inline-part x = ap (λ n. take n (drop 48 x)) (sym (inline-length x))
+inline-part x h = rw (le-ltb (length x) 562 h)
 
 -- a part from the start is known by its length
 pub part-is : (y l : List ℕ) (n : ℕ) → length l ≡ n → take (length l) y ≡ l → l ≡ take n y

@@ -6,6 +6,10 @@ use crate::Region;
 use crate::WaitingHead;
 use crate::image;
 use crate::limits::CQ_COUNT;
+use crate::limits::ERROR;
+use crate::limits::FLUSHED;
+use crate::limits::LOCAL_LENGTH;
+use crate::limits::LOCAL_PROTECTION;
 use crate::limits::MOST_ACCESS;
 use crate::limits::MOST_ADDRESS;
 use crate::limits::MOST_MEMORY;
@@ -16,6 +20,11 @@ use crate::limits::MOST_WAITING;
 use crate::limits::MR_COUNT;
 use crate::limits::PD_COUNT;
 use crate::limits::QP_COUNT;
+use crate::limits::RECEIVED_WRITE;
+use crate::limits::REMOTE_ACCESS;
+use crate::limits::REMOTE_INVALID;
+use crate::limits::RTS;
+use crate::limits::SUCCESS;
 ghost use mathlib.Core.Path.{_≡_};
 ghost use Prim.Native.Nat.{_<_, _≤_, _+_, _*_};
 ghost use lib.Dec.{leb};
@@ -61,22 +70,22 @@ pub fn sum_within(a: u64, b: u64, limit: u64) -> bool
 fn is_status(s: u8) -> bool
     ensures { λ x. ⌜ x ≡ isStatus s ⌝ }
 {
-    if s == 0 {
+    if s == SUCCESS {
         return true;
     }
-    if s == 1 {
+    if s == LOCAL_LENGTH {
         return true;
     }
-    if s == 3 {
+    if s == LOCAL_PROTECTION {
         return true;
     }
-    if s == 4 {
+    if s == FLUSHED {
         return true;
     }
-    if s == 7 {
+    if s == REMOTE_INVALID {
         return true;
     }
-    s == 8
+    s == REMOTE_ACCESS
 }
 
 fn completion_ok(e: Completion) -> bool
@@ -85,7 +94,7 @@ fn completion_ok(e: Completion) -> bool
     if !is_status(e.status) {
         return false;
     }
-    if 4 < e.opcode {
+    if RECEIVED_WRITE < e.opcode {
         return false;
     }
     if MOST_MESSAGE < e.length {
@@ -113,10 +122,10 @@ fn region_ok(memory: u64, r: Region) -> bool
     sum_within(r.virt, r.length, MOST_ADDRESS)
 }
 
-fn is_state(s: u8) -> bool
+pub fn is_state(s: u8) -> bool
     ensures { λ x. ⌜ x ≡ isState s ⌝ }
 {
-    (s <= 3) | (s == 6)
+    (s <= RTS) | (s == ERROR)
 }
 
 fn pair_ok(n: usize, p: QueuePair) -> bool

@@ -1,4 +1,6 @@
 // Document 01's numbers, each once.
+
+// ---- tables and lengths
 pub const PD_COUNT: usize = 8;
 
 pub const CQ_COUNT: usize = 8;
@@ -23,4 +25,59 @@ pub const MOST_INLINE: u32 = 512;
 
 pub const MOST_RECEIVE_SGES: u32 = 2;
 
-pub const MOST_ACCESS: u8 = 7;
+// ---- access bits
+pub const LOCAL_WRITE: u8 = 1;
+
+pub const REMOTE_WRITE: u8 = 2;
+
+pub const REMOTE_READ: u8 = 4;
+
+pub const MOST_ACCESS: u8 = LOCAL_WRITE + REMOTE_WRITE + REMOTE_READ;
+
+// ---- queue pair states
+pub const RESET: u8 = 0;
+
+pub const RTR: u8 = 2;
+
+pub const RTS: u8 = 3;
+
+pub const ERROR: u8 = 6;
+
+// ---- opcodes and flags of a send record
+pub const WRITE_IMM: u8 = 1;
+
+pub const SEND: u8 = 2;
+
+pub const SEND_IMM: u8 = 3;
+
+pub const READ: u8 = 4;
+
+pub const SIGNALED_FLAG: u8 = 2;
+
+pub const INLINE_FLAG: u8 = 8;
+
+pub const FLAG_BITS: u8 = 15;
+
+// ---- statuses
+pub const SUCCESS: u8 = 0;
+
+pub const LOCAL_LENGTH: u8 = 1;
+
+pub const LOCAL_PROTECTION: u8 = 3;
+
+pub const FLUSHED: u8 = 4;
+
+pub const REMOTE_INVALID: u8 = 7;
+
+pub const REMOTE_ACCESS: u8 = 8;
+
+// ---- opcodes of a completion
+pub const SENT: u8 = 0;
+
+pub const WRITTEN: u8 = 1;
+
+pub const READ_BACK: u8 = 2;
+
+pub const RECEIVED: u8 = 3;
+
+pub const RECEIVED_WRITE: u8 = 4;

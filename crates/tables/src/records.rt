@@ -13,16 +13,19 @@ use crate::Registration;
 use crate::SendRead;
 use crate::SendRecord;
 use crate::Sge;
+use crate::limits::FLAG_BITS;
+use crate::limits::INLINE_FLAG;
 use crate::limits::MOST_INLINE;
 use crate::limits::MOST_RECEIVE_SGES;
 use crate::limits::MOST_SGES;
+use crate::limits::READ;
 ghost use mathlib.Core.Path.{_≡_};
 ghost use Prim.Native.Nat.{_<_, _≤_, _+_, _^_};
 ghost use lib.ListN.{length, take, drop};
 ghost use Rattle.wire.specs.Fields.{putFields};
 ghost use Rattle.wire.specs.Rows.{rows};
 ghost use Rattle.tables.specs.Limits.{mostSges};
-ghost use Rattle.tables.specs.Reading.{sgeAt, sendBad, sendSize, numberRead, registerRead, createQpRead, modifyQpRead, ackValues};
+ghost use Rattle.tables.specs.Reading.{inlinePart, sgeAt, sendBad, sendSize, numberRead, registerRead, createQpRead, modifyQpRead, ackValues};
 ghost use Rattle.tables.specs.Records.{ackFields, ackLeast, completionCodec, receiveRead, sendCodec, sendRead, sendSge};
 
 // A send record's bytes before its scatter/gather entries, and where its inline bytes begin.
@@ -30,15 +33,11 @@ const SEND_SIZE: usize = 576;
 
 const INLINE_AT: usize = 48;
 
+const INLINE_LENGTH_AT: usize = 560;
+
 const RECEIVE_HEAD: usize = 24;
 
 const SGE_SIZE: usize = 16;
-
-const LAST_OPCODE: u8 = 4;
-
-const FLAG_BITS: u8 = 15;
-
-const INLINE_FLAG: u8 = 8;
 
 // ---- work requests
 
@@ -53,7 +52,7 @@ fn send_head(request: &[u8]) -> SendRecord
         imm: wire::get32(request, 12),
         address: wire::get64(request, 16),
         key: wire::get32(request, 24),
-        count: wire::get32(request, 560),
+        count: wire::get32(request, INLINE_LENGTH_AT),
     }
 }
 
@@ -65,8 +64,8 @@ fn send_bad(s: SendRecord) -> bool
     let inline = s.flags & INLINE_FLAG != 0;
     let long = MOST_INLINE < s.count % 65536;
     let many = MOST_SGES < s.count;
-    let bad_inline = inline & ((s.opcode == LAST_OPCODE) | long);
-    (LAST_OPCODE < s.opcode) | unknown | bad_inline | (!inline & many)
+    let bad_inline = inline & ((s.opcode == READ) | long);
+    (READ < s.opcode) | unknown | bad_inline | (!inline & many)
 }
 
 // The exact length of the record that begins with s.
@@ -98,8 +97,8 @@ pub fn read_send(request: &[u8]) -> SendRead
     SendRead::Record(s)
 }
 
-// The first n inline bytes, as a part of the record.
-pub fn inline_bytes(request: &[u8], n: usize) -> &[u8]
+// The first n bytes from where inline bytes begin, as a part of the record.
+fn inline_first(request: &[u8], n: usize) -> &[u8]
     ensures { λ r. ⌜ now r ≡ take n (drop 48 (now (request .entry))) ⌝ }
 {
     let from = INLINE_AT;
@@ -112,6 +111,17 @@ pub fn inline_bytes(request: &[u8], n: usize) -> &[u8]
     }
     let end = from + n;
     &request[from..end]
+}
+
+// The inline bytes, as a part of the caller's record.
+pub fn inline_bytes(request: &[u8]) -> &[u8]
+    ensures { λ r. ⌜ now r ≡ inlinePart (now (request .entry)) ⌝ }
+{
+    if request.len() < INLINE_LENGTH_AT + 2 {
+        return inline_first(request, 0);
+    }
+    let n = wire::get16(request, INLINE_LENGTH_AT) as usize;
+    inline_first(request, n)
 }
 
 // The scatter/gather entry at an offset; one that the record does not have is nothing.

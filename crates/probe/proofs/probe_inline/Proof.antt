@@ -4,10 +4,10 @@ use Rattle.probe.proofs.probe_inline.Tie as tie
 use Rattle.probe.proofs.probe_inline.Reads as reads
 use Rattle.probe.proofs.probe_inline.Lts as lts
 use Rattle.probe.proofs.copy_held.Reads as copy-held-reads
-use Rattle.probe.proofs.inline_part.Reads as inline-part-reads
+use Rattle.tables.proofs.records.inline_bytes.Reads as inline-bytes-reads
 
-inline-part-requires : tie.Need-inline-part-requires
-inline-part-requires c κs = search needs
+inline-bytes-requires : tie.Need-inline-bytes-requires
+inline-bytes-requires c κs = search needs
 
 copy-held-requires : tie.Need-copy-held-requires
 copy-held-requires c κs = search needs
@@ -16,8 +16,8 @@ same-length : tie.Need-same-length
 same-length c = search needs
 
 returns : tie.Need-returns
-returns c = let e = c .before .before .before .before .inline-part .ensures in (rw e, rw (c .before .before .copy-held .ensures, e))
+returns c = let e = c .before .before .before .before .inline-bytes .ensures in (rw e, rw (c .before .before .copy-held .ensures, e))
 
 pub probe-inline-spec : {M : Type 1} → statement M
 probe-inline-spec =
-    tie.close (tie.spec inline-part-requires copy-held-requires same-length returns)
+    tie.close (tie.spec inline-bytes-requires copy-held-requires same-length returns)

@@ -1,72 +1,45 @@
-use lib.Seq.{take-all, take-nil, drop-length}
-use native.Mathlib.Omega.{arith}
-use Prim.Native.Nat.{_-_}
 use denote.Ref.{now}
-use Rattle.tables.specs.Reading.{part-is, take-min}
-use mathlib.Core.Path.{sym, _∙_}
-use lib.ListN.{length, drop, length-take, length-drop, drop-of-length-le}
+use borrow.Author.Tests.{lt-ltb, le-ltb}
+use lib.ListN.{length}
+use Rattle.tables.specs.Records.{inlineLength}
 use borrow.Author.Needs.{needs}
 use Rattle.tables.proofs.records.inline_bytes.Statement.{statement}
 use Rattle.tables.proofs.records.inline_bytes.Tie as tie
+use Rattle.tables.proofs.records.inline_bytes.Reads as reads
+use Rattle.tables.proofs.records.inline_bytes.Lts as lts
+use Rattle.tables.proofs.records.inline_first.Reads as inline-first-reads
+use Rattle.wire.proofs.get16.Reads as get16-reads
 
-sub-result : tie.Need-sub-result
-sub-result c = search needs
+add-if1 : tie.Need-add-if1
+add-if1 c = search needs
 
-part-result-start : tie.Need-part-result-start
-part-result-start c = search needs
-
-part-result-end : tie.Need-part-result-end
-part-result-end c = search needs
+inline-first-requires : tie.Need-inline-first-requires
+inline-first-requires c κs = search needs
 
 returns : tie.Need-returns
-returns c =
-    let a = c .before .before .args in
-    let x = now (a .request) in
-    rw (drop-length x, drop-of-length-le x {i = 48} (omega arith)) (take-nil (length x - length x) ∙ sym (take-nil (a .n)))
+returns c = rw (lt-ltb (length (now (c .before .before .before .args .request))) 562 (c .before .if1 .taken), c .inline-first .ensures)
 
-part-result-start-2 : tie.Need-part-result-start-2
-part-result-start-2 c = search needs
+get16-requires : tie.Need-get16-requires
+get16-requires c κs = search needs
 
-part-result-end-2 : tie.Need-part-result-end-2
-part-result-end-2 c = search needs
+cast-n : tie.Need-cast-n
+cast-n c = search needs
+
+inline-first-requires-2 : tie.Need-inline-first-requires-2
+inline-first-requires-2 c κs = search needs
 
 returns-2 : tie.Need-returns-2
-returns-2 c =
-    let a = c .before .before .before .args in
-    let x = now (a .request) in
-    let e = length-drop 48 x in
-    take-all (length x - 48) (drop 48 x) (omega arith) ∙ sym (take-all (a .n) (drop 48 x) (omega arith))
-
-add-end : tie.Need-add-end
-add-end c = search needs
-
-sub-result-2 : tie.Need-sub-result-2
-sub-result-2 c = search needs
-
-part-result-start-3 : tie.Need-part-result-start-3
-part-result-start-3 c = search needs
-
-part-result-end-3 : tie.Need-part-result-end-3
-part-result-end-3 c = search needs
-
-returns-3 : tie.Need-returns-3
-returns-3 c =
-    let a = c .before .before .before .args in
-    part-is (drop 48 (now (a .request))) _ (a .n) (simp (length-take, length-drop) (omega arith)) (rw (length-take, take-min))
+unfolding inlineLength
+returns-2 c = rw (le-ltb (length (now (c .before .before .before .before .args .request))) 562 (c .before .before .if1 .left), c .inline-first2 .ensures, c .before .get16 .ensures)
 
 pub inline-bytes-spec : {M : Type 1} → statement M
 inline-bytes-spec =
     tie.close
     (tie.spec
-    sub-result
-    part-result-start
-    part-result-end
+    add-if1
+    inline-first-requires
     returns
-    part-result-start-2
-    part-result-end-2
-    returns-2
-    add-end
-    sub-result-2
-    part-result-start-3
-    part-result-end-3
-    returns-3)
+    get16-requires
+    cast-n
+    inline-first-requires-2
+    returns-2)
