@@ -1,11 +1,3 @@
-pub mod Grants
-pub mod Ranges
-pub mod Find
-pub mod Sges
-pub mod Inside
-pub mod Places
-pub mod Moves
-pub mod Bridge
 pub mod Bytes
 pub mod SendCard
 pub mod SendLimits

@@ -28,8 +28,8 @@ use Rattle.rules.specs.Send.{Put, deliveryChecks, statusBy, sendStatus, sendMem
 use Rattle.rules.specs.Touch.{Request, Byte, takes, fills, reads, sgeBytes, sgeTotal}
 use Rattle.rules.specs.Lists.{stored}
 use Rattle.rules.proofs.Runs.{cut}
-use Rattle.engine.specs.Grants.{allowsAll, mappedAll, places}
-use Rattle.engine.specs.Places.{moved}
+use Rattle.dma.specs.Grants.{allowsAll, mappedAll, places}
+use Rattle.dma.specs.Places.{moved}
 use Rattle.engine.specs.Bytes.{pushAll, errorBytes, consumeBytes, sendBytes}
 use Rattle.engine.specs.declared.meet.Ends.{Ends}
 use Rattle.engine.specs.declared.meet.Meeting.{Meeting}

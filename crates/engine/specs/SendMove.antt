@@ -8,7 +8,7 @@ use Rattle.tables.specs.Card.{Card}
 use Rattle.tables.specs.declared.SendRecord.{SendRecord}
 use Rattle.tables.specs.declared.Sge.{Sge}
 use Rattle.tables.specs.Records.{isInline}
-use Rattle.engine.specs.Moves.{Message}
+use Rattle.dma.specs.Moves.{Message}
 use Rattle.engine.specs.Send.{Carries}
 
 module _ (c : Card) (s : SendRecord) (x : List ℕ) (own far : List Sge) (n : ℕ) (k : Carries c s x own far n) (e : isInline s ≡ false) where

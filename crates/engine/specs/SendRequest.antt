@@ -35,9 +35,9 @@ use Rattle.rules.specs.Permit.{Use, permitsAll, place}
 use Rattle.rules.specs.Send.{peerOf, takenBy, deliveryChecks, ownUse, farUse, statusBy, sendStatus, sendMemory}
 use Rattle.rules.specs.Touch.{Request, Byte, requestOf, takes, fills, reads, range, sgeBytes, sgeTotal, total, ownBytes, farBytes, message, delivered}
 use Rattle.rules.proofs.Runs.{cut, cut-bytes, values-at}
-use Rattle.engine.specs.Bridge.{maskOf, allowed-all, placed-all}
-use Rattle.engine.specs.Grants.{allowsAll, places}
-use Rattle.engine.specs.Places.{moved}
+use Rattle.dma.specs.Bridge.{maskOf, allowed-all, placed-all}
+use Rattle.dma.specs.Grants.{allowsAll, places}
+use Rattle.dma.specs.Places.{moved}
 use Rattle.engine.specs.Send.{bare, endsAt, ownMask, farMask, ownBy, farList, totalBy, takenRow, Posted, Sending, statusIn, carried}
 use Rattle.engine.specs.SendCard.{row-live, some-wait}
 use Rattle.engine.specs.SendLimits.{Going, going}

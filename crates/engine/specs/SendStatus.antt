@@ -16,8 +16,8 @@ use Rattle.tables.specs.declared.Sge.{Sge}
 use Rattle.rules.specs.Send.{statusBy}
 use Rattle.rules.specs.Touch.{fills, sgeBytes, sgeTotal}
 use Rattle.rules.proofs.Runs.{cut, cut-total}
-use Rattle.engine.specs.Grants.{allowsAll}
-use Rattle.engine.specs.Ranges.{permitted-mapped-all}
+use Rattle.dma.specs.Grants.{allowsAll}
+use Rattle.dma.specs.Ranges.{permitted-mapped-all}
 use Rattle.engine.specs.Send.{ownMask, farMask, ownBy, farList, farCount, Sending, Delivery, Carries, carried}
 use Rattle.engine.specs.declared.meet.Ends.{Ends}
 

@@ -1,10 +1,10 @@
 // Steps 3 to 6 of document 01, "Posting and delivering": the status of a message, and the message moved. Definitions and laws:
 // specs/Send.antt and specs/SendStatus.antt.
-use crate::meet;
 use crate::meet::Ends;
-use crate::permit;
+use crate::meet;
 use crate::settle;
-use crate::transfer;
+use dma::permit;
+use dma::transfer;
 use tables::ReceiveRecord;
 use tables::SendRecord;
 use tables::Sge;
@@ -30,8 +30,8 @@ ghost use Rattle.tables.specs.Layout.{image, waitingT};
 ghost use Rattle.tables.specs.Limits.{qpCount, mostWaiting};
 ghost use Rattle.tables.specs.Records.{isInline, receiveSges};
 ghost use Rattle.rules.specs.Touch.{fills, sgeTotal};
-ghost use Rattle.engine.specs.Grants.{allowsAll};
-ghost use Rattle.engine.specs.Places.{Ready};
+ghost use Rattle.dma.specs.Grants.{allowsAll};
+ghost use Rattle.dma.specs.Places.{Ready};
 ghost use Rattle.engine.specs.Send.{takenRow, Sending, Delivery, totalBy, ownMask, ownBy, farCount, farList, farMask, Carries, carried};
 
 fn is_inline(s: SendRecord) -> bool

@@ -7,11 +7,9 @@ pub mod control;
 pub mod control_qp;
 pub mod deliver;
 pub mod meet;
-pub mod permit;
 pub mod queues;
 pub mod send;
 pub mod settle;
-pub mod transfer;
 
 // ---- calls from C: each answers with its number in bits 0 to 7 and its status in bits 8 to 15
 

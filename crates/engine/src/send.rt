@@ -1,8 +1,8 @@
 // Post send: document 01, "Posting and delivering". Laws: specs/SendDone.antt and specs/SendEnd.antt.
 use crate::deliver;
-use crate::meet;
 use crate::meet::Ends;
 use crate::meet::Meeting;
+use crate::meet;
 use crate::settle;
 use rules::Answer;
 use tables::SendRead;
@@ -17,7 +17,7 @@ ghost use Rattle.rules.specs.Call.{Call};
 ghost use Rattle.rules.specs.Touch.{requestOf};
 ghost use Rattle.engine.specs.Owed.{Owes};
 ghost use Rattle.engine.specs.SendDone.{Ran};
-ghost use Rattle.engine.specs.Places.{Ready};
+ghost use Rattle.dma.specs.Places.{Ready};
 ghost use Rattle.engine.specs.Send.{Posted, Met, Carried};
 
 // Steps 3 to 6 for two queue pairs that passed the tests: the status, and all that the request leaves.

@@ -1,8 +1,8 @@
 // What a post send leaves in the state: completions, error states, the receive consumed. Definitions and laws: specs/Send.antt and
 // specs/SendSettle.antt.
-use crate::meet;
 use crate::meet::Ends;
-use crate::permit;
+use crate::meet;
+use dma::permit;
 use tables::Completion;
 use tables::QueuePair;
 use tables::ReceiveRecord;

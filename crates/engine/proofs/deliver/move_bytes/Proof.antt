@@ -8,7 +8,7 @@ use lib.ListN.{length, take}
 use borrow.Author.Tests.{eq-eqb, ne-eqb}
 use Rattle.tables.specs.Image.{card}
 use Rattle.rules.specs.Lists.{stored}
-use Rattle.engine.specs.Grants.{places}
+use Rattle.dma.specs.Grants.{places}
 use Rattle.engine.specs.SendMove.{there, back}
 use borrow.Author.Needs.{needs}
 use Rattle.engine.proofs.deliver.move_bytes.Statement.{statement}

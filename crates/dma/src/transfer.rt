@@ -1,0 +1,172 @@
+// How a request's bytes are moved: all source bytes are read, into a staging array, before any is written. Who may move them is not asked
+// here: each byte lies in a live region.
+use tables::Sge;
+use tables::image;
+ghost use mathlib.Core.Path.{_≡_};
+ghost use mathlib.Core.Bool.{true};
+ghost use mathlib.Core.List.{_∷_, [], _++_};
+ghost use Prim.Native.Nat.{_+_, _≤_};
+ghost use lib.ListN.{length, take, drop};
+ghost use lib.Seq.{paste};
+ghost use Rattle.tables.specs.Accept.{accepts};
+ghost use Rattle.tables.specs.Image.{card};
+ghost use Rattle.tables.specs.Layout.{image};
+ghost use Rattle.tables.specs.Limits.{mostMessage, mostInline};
+ghost use Rattle.rules.specs.Touch.{sgeBytes, sgeTotal};
+ghost use Rattle.dma.specs.Places.{readBytes, moved, Ready, bytesOf, placesOf};
+ghost use Rattle.rules.specs.Lists.{stored};
+ghost use Rattle.dma.specs.Grants.{mapped, mappedAll, locate, places};
+ghost use Rattle.dma.specs.Ranges.{byte};
+ghost use Rattle.dma.specs.Moves.{Message, Single};
+
+// Copies n bytes of src, from index from on, into dst from index at on.
+pub fn copy_bytes(dst: &mut [u8], at: usize, src: &[u8], from: usize, n: usize)
+    requires { ⌜ (at + n ≤ length (now dst)) × (from + n ≤ length (now src)) ⌝ }
+    ensures { λ _. ⌜ now (dst .exit) ≡ paste (now (dst .entry)) at (drop from (now (src .entry))) n ⌝ }
+{
+    let mut i = 0;
+    while i < n {
+        dst[at + i] = src[from + i];
+        i += 1;
+    }
+}
+
+// The place in memory of a byte that lies in a live region.
+fn place_of(state: &[u8], address: u64, key: u32) -> usize
+    requires { ⌜ (accepts (now state) ≡ true) × (length (now state) ≡ image) × (mapped (card (now state)) (byte address key) ≡ true) ⌝ }
+    ensures { λ r. ⌜ r ≡ locate (card (now (state .entry))) (byte address key) ⌝ }
+{
+    let slot = (key / 256) as usize;
+    let r = image::load_mr(state, slot);
+    (r.start + (address - r.virt)) as usize
+}
+
+// Copies an entry's bytes into staging, from index at on.
+fn copy_out(state: &[u8], memory: &[u8], s: Sge, staging: &mut [u8], at: usize)
+    requires { ⌜ Ready (now state) (now memory) ⌝ }
+    requires { ⌜ (mappedAll (card (now state)) (bytesOf s) ≡ true) × (at + s .length ≤ length (now staging)) ⌝ }
+    ensures { λ _. ⌜ take (at + s .length) (now (staging .exit)) ≡ take at (now (staging .entry)) ++ readBytes (now (memory .entry)) (placesOf (card (now (state .entry))) s) ⌝ }
+{
+    let n = s.length as usize;
+    if n == 0 {
+        return;
+    }
+    let from = place_of(state, s.address, s.key);
+    copy_bytes(staging, at, memory, from, n);
+}
+
+// Copies staging's bytes, from index at on, to an entry.
+fn copy_in(state: &[u8], memory: &mut [u8], s: Sge, staging: &[u8], at: usize)
+    requires { ⌜ Ready (now state) (now memory) ⌝ }
+    requires { ⌜ (mappedAll (card (now state)) (bytesOf s) ≡ true) × (at + s .length ≤ length (now staging)) ⌝ }
+    ensures { λ _. ⌜ now (memory .exit) ≡ stored (now (memory .entry)) (placesOf (card (now (state .entry))) s) (drop at (now (staging .entry))) ⌝ }
+{
+    let n = s.length as usize;
+    if n == 0 {
+        return;
+    }
+    let to = place_of(state, s.address, s.key);
+    copy_bytes(memory, to, staging, at, n);
+}
+
+// Gathers the first count entries, one after the other, into staging.
+fn gather(state: &[u8], memory: &[u8], sges: [Sge; 4], count: usize, staging: &mut [u8])
+    requires { ⌜ Ready (now state) (now memory) ⌝ }
+    requires { ⌜ (count ≤ 4) × (mappedAll (card (now state)) (sgeBytes (take count sges)) ≡ true) × (sgeTotal (take count sges) ≤ length (now staging)) ⌝ }
+    ensures { λ _. ⌜ take (sgeTotal (take count sges)) (now (staging .exit)) ≡ readBytes (now (memory .entry)) (places (card (now (state .entry))) (take count sges)) ⌝ }
+{
+    let mut i = 0;
+    let mut at = 0;
+    while i < count {
+        let s = sges[i];
+        copy_out(state, memory, s, staging, at);
+        at += s.length as usize;
+        i += 1;
+    }
+}
+
+// Scatters staging to the first count entries, one after the other.
+fn scatter(state: &[u8], memory: &mut [u8], sges: [Sge; 4], count: usize, staging: &[u8])
+    requires { ⌜ Ready (now state) (now memory) ⌝ }
+    requires { ⌜ (count ≤ 4) × (mappedAll (card (now state)) (sgeBytes (take count sges)) ≡ true) × (sgeTotal (take count sges) ≤ length (now staging)) ⌝ }
+    ensures { λ _. ⌜ now (memory .exit) ≡ stored (now (memory .entry)) (places (card (now (state .entry))) (take count sges)) (now (staging .entry)) ⌝ }
+{
+    let mut i = 0;
+    let mut at = 0;
+    while i < count {
+        let s = sges[i];
+        copy_in(state, memory, s, staging, at);
+        at += s.length as usize;
+        i += 1;
+    }
+}
+
+// Moves n bytes of memory to another place of it.
+fn deliver_one(memory: &mut [u8], from: usize, to: usize, n: usize)
+    requires { ⌜ (n ≤ mostMessage) × (from + n ≤ length (now memory)) × (to + n ≤ length (now memory)) ⌝ }
+    ensures { λ _. ⌜ now (memory .exit) ≡ paste (now (memory .entry)) to (drop from (now (memory .entry))) n ⌝ }
+{
+    let mut staging = [0u8; 4096];
+    copy_bytes(&mut staging, 0, memory, from, n);
+    copy_bytes(memory, to, &staging, 0, n);
+}
+
+// Moves one entry's bytes to one entry.
+fn transfer_one(state: &[u8], memory: &mut [u8], from: Sge, to: Sge)
+    requires { ⌜ Ready (now state) (now memory) ⌝ }
+    requires { ⌜ Single (card (now state)) from to ⌝ }
+    ensures { λ _. ⌜ now (memory .exit) ≡ moved (now (memory .entry)) (placesOf (card (now (state .entry))) from) (placesOf (card (now (state .entry))) to) ⌝ }
+{
+    let n = from.length as usize;
+    if n == 0 {
+        return;
+    }
+    let a = place_of(state, from.address, from.key);
+    let b = place_of(state, to.address, to.key);
+    deliver_one(memory, a, b, n);
+}
+
+// Moves the bytes of the first nf entries of from to the first nt entries of to.
+fn transfer_many(
+    state: &[u8],
+    memory: &mut [u8],
+    from: [Sge; 4],
+    nf: usize,
+    to: [Sge; 4],
+    nt: usize,
+)
+    requires { ⌜ Ready (now state) (now memory) ⌝ }
+    requires { ⌜ (nf ≤ 4) × (nt ≤ 4) × Message (card (now state)) (take nf from) (take nt to) ⌝ }
+    ensures { λ _. ⌜ now (memory .exit) ≡ moved (now (memory .entry)) (places (card (now (state .entry))) (take nf from)) (places (card (now (state .entry))) (take nt to)) ⌝ }
+{
+    let mut staging = [0u8; 4096];
+    gather(state, memory, from, nf, &mut staging);
+    scatter(state, memory, to, nt, &staging);
+}
+
+// The same; a message of one entry to one entry is one move.
+pub fn transfer(state: &[u8], memory: &mut [u8], from: [Sge; 4], nf: usize, to: [Sge; 4], nt: usize)
+    requires { ⌜ Ready (now state) (now memory) ⌝ }
+    requires { ⌜ (nf ≤ 4) × (nt ≤ 4) × Message (card (now state)) (take nf from) (take nt to) ⌝ }
+    ensures { λ _. ⌜ now (memory .exit) ≡ moved (now (memory .entry)) (places (card (now (state .entry))) (take nf from)) (places (card (now (state .entry))) (take nt to)) ⌝ }
+{
+    if (nf == 1) & (nt == 1) {
+        let s = from[0];
+        let t = to[0];
+        transfer_one(state, memory, s, t);
+        return;
+    }
+    transfer_many(state, memory, from, nf, to, nt);
+}
+
+// Writes inline bytes, which stand in the caller's record, to the first nt entries of to.
+pub fn scatter_inline(state: &[u8], memory: &mut [u8], bytes: &[u8], to: [Sge; 4], nt: usize)
+    requires { ⌜ Ready (now state) (now memory) ⌝ }
+    requires { ⌜ (nt ≤ 4) × (mappedAll (card (now state)) (sgeBytes (take nt to)) ≡ true) × (sgeTotal (take nt to) ≡ length (now bytes)) × (length (now bytes) ≤ mostInline) ⌝ }
+    ensures { λ _. ⌜ now (memory .exit) ≡ stored (now (memory .entry)) (places (card (now (state .entry))) (take nt to)) (now (bytes .entry)) ⌝ }
+{
+    let mut staging = [0u8; 4096];
+    let n = bytes.len();
+    copy_bytes(&mut staging, 0, bytes, 0, n);
+    scatter(state, memory, to, nt, &staging);
+}
