@@ -36,10 +36,10 @@ use Rattle.rules.specs.Queues.{flushChecks, flushPut, flushed}
 use Rattle.rules.specs.Send.{Put, room, putAll, oldest, consumeIf}
 use Rattle.rules.specs.declared.Answer.the-variants.{Done, Held, Refused}
 use Rattle.rules.specs.declared.Cause.the-variants.{Place}
-use Rattle.engine.specs.Bytes.{effectBytes, flushBytes}
-use Rattle.engine.specs.Owed.{Owes}
+use Rattle.rules.specs.Bytes.{effectBytes, flushBytes}
+use Rattle.rules.specs.Contract.{Owes}
 use Rattle.engine.specs.QueueFacts.{pair-live, pair-state, pair-rcq, waiting-none, room-is}
-use Rattle.engine.specs.Exported.{refused-owes, done-owes}
+use Rattle.rules.proofs.Exported.{refused-owes, done-owes}
 
 -- a row of a table that holds neither completions nor their queues stays when a completion is put
 pub push-other : {A : Type 0} (t : Table A) → T (elsewhere entryT t) → T (elsewhere cqT t) → (l : List ℕ) (n : ℕ) (e : Completion) (k : ℕ)

@@ -26,10 +26,10 @@ use Rattle.rules.specs.Calls.{owedChecks, checks, bufferChecks, statusOf, effec
 use Rattle.rules.specs.Lists.{isEmpty}
 use Rattle.rules.specs.Queues.{pollChecks, polled}
 use Rattle.rules.specs.declared.Answer.the-variants.{Done, Refused}
-use Rattle.engine.specs.Bytes.{effectBytes}
-use Rattle.engine.specs.Owed.{Owes}
+use Rattle.rules.specs.Bytes.{effectBytes}
+use Rattle.rules.specs.Contract.{Owes}
 use Rattle.engine.specs.QueueFacts.{unread-none}
-use Rattle.engine.specs.Exported.{refused-owes, done-owes}
+use Rattle.rules.proofs.Exported.{refused-owes, done-owes}
 
 module _ (l : List ℕ) (n : ℕ) (b : List ℕ) where
   abbrev k : Call

@@ -33,10 +33,10 @@ use Rattle.rules.specs.Touch.{receiveIn}
 use Rattle.rules.specs.declared.Answer.{Answer}
 use Rattle.rules.specs.declared.Answer.the-variants.{Done, Refused}
 use Rattle.rules.proofs.Tests.{firstOf, refusal-append}
-use Rattle.engine.specs.Bytes.{effectBytes}
-use Rattle.engine.specs.Owed.{Owes}
+use Rattle.rules.specs.Bytes.{effectBytes}
+use Rattle.rules.specs.Contract.{Owes}
 use Rattle.engine.specs.QueueFacts.{pair-live, pair-state, waiting-count}
-use Rattle.engine.specs.Exported.{refused-owes, done-owes}
+use Rattle.rules.proofs.Exported.{refused-owes, done-owes}
 
 -- ---- what reading the record gave
 

@@ -16,9 +16,9 @@ use Rattle.tables.specs.Reset.{resetBytes, reset-card, reset-accepted}
 use Rattle.rules.specs.Call.{Call}
 use Rattle.rules.specs.Calls.{owedChecks, checks, resetChecks, statusOf, effect, memoryAfter, bufferAfter}
 use Rattle.rules.specs.declared.Answer.the-variants.{Done, Refused}
-use Rattle.engine.specs.Bytes.{effectBytes}
-use Rattle.engine.specs.Owed.{Owes}
-use Rattle.engine.specs.Exported.{refused-owes, done-owes}
+use Rattle.rules.specs.Bytes.{effectBytes}
+use Rattle.rules.specs.Contract.{Owes}
+use Rattle.rules.proofs.Exported.{refused-owes, done-owes}
 
 module _ (l : List ℕ) (n : ℕ) where
   abbrev k : Call

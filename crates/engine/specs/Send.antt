@@ -30,7 +30,7 @@ use Rattle.rules.specs.Lists.{stored}
 use Rattle.rules.proofs.Runs.{cut}
 use Rattle.dma.specs.Grants.{allowsAll, mappedAll, places}
 use Rattle.dma.specs.Places.{moved}
-use Rattle.engine.specs.Bytes.{pushAll, errorBytes, consumeBytes, sendBytes}
+use Rattle.rules.specs.Bytes.{pushAll, errorBytes, consumeBytes, sendBytes}
 use Rattle.engine.specs.declared.meet.Ends.{Ends}
 use Rattle.engine.specs.declared.meet.Meeting.{Meeting}
 use Rattle.engine.specs.declared.meet.Meeting.the-variants.{Pairs, Stopped}

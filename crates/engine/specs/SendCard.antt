@@ -27,7 +27,7 @@ use Rattle.tables.specs.WaitingLaws.{pair-sound, waiting-is, take-card, take-ac
 use Rattle.tables.specs.declared.QueuePair.{QueuePair}
 use Rattle.rules.specs.Lists.{isEmpty}
 use Rattle.rules.specs.Send.{Put, pushed, putAll, inError, errorIf, consumeIf}
-use Rattle.engine.specs.Bytes.{pushAll, erring, errorBytes, consumeBytes}
+use Rattle.rules.specs.Bytes.{pushAll, erring, errorBytes, consumeBytes}
 
 -- the bytes l are accepted and mean the card c
 pub record Stands (l : List ℕ) (c : Card) : Type 0 where

@@ -33,8 +33,8 @@ use Rattle.rules.specs.Send.{peerOf, takenBy, deliveryChecks, sendStatus, consu
 use Rattle.rules.specs.Touch.{Request, requestOf, takes}
 use Rattle.rules.proofs.Meeting.{refused-meets, done-meets}
 use Rattle.rules.proofs.Tests.{firstOf, refusal-append}
-use Rattle.engine.specs.Bytes.{pushAll, errorBytes, consumeBytes, sendBytes, effectBytes}
-use Rattle.engine.specs.Owed.{Owes}
+use Rattle.rules.specs.Bytes.{pushAll, errorBytes, consumeBytes, sendBytes, effectBytes}
+use Rattle.rules.specs.Contract.{Owes}
 use Rattle.engine.specs.SendCard.{Stands, CanAll, Open, opened, push-all, row-live, some-wait, error-stands, consume-stands, error-keeps, consume-keeps}
 use Rattle.engine.specs.SendLimits.{Going, going, sender-can, can-all}
 

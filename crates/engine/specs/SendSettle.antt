@@ -15,7 +15,7 @@ use Rattle.tables.specs.declared.SendRecord.{SendRecord}
 use Rattle.tables.specs.declared.Sge.{Sge}
 use Rattle.rules.specs.Send.{consumes}
 use Rattle.rules.specs.Touch.{sgeTotal}
-use Rattle.engine.specs.Bytes.{pushAll}
+use Rattle.rules.specs.Bytes.{pushAll}
 use Rattle.engine.specs.Send.{senderEntry, receiverEntry, receiverStatus, putFirst, putSecond}
 use Rattle.engine.specs.declared.meet.Ends.{Ends}
 

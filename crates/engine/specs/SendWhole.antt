@@ -23,7 +23,7 @@ use Rattle.tables.specs.declared.ReceiveRecord.{ReceiveRecord}
 use Rattle.tables.specs.declared.SendRecord.{SendRecord}
 use Rattle.rules.specs.Send.{Put, deliveryChecks, sendStatus, consumes, sendPuts, senderPut, receiverPut, putAll, pushed}
 use Rattle.rules.specs.Touch.{Request, requestOf, takes, total}
-use Rattle.engine.specs.Bytes.{pushAll, errorBytes, sendBytes}
+use Rattle.rules.specs.Bytes.{pushAll, errorBytes, sendBytes}
 use Rattle.engine.specs.Send.{bare, endsAt, takenRow, senderEntry, receiverEntry, putFirst, putSecond, putBytes, failedBytes, settled, Settling}
 use Rattle.engine.specs.SendCard.{Stands, CanAll, Open, opened, push-all}
 use Rattle.engine.specs.SendDone.{can-put, send-open, waits-then, send-fits}

@@ -1,10 +1,9 @@
 // The engine: the card's calls, each also for a caller in C.
+use commands::control;
 ghost use mathlib.Core.List.{[]};
 ghost use Rattle.rules.specs.Call.{Call};
-ghost use Rattle.engine.specs.Owed.{Exports};
+ghost use Rattle.rules.specs.Contract.{Exports};
 
-pub mod control;
-pub mod control_qp;
 pub mod deliver;
 pub mod meet;
 pub mod queues;

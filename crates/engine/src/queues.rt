@@ -26,7 +26,7 @@ ghost use lib.ListN.{length};
 ghost use Rattle.tables.specs.Accept.{accepts};
 ghost use Rattle.tables.specs.Layout.{image};
 ghost use Rattle.rules.specs.Call.{Call};
-ghost use Rattle.engine.specs.Owed.{Owes};
+ghost use Rattle.rules.specs.Contract.{Owes};
 ghost use Rattle.engine.specs.ReceiveLaws.{Joins};
 
 // ---- reset

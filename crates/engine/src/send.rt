@@ -15,7 +15,7 @@ use tables::records;
 ghost use mathlib.Core.List.{[]};
 ghost use Rattle.rules.specs.Call.{Call};
 ghost use Rattle.rules.specs.Touch.{requestOf};
-ghost use Rattle.engine.specs.Owed.{Owes};
+ghost use Rattle.rules.specs.Contract.{Owes};
 ghost use Rattle.engine.specs.SendDone.{Ran};
 ghost use Rattle.dma.specs.Places.{Ready};
 ghost use Rattle.engine.specs.Send.{Posted, Met, Carried};

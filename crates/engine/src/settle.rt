@@ -33,7 +33,7 @@ ghost use Rattle.tables.specs.Layout.{image, cqT, waitingT};
 ghost use Rattle.tables.specs.Limits.{cqCount, qpCount, mostPlaces};
 ghost use Rattle.tables.specs.Records.{receiveSges};
 ghost use Rattle.rules.specs.Send.{senderOpcode, receiverOpcode, consumes};
-ghost use Rattle.engine.specs.Bytes.{pushAll, errorBytes, consumeBytes};
+ghost use Rattle.rules.specs.Bytes.{pushAll, errorBytes, consumeBytes};
 ghost use Rattle.engine.specs.Send.{receiverStatus, putFirst, putSecond, settled, Settling};
 
 // x where b holds, else y.

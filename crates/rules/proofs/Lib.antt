@@ -9,3 +9,4 @@ pub mod Dropped
 pub mod Pinned
 pub mod Runs
 pub mod Meeting
+pub mod Exported

@@ -9,4 +9,5 @@ pub mod Call
 pub mod Calls
 pub mod Marks
 pub mod Dropped
+pub mod Bytes
 pub mod Contract

@@ -17,7 +17,7 @@ use Rattle.rules.specs.Calls.{Result, owed}
 use Rattle.rules.specs.Control.{commandAck}
 use Rattle.rules.specs.declared.Answer.{Answer}
 use Rattle.rules.specs.declared.Answer.the-variants.{Done, Held, Refused}
-use Rattle.engine.specs.Owed.{bytesAfter}
+use Rattle.rules.specs.Contract.{bytesAfter}
 use Rattle.tape.specs.declared.Header.{Header}
 use Rattle.tape.specs.declared.Header.the-variants.{Record, Bad, Cut}
 

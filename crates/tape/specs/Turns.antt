@@ -21,7 +21,7 @@ use Rattle.rules.specs.Calls.{Result, owed}
 use Rattle.rules.specs.Control.{commandAck}
 use Rattle.rules.specs.declared.Answer.{Answer}
 use Rattle.rules.specs.declared.Answer.the-variants.{Done, Held, Refused}
-use Rattle.engine.specs.Owed.{bytesAfter}
+use Rattle.rules.specs.Contract.{bytesAfter}
 use Rattle.tape.specs.declared.Header.{Header}
 use Rattle.tape.specs.declared.Header.the-variants.{Record, Bad, Cut}
 use Rattle.tape.specs.Tape.{isMark, isKind, isGood, isLength, ackWritten, writtenBy, answerHead, answerRecord, headerOf, callOf, memoryLeft, answerTo, Answers, badRecord, playBy, play}

@@ -29,8 +29,8 @@ use Rattle.rules.specs.Control.{commandAck, commandChecks}
 use Rattle.rules.specs.declared.Answer.{Answer}
 use Rattle.rules.proofs.Answers.{answered-not-done}
 use Rattle.rules.proofs.Tests.{passed-before}
-use Rattle.engine.specs.Bytes.{effectBytes}
-use Rattle.engine.specs.Owed.{Owes, bytesAfter}
+use Rattle.rules.specs.Bytes.{effectBytes}
+use Rattle.rules.specs.Contract.{Owes, bytesAfter}
 use Rattle.tape.specs.Tape.{answerHead, answerRecord, answerTo, writtenBy, placed, Answers, completionSize, callOf, tapeMemory}
 
 -- the head, then the first n of the bytes behind it

@@ -1,10 +1,10 @@
-use Rattle.engine.specs.Exported.{exported}
+use Rattle.rules.proofs.Exported.{exported}
 use borrow.Author.Needs.{needs}
 use Rattle.engine.proofs.lesungkap_control.Statement.{statement}
 use Rattle.engine.proofs.lesungkap_control.Tie as tie
 use Rattle.engine.proofs.lesungkap_control.Reads as reads
 use Rattle.engine.proofs.lesungkap_control.Lts as lts
-use Rattle.engine.proofs.control.control.Reads as control-reads
+use Rattle.commands.proofs.control.control.Reads as control-reads
 use Rattle.rules.proofs.code.Reads as code-reads
 
 control-requires : tie.Need-control-requires

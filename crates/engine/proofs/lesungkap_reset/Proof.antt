@@ -1,4 +1,4 @@
-use Rattle.engine.specs.Exported.{exported}
+use Rattle.rules.proofs.Exported.{exported}
 use borrow.Author.Needs.{needs}
 use Rattle.engine.proofs.lesungkap_reset.Statement.{statement}
 use Rattle.engine.proofs.lesungkap_reset.Tie as tie

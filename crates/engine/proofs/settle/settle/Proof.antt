@@ -3,7 +3,7 @@ use mathlib.Core.List.{List}
 use Prim.Native.Nat.{ℕ}
 use lib.Dec.{eqb}
 use Rattle.rules.specs.Send.{consumes}
-use Rattle.engine.specs.Bytes.{pushAll, errorBytes, consumeBytes}
+use Rattle.rules.specs.Bytes.{pushAll, errorBytes, consumeBytes}
 use Rattle.engine.specs.Send.{putSecond}
 use mathlib.Core.Path.{sym, ap, _∙_}
 use borrow.Author.Needs.{needs}

@@ -1,0 +1,51 @@
+use denote.Ref.{now}
+use Rattle.tables.specs.Records.{Command}
+use Rattle.commands.specs.ControlLaws.{bare-wrong, bare-right, create-pd-full, create-pd-done}
+use borrow.Author.Needs.{needs}
+use Rattle.commands.proofs.control.create_pd.Statement.{statement}
+use Rattle.commands.proofs.control.create_pd.Tie as tie
+use Rattle.commands.proofs.control.create_pd.Reads as reads
+use Rattle.commands.proofs.control.create_pd.Lts as lts
+use Rattle.tables.proofs.find.free_pdn.Reads as free-pdn-reads
+use Rattle.tables.proofs.image.store_pd.Reads as store-pd-reads
+
+returns : tie.Need-returns
+returns c = bare-wrong (now (c .before .before .before .args .state)) (now (c .before .before .before .args .command)) Command.createPd (c .if1 .taken)
+
+free-pdn-requires : tie.Need-free-pdn-requires
+free-pdn-requires c κs = search needs
+
+same-length : tie.Need-same-length
+same-length c = search needs
+
+returns-2 : tie.Need-returns-2
+returns-2 c =
+    rw (bare-right (now (c .before .before .before .before .before .before .args .state)) (now (c .before .before .before .before .before .before .args .command)) Command.createPd (c .before .before .before .if1 .left))
+    (create-pd-full _ (c .before .free-pdn .result) (c .before .free-pdn .ensures) (c .if2 .taken))
+
+store-pd-requires : tie.Need-store-pd-requires
+store-pd-requires c κs = search needs
+
+cast-t11 : tie.Need-cast-t11
+cast-t11 c = search needs
+
+same-length-2 : tie.Need-same-length-2
+same-length-2 c = search needs
+
+returns-3 : tie.Need-returns-3
+returns-3 c =
+    rw (bare-right (now (c .before .before .before .before .before .before .before .before .before .before .args .state)) (now (c .before .before .before .before .before .before .before .before .before .before .args .command)) Command.createPd (c .before .before .before .before .before .before .before .if1 .left))
+    (create-pd-done _ (c .before .before .before .before .before .free-pdn .result) (c .before .before .before .before .before .free-pdn .ensures) (c .before .before .before .before .if2 .left) _ (c .before .before .store-pd .ensures))
+
+pub create-pd-spec : {M : Type 1} → statement M
+create-pd-spec =
+    tie.close
+    (tie.spec
+    returns
+    free-pdn-requires
+    same-length
+    returns-2
+    store-pd-requires
+    cast-t11
+    same-length-2
+    returns-3)

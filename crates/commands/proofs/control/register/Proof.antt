@@ -1,0 +1,121 @@
+use borrow.Author.Tests.{not-true, not-false}
+use mathlib.Core.Path.{_≡_, refl, sym, ap, _∙_}
+use Rattle.commands.specs.ControlLaws.{register-access, register-dead, register-range, register-full, register-done}
+use borrow.Author.Needs.{needs}
+use Rattle.commands.proofs.control.register.Statement.{statement}
+use Rattle.commands.proofs.control.register.Tie as tie
+use Rattle.commands.proofs.control.register.Reads as reads
+use Rattle.commands.proofs.control.register.Lts as lts
+use Rattle.commands.proofs.control.in_range.Reads as in-range-reads
+use Rattle.commands.proofs.control.known_access.Reads as known-access-reads
+use Rattle.commands.proofs.control.put_region.Reads as put-region-reads
+use Rattle.tables.proofs.accept.pd_live.Reads as pd-live-reads
+use Rattle.tables.proofs.find.free_mrn.Reads as free-mrn-reads
+use Rattle.tables.proofs.image.load_memory.Reads as load-memory-reads
+
+enum-known-read : tie.Need-enum-known-read
+enum-known-read c = search needs
+
+enum-told : tie.Need-enum-told
+enum-told c = search needs
+
+returns : tie.Need-returns
+returns c = search needs
+
+known-access-requires : tie.Need-known-access-requires
+known-access-requires c κs = search needs
+
+returns-2 : tie.Need-returns-2
+returns-2 c =
+    rw (c .before .before .before .read .given .1)
+    (register-access _ _ (sym (c .before .known-access .ensures) ∙ not-true _ (c .if1 .taken)))
+
+pd-live-requires : tie.Need-pd-live-requires
+pd-live-requires c κs = search needs
+
+same-length : tie.Need-same-length
+same-length c = search needs
+
+returns-3 : tie.Need-returns-3
+returns-3 c =
+    rw (c .before .before .before .before .before .before .read .given .1)
+    (register-dead _ _ (sym (c .before .before .before .before .known-access .ensures) ∙ not-false _ (c .before .before .before .if1 .left)) (sym (c .before .pd-live .ensures) ∙ not-true _ (c .if2 .taken)))
+
+load-memory-requires : tie.Need-load-memory-requires
+load-memory-requires c κs = search needs
+
+in-range-requires : tie.Need-in-range-requires
+in-range-requires c κs = search needs
+
+same-length-2 : tie.Need-same-length-2
+same-length-2 c = search needs
+
+returns-4 : tie.Need-returns-4
+returns-4 c =
+    rw (c .before .before .before .before .before .before .before .before .before .before .read .given .1)
+    (register-range _ _ (sym (c .before .before .before .before .before .before .before .before .known-access .ensures) ∙ not-false _ (c .before .before .before .before .before .before .before .if1 .left)) (sym (c .before .before .before .before .before .pd-live .ensures) ∙ not-false _ (c .before .before .before .before .if2 .left)) (rw (← (c .before .before .load-memory .ensures)) (sym (c .before .in-range .ensures) ∙ not-true _ (c .if3 .taken))))
+
+free-mrn-requires : tie.Need-free-mrn-requires
+free-mrn-requires c κs = search needs
+
+same-length-3 : tie.Need-same-length-3
+same-length-3 c = search needs
+
+returns-5 : tie.Need-returns-5
+returns-5 c =
+    rw (c .before .before .before .before .before .before .before .before .before .before .before .before .before .read .given .1)
+    (register-full _ _ (sym (c .before .before .before .before .before .before .before .before .before .before .before .known-access .ensures) ∙ not-false _ (c .before .before .before .before .before .before .before .before .before .before .if1 .left)) (sym (c .before .before .before .before .before .before .before .before .pd-live .ensures) ∙ not-false _ (c .before .before .before .before .before .before .before .if2 .left)) (rw (← (c .before .before .before .before .before .load-memory .ensures)) (sym (c .before .before .before .before .in-range .ensures) ∙ not-false _ (c .before .before .before .if3 .left))) (c .before .free-mrn .result) (c .before .free-mrn .ensures) (c .if4 .taken))
+
+put-region-requires : tie.Need-put-region-requires
+put-region-requires c κs = search needs
+
+cast-t17 : tie.Need-cast-t17
+cast-t17 c = search needs
+
+cast-t18 : tie.Need-cast-t18
+cast-t18 c = search needs
+
+mul-t19 : tie.Need-mul-t19
+mul-t19 c = search needs
+
+cast-t20 : tie.Need-cast-t20
+cast-t20 c = search needs
+
+add-t21 : tie.Need-add-t21
+add-t21 c = search needs
+
+same-length-4 : tie.Need-same-length-4
+same-length-4 c = search needs
+
+returns-6 : tie.Need-returns-6
+returns-6 c =
+    rw (c .before .before .before .before .before .before .before .before .before .before .before .before .before .before .before .before .before .read .given .1)
+    (register-done _ _ (sym (c .before .before .before .before .before .before .before .before .before .before .before .before .before .before .before .known-access .ensures) ∙ not-false _ (c .before .before .before .before .before .before .before .before .before .before .before .before .before .before .if1 .left)) (sym (c .before .before .before .before .before .before .before .before .before .before .before .before .pd-live .ensures) ∙ not-false _ (c .before .before .before .before .before .before .before .before .before .before .before .if2 .left)) (rw (← (c .before .before .before .before .before .before .before .before .before .load-memory .ensures)) (sym (c .before .before .before .before .before .before .before .before .in-range .ensures) ∙ not-false _ (c .before .before .before .before .before .before .before .if3 .left))) (c .before .before .before .before .before .free-mrn .result) (c .before .before .before .before .before .free-mrn .ensures) (c .before .before .before .before .if4 .left) (c .before .before .put-region .result) (c .before .before .put-region .ensures .0) _ (c .before .before .put-region .ensures .1))
+
+pub register-spec : {M : Type 1} → statement M
+register-spec =
+    tie.close
+    (tie.spec
+    enum-known-read
+    enum-told
+    returns
+    known-access-requires
+    returns-2
+    pd-live-requires
+    same-length
+    returns-3
+    load-memory-requires
+    in-range-requires
+    same-length-2
+    returns-4
+    free-mrn-requires
+    same-length-3
+    returns-5
+    put-region-requires
+    cast-t17
+    cast-t18
+    mul-t19
+    cast-t20
+    add-t21
+    same-length-4
+    returns-6)

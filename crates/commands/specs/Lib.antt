@@ -1,0 +1,5 @@
+pub mod Control
+pub mod ControlLaws
+pub mod ControlEffect
+pub mod ControlPairs
+pub mod ControlCall

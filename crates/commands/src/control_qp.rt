@@ -1,0 +1,218 @@
+// Control commands of queue pairs: document 01, "Control commands". Definitions: specs/Control.antt.
+use crate::control::Outcome;
+use tables::Ack;
+use tables::CreateQp;
+use tables::CreateQpRead;
+use tables::ModifyQp;
+use tables::ModifyQpRead;
+use tables::NumberRead;
+use tables::QueuePair;
+use tables::WaitingHead;
+use tables::accept;
+use tables::find;
+use tables::image;
+use tables::limits::ERROR;
+use tables::limits::QP_COUNT;
+use tables::limits::RESET;
+use tables::limits::RTR;
+use tables::limits::RTS;
+ghost use mathlib.Core.Path.{_≡_};
+ghost use mathlib.Core.Bool.{true};
+ghost use Prim.Native.Nat.{_<_};
+ghost use lib.ListN.{length};
+ghost use Rattle.wire.specs.Table.{rowAt, putRow};
+ghost use Rattle.tables.specs.Accept.{accepts};
+ghost use Rattle.tables.specs.Image.{card};
+ghost use Rattle.tables.specs.Layout.{image, qpT, waitingT};
+ghost use Rattle.tables.specs.Limits.{qpCount};
+ghost use Rattle.tables.specs.Records.{Command};
+ghost use Rattle.rules.specs.Control.{isMove};
+ghost use Rattle.rules.specs.Bytes.{newPair, noneWait, movedPair, movedHead};
+ghost use Rattle.commands.specs.Control.{Ran, numbered, creating, modifying, createFine, createLive, modifyBad, lowPair};
+
+// The attribute mask of modify QP: the state, and the destination.
+const STATE_BIT: u32 = 1;
+
+const DEST_BIT: u32 = 32768;
+
+const RC: u8 = 2;
+
+const NO_DEST: u8 = 8;
+
+fn create_fine(r: CreateQp) -> bool
+    ensures { λ x. ⌜ x ≡ createFine r ⌝ }
+{
+    (r.kind == RC) & (r.signal <= 1)
+}
+
+// Whether the objects that a new queue pair names are live.
+fn create_live(state: &[u8], r: CreateQp) -> bool
+    requires { ⌜ length (now state) ≡ image ⌝ }
+    ensures { λ x. ⌜ x ≡ createLive (card (now (state .entry))) r ⌝ }
+{
+    let pd = accept::pd_live(state, r.pd);
+    let scq = accept::cq_live(state, r.scq);
+    let rcq = accept::cq_live(state, r.rcq);
+    pd & scq & rcq
+}
+
+fn new_pair(r: CreateQp) -> QueuePair
+    ensures { λ p. ⌜ p ≡ newPair (lowPair r) ⌝ }
+{
+    QueuePair {
+        live: 1,
+        pd: (r.pd % 256) as u8,
+        signal: r.signal,
+        scq: (r.scq % 256) as u8,
+        rcq: (r.rcq % 256) as u8,
+        state: RESET,
+        dest: NO_DEST,
+    }
+}
+
+// Number n is a new queue pair, on which no receive waits.
+fn put_pair(state: &mut [u8], n: usize, r: CreateQp)
+    requires { ⌜ (n < qpCount) × (length (now state) ≡ image) ⌝ }
+    ensures { λ _. ⌜ now (state .exit) ≡ putRow qpT (putRow waitingT (now (state .entry)) n noneWait) n (newPair (lowPair r)) ⌝ }
+{
+    let head = WaitingHead { first: 0, count: 0 };
+    image::store_waiting(state, n, head);
+    image::store_qp(state, n, new_pair(r));
+}
+
+pub fn create_qp(state: &mut [u8], read: CreateQpRead) -> Outcome
+    requires { ⌜ (accepts (now state) ≡ true) × (length (now state) ≡ image) ⌝ }
+    ensures { λ r. ⌜ Ran (now (state .entry)) (creating read) r (now (state .exit)) ⌝ }
+{
+    let CreateQpRead::Value(r) = read else {
+        return Outcome::Refused(1);
+    };
+    if !create_fine(r) {
+        return Outcome::Refused(4);
+    }
+    if !create_live(state, r) {
+        return Outcome::Refused(2);
+    }
+    let n = find::free_qpn(state);
+    if QP_COUNT <= n {
+        return Outcome::Refused(8);
+    }
+    put_pair(state, n, r);
+    Outcome::Done(Ack::Number(n as u32))
+}
+
+// The tests of answer 4.
+fn modify_bad(r: ModifyQp) -> bool
+    ensures { λ x. ⌜ x ≡ modifyBad r ⌝ }
+{
+    let unknown = r.mask & (STATE_BIT + DEST_BIT) != r.mask;
+    let state_bit = r.mask & STATE_BIT != 0;
+    let dest_bit = r.mask & DEST_BIT != 0;
+    let state = accept::is_state(r.state);
+    let padding = (r.pad0 == 0) & (r.pad1 == 0) & (r.pad2 == 0);
+    let ready = r.state == RTR;
+    let number = r.dest as usize;
+    let dest = (QP_COUNT <= number) | (r.dest == r.qpn);
+    let fields = unknown | !state_bit | !state | !padding;
+    fields | (dest_bit & !ready) | (!dest_bit & ready) | (dest_bit & dest)
+}
+
+fn is_move(from: u8, to: u8) -> bool
+    ensures { λ r. ⌜ r ≡ isMove from to ⌝ }
+{
+    let next = from as u32 + 1;
+    (to == RESET) | (to == ERROR) | ((to as u32 == next) & (to <= RTS))
+}
+
+// Whether queue pair n is live.
+fn qp_live(state: &[u8], n: u32) -> bool
+    requires { ⌜ length (now state) ≡ image ⌝ }
+    ensures { λ r. ⌜ r ≡ card (now (state .entry)) .qp n .live ⌝ }
+{
+    let i = n as usize;
+    if i < QP_COUNT {
+        return image::load_qp(state, i).live == 1;
+    }
+    false
+}
+
+fn moved_pair(p: QueuePair, to: u8, dest: u8) -> QueuePair
+    ensures { λ r. ⌜ r ≡ movedPair p to dest ⌝ }
+{
+    let mut r = p;
+    r.state = to;
+    if to == RESET {
+        r.dest = NO_DEST;
+        return r;
+    }
+    if to == RTR {
+        r.dest = dest;
+    }
+    r
+}
+
+fn moved_head(h: WaitingHead, to: u8) -> WaitingHead
+    ensures { λ r. ⌜ r ≡ movedHead h to ⌝ }
+{
+    let mut r = h;
+    if to == RESET {
+        r.count = 0;
+    }
+    r
+}
+
+// Queue pair n in the state that it moves to; a move to 0 drops its receives and its destination.
+fn move_pair(state: &mut [u8], n: usize, to: u8, dest: u8)
+    requires { ⌜ (n < qpCount) × (length (now state) ≡ image) ⌝ }
+    ensures { λ _. ⌜ now (state .exit) ≡ putRow waitingT (putRow qpT (now (state .entry)) n (movedPair (rowAt qpT (now (state .entry)) n) to dest)) n (movedHead (rowAt waitingT (now (state .entry)) n) to) ⌝ }
+{
+    let p = image::load_qp(state, n);
+    let h = image::load_waiting(state, n);
+    image::store_qp(state, n, moved_pair(p, to, dest));
+    image::store_waiting(state, n, moved_head(h, to));
+}
+
+pub fn modify_qp(state: &mut [u8], read: ModifyQpRead) -> Outcome
+    requires { ⌜ (accepts (now state) ≡ true) × (length (now state) ≡ image) ⌝ }
+    ensures { λ r. ⌜ Ran (now (state .entry)) (modifying read) r (now (state .exit)) ⌝ }
+{
+    let ModifyQpRead::Value(r) = read else {
+        return Outcome::Refused(1);
+    };
+    if modify_bad(r) {
+        return Outcome::Refused(4);
+    }
+    if !qp_live(state, r.qpn) {
+        return Outcome::Refused(2);
+    }
+    let n = r.qpn as usize;
+    let p = image::load_qp(state, n);
+    if !is_move(p.state, r.state) {
+        return Outcome::Refused(3);
+    }
+    move_pair(state, n, r.state, (r.dest % 256) as u8);
+    Outcome::Done(Ack::Done)
+}
+
+pub fn destroy_qp(state: &mut [u8], read: NumberRead) -> Outcome
+    requires { ⌜ (accepts (now state) ≡ true) × (length (now state) ≡ image) ⌝ }
+    ensures { λ r. ⌜ Ran (now (state .entry)) (numbered Command.destroyQp read) r (now (state .exit)) ⌝ }
+{
+    let NumberRead::Value(n) = read else {
+        return Outcome::Refused(1);
+    };
+    if !qp_live(state, n) {
+        return Outcome::Refused(2);
+    }
+    let none = QueuePair {
+        live: 0,
+        pd: 0,
+        signal: 0,
+        scq: 0,
+        rcq: 0,
+        state: RESET,
+        dest: 0,
+    };
+    image::store_qp(state, n as usize, none);
+    Outcome::Done(Ack::Done)
+}

@@ -1,0 +1,114 @@
+-- The state's bytes after each call that passes its tests: which rows are stored, with what, in which order. Assumes nothing.
+use mathlib.Core.Bool.{Bool, cond, not}
+use mathlib.Core.List.{List, [], _∷_}
+use Prim.Native.Nat.{ℕ}
+use lib.Dec.{eqb}
+use Rattle.wire.specs.Table.{rowAt, putRow}
+use Rattle.tables.specs.Image.{card}
+use Rattle.tables.specs.Layout.{pdT, mrLiveT, mrT, cqT, qpT, waitingT}
+use Rattle.tables.specs.Limits.{qpCount}
+use Rattle.tables.specs.Queue.{pushBytes, popBytes, postBytes, takeBytes}
+use Rattle.tables.specs.Records.{Command, commandOf, receiveCodec}
+use Rattle.tables.specs.Reset.{resetBytes}
+use Rattle.tables.specs.Search.{freePdn, freeCqn, freeMrn, freeQpn}
+use Rattle.tables.specs.declared.CreateQp.{CreateQp}
+use Rattle.tables.specs.declared.QueueHead.{QueueHead}
+use Rattle.tables.specs.declared.QueuePair.{QueuePair}
+use Rattle.tables.specs.declared.Region.{Region}
+use Rattle.tables.specs.declared.Registration.{Registration}
+use Rattle.tables.specs.declared.WaitingHead.{WaitingHead}
+use Rattle.rules.specs.Call.{Call}
+use Rattle.rules.specs.Control.{newVariant}
+use Rattle.rules.specs.Queues.{flushPut}
+use Rattle.rules.specs.Send.{Put, peerOf, sendStatus, sendPuts, consumes}
+use Rattle.rules.specs.Touch.{Request, requestOf}
+
+-- ---- rows
+
+-- a completion queue with no completion; 0 places: not live
+abbrev pub emptyQueue : ℕ → QueueHead
+emptyQueue places = record { places = places; first = 0; count = 0 }
+
+abbrev pub regionRow : Registration → ℕ → Region
+regionRow g v = record { access = g .access; variant = v; pd = g .pd; start = g .start; length = g .length; virt = g .virt }
+
+-- a new queue pair, in state 0 and with no destination
+abbrev pub newPair : CreateQp → QueuePair
+newPair r = record { live = 1; pd = r .pd; signal = r .signal; scq = r .scq; rcq = r .rcq; state = 0; dest = qpCount }
+
+abbrev pub noPair : QueuePair
+noPair = record { live = 0; pd = 0; signal = 0; scq = 0; rcq = 0; state = 0; dest = 0 }
+
+abbrev pub noneWait : WaitingHead
+noneWait = record { first = 0; count = 0 }
+
+-- a queue pair after a move to the state t, which names the destination d where it is 2
+abbrev pub movedPair : QueuePair → (t d : ℕ) → QueuePair
+movedPair p t d =
+    record {
+      live = p .live;
+      pd = p .pd;
+      signal = p .signal;
+      scq = p .scq;
+      rcq = p .rcq;
+      state = t;
+      dest = cond (eqb t 0) qpCount (cond (eqb t 2) d (p .dest));
+    }
+
+-- its receives are dropped by a move to 0
+abbrev pub movedHead : WaitingHead → (t : ℕ) → WaitingHead
+movedHead h t = record { first = h .first; count = cond (eqb t 0) 0 (h .count) }
+
+-- ---- control commands
+
+unfoldable pub commandBytes : List ℕ → Command → List ℕ
+commandBytes l (Command.createCq n) = putRow cqT l (freeCqn (card l)) (emptyQueue n)
+commandBytes l (Command.destroyCq n) = putRow cqT l n (emptyQueue 0)
+commandBytes l Command.createPd = putRow pdT l (freePdn (card l)) 1
+commandBytes l (Command.destroyPd n) = putRow pdT l n 0
+commandBytes l (Command.register g) =
+    let n = freeMrn (card l) in putRow mrLiveT (putRow mrT l n (regionRow g (newVariant (card l)))) n 1
+commandBytes l (Command.deregister n) = putRow mrLiveT l n 0
+commandBytes l (Command.createQp r) = let n = freeQpn (card l) in putRow qpT (putRow waitingT l n noneWait) n (newPair r)
+commandBytes l (Command.modifyQp r) =
+    let q = r .qpn in
+    putRow waitingT (putRow qpT l q (movedPair (rowAt qpT l q) (r .state) (r .dest))) q (movedHead (rowAt waitingT l q) (r .state))
+commandBytes l (Command.destroyQp q) = putRow qpT l q noPair
+
+-- ---- post send
+
+unfoldable pub pushAll : List ℕ → List Put → List ℕ
+pushAll l [] = l
+pushAll l (p ∷ ps) = pushAll (pushBytes l (p .cqn) (p .entry)) ps
+
+-- the queue pair q in error, where b holds
+abbrev pub erring : QueuePair → QueuePair
+erring p = record { live = p .live; pd = p .pd; signal = p .signal; scq = p .scq; rcq = p .rcq; state = 6; dest = p .dest }
+
+abbrev pub errorBytes : Bool → List ℕ → (q : ℕ) → List ℕ
+errorBytes b l q = cond b (putRow qpT l q (erring (rowAt qpT l q))) l
+
+abbrev pub consumeBytes : Bool → List ℕ → (q : ℕ) → List ℕ
+consumeBytes b l q = cond b (takeBytes l q) l
+
+-- the completions, then the sender's error, the receive that is consumed, and the peer's error
+unfoldable pub sendBytes : List ℕ → (q : ℕ) → Request → List ℕ
+sendBytes l q r =
+    let s = sendStatus (card l) q r in
+    let d = peerOf (card l) q in
+    errorBytes (eqb s 7) (consumeBytes (consumes (r .opcode) s) (errorBytes (not (eqb s 0)) (pushAll l (sendPuts (card l) q r s)) q) d) d
+
+-- ---- flush
+
+unfoldable pub flushBytes : List ℕ → (q : ℕ) → List ℕ
+flushBytes l q = takeBytes (pushBytes l (flushPut (card l) q .cqn) (flushPut (card l) q .entry)) q
+
+-- ---- each call
+
+unfoldable pub effectBytes : List ℕ → Call → List ℕ
+effectBytes l (Call.reset n) = resetBytes n
+effectBytes l (Call.control k a) = commandBytes l (commandOf k)
+effectBytes l (Call.send q x m) = sendBytes l q (requestOf x)
+effectBytes l (Call.receive q x) = postBytes l q (receiveCodec .read x 0)
+effectBytes l (Call.flush q) = flushBytes l q
+effectBytes l (Call.poll n b) = popBytes l n
