@@ -4,10 +4,9 @@ use mathlib.Core.Bool.{true}
 use mathlib.Core.List.{List, [], _∷_, _++_, append-assoc, append-nil}
 use Prim.Native.Nat.{ℕ, _+_, _-_, _≤_, _<_}
 use native.Mathlib.Nat.{add-zero, zero-add}
-use native.Mathlib.Numerals.{add-one}
 use native.Mathlib.Omega.{arith}
-use lib.ListN.{length, getD, set, take, drop, length-drop}
-use lib.Seq.{paste, paste-suc, getD-drop, drop-drop, take-paste, take-length, take-take, length-take-le}
+use lib.ListN.{length, getD, take, drop, length-drop}
+use lib.Seq.{paste, drop-drop, take-paste, take-length, take-take, length-take-le}
 use Rattle.wire.specs.Scan.{and-left, and-right}
 use Rattle.tables.specs.Card.{Card}
 use Rattle.tables.specs.Limits.{mostMessage}
@@ -22,15 +21,6 @@ use Rattle.tables.specs.Records.{noSge}
 use Rattle.dma.specs.Sges.{left-cons, left-none, left-tests, left-total}
 
 -- ---- a copy into a part of a list
-
--- a turn of the copy's loop
-pub copy-more : (d d₀ : List ℕ) (at : ℕ) (s : List ℕ) (from i : ℕ) → at + i < length d₀ → from + i < length s
-    → d ≡ paste d₀ at (drop from s) i → set d (at + i) (getD s (from + i) 0) ≡ paste d₀ at (drop from s) (i + 1)
-copy-more d d₀ at s from i hd hs e =
-    ap (λ (l : List ℕ). set l (at + i) (getD s (from + i) 0)) e
-    ∙ ap (λ (v : ℕ). set (paste d₀ at (drop from s) i) (at + i) v) (sym (getD-drop from s i 0))
-    ∙ paste-suc d₀ at (drop from s) i 0 hd (simp length-drop (omega arith))
-    ∙ ap (λ (k : ℕ). paste d₀ at (drop from s) k) (sym (add-one i))
 
 -- what was copied to the front of a staging list
 pub front : (z s : List ℕ) (n : ℕ) → n ≤ length s → take n (paste z 0 s n) ≡ take n s

@@ -19,18 +19,6 @@ ghost use Rattle.dma.specs.Grants.{mapped, mappedAll, locate, places};
 ghost use Rattle.dma.specs.Ranges.{byte};
 ghost use Rattle.dma.specs.Moves.{Message, Single};
 
-// Copies n bytes of src, from index from on, into dst from index at on.
-pub fn copy_bytes(dst: &mut [u8], at: usize, src: &[u8], from: usize, n: usize)
-    requires { ⌜ (at + n ≤ length (now dst)) × (from + n ≤ length (now src)) ⌝ }
-    ensures { λ _. ⌜ now (dst .exit) ≡ paste (now (dst .entry)) at (drop from (now (src .entry))) n ⌝ }
-{
-    let mut i = 0;
-    while i < n {
-        dst[at + i] = src[from + i];
-        i += 1;
-    }
-}
-
 // The place in memory of a byte that lies in a live region.
 fn place_of(state: &[u8], address: u64, key: u32) -> usize
     requires { ⌜ (accepts (now state) ≡ true) × (length (now state) ≡ image) × (mapped (card (now state)) (byte address key) ≡ true) ⌝ }
@@ -52,7 +40,7 @@ fn copy_out(state: &[u8], memory: &[u8], s: Sge, staging: &mut [u8], at: usize)
         return;
     }
     let from = place_of(state, s.address, s.key);
-    copy_bytes(staging, at, memory, from, n);
+    wire::copy_bytes(staging, at, memory, from, n);
 }
 
 // Copies staging's bytes, from index at on, to an entry.
@@ -66,7 +54,7 @@ fn copy_in(state: &[u8], memory: &mut [u8], s: Sge, staging: &[u8], at: usize)
         return;
     }
     let to = place_of(state, s.address, s.key);
-    copy_bytes(memory, to, staging, at, n);
+    wire::copy_bytes(memory, to, staging, at, n);
 }
 
 // Gathers the first count entries, one after the other, into staging.
@@ -107,8 +95,8 @@ fn deliver_one(memory: &mut [u8], from: usize, to: usize, n: usize)
     ensures { λ _. ⌜ now (memory .exit) ≡ paste (now (memory .entry)) to (drop from (now (memory .entry))) n ⌝ }
 {
     let mut staging = [0u8; 4096];
-    copy_bytes(&mut staging, 0, memory, from, n);
-    copy_bytes(memory, to, &staging, 0, n);
+    wire::copy_bytes(&mut staging, 0, memory, from, n);
+    wire::copy_bytes(memory, to, &staging, 0, n);
 }
 
 // Moves one entry's bytes to one entry.
@@ -167,6 +155,6 @@ pub fn scatter_inline(state: &[u8], memory: &mut [u8], bytes: &[u8], to: [Sge; 4
 {
     let mut staging = [0u8; 4096];
     let n = bytes.len();
-    copy_bytes(&mut staging, 0, bytes, 0, n);
+    wire::copy_bytes(&mut staging, 0, bytes, 0, n);
     scatter(state, memory, to, nt, &staging);
 }

@@ -10,7 +10,6 @@ use borrow.Author.Tests.{eq-eqb, ne-eqb}
 use Rattle.wire.specs.Ring.{ring-length}
 use Rattle.wire.specs.Table.{rowAt}
 use Rattle.tables.specs.Accepted.{Accepted}
-use Rattle.tables.specs.Card.{tail}
 use Rattle.tables.specs.Image.{card, posted, receiveOf, entriesAt, receivesAt, noCompletion, noRecord}
 use Rattle.tables.specs.Layout.{cqT, qpT, waitingT}
 use Rattle.tables.specs.Limits.{cqCount, qpCount, mostPlaces, mostWaiting}

@@ -1,7 +1,7 @@
 // Steps 3 to 6 of document 01, "Posting and delivering": the status of a message, and the message moved. Definitions and laws:
 // specs/Send.antt and specs/SendStatus.antt.
-use crate::meet::Ends;
 use crate::meet;
+use crate::meet::Ends;
 use crate::settle;
 use dma::permit;
 use dma::transfer;

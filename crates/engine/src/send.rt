@@ -1,8 +1,8 @@
 // Post send: document 01, "Posting and delivering". Laws: specs/SendDone.antt and specs/SendEnd.antt.
 use crate::deliver;
+use crate::meet;
 use crate::meet::Ends;
 use crate::meet::Meeting;
-use crate::meet;
 use crate::settle;
 use rules::Answer;
 use tables::SendRead;

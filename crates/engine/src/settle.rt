@@ -1,7 +1,7 @@
 // What a post send leaves in the state: completions, error states, the receive consumed. Definitions and laws: specs/Send.antt and
 // specs/SendSettle.antt.
-use crate::meet::Ends;
 use crate::meet;
+use crate::meet::Ends;
 use dma::permit;
 use tables::Completion;
 use tables::QueuePair;

@@ -1,4 +1,4 @@
--- No request writes into another domain's region. Assumes nothing.
+-- No request writes into another domain's region or reads from one. Assumes nothing.
 use mathlib.Core.Path.{_≡_, refl, sym, ap, _∙_}
 use mathlib.Core.Logic.{_≢_, _⊎_, inl, inr}
 use mathlib.Core.Bool.{Bool, true, false, _&&_, true≢false}
@@ -17,9 +17,9 @@ use Rattle.rules.specs.Send.{sendMemory}
 use Rattle.judge.specs.Log.{Log}
 use Rattle.judge.specs.Judge.{Right, Standing, standing, domain, grants, passes, passesBy, placed, placeBy, judge}
 use Rattle.judge.specs.Demand3.{Bytewise, target}
-use Rattle.judge.specs.Apart.{writer, writeRight, targetByte, Held, Reason, Apart, DomainsApart}
+use Rattle.judge.specs.Apart.{writer, writeRight, targetByte, reader, readRight, sourceByte, Owned, Reason, Apart, DomainsApart}
 use Rattle.judge.proofs.Agree.{Agree, Sendable}
-use Rattle.judge.proofs.Bytes.{target-passes, bytewise}
+use Rattle.judge.proofs.Bytes.{target-passes, source-passes, bytewise}
 use Rattle.judge.proofs.Run.{every}
 
 -- ---- a number below n where f is x, or none
@@ -44,19 +44,13 @@ find f x (suc n) = go (find f x n) (ℕ-discrete (f n) x)
 
 -- ---- what a byte that passes stands on
 
-module _ (l : Log) (q : ℕ) (r : Request) (i p : ℕ) (below : i < total r) where
-  abbrev b : Byte
-  b = targetByte l q r i
-
-  abbrev u : Right
-  u = writeRight (r .opcode)
-
-  reason : passes l (writer l q r) u b ≡ true → placed l b ≡ p → Reason l q r p
+module _ (l : Log) (x : ℕ) (u : Right) (b : Byte) (p : ℕ) where
+  owned : passes l x u b ≡ true → placed l b ≡ p → Owned l x b p
   unfolding passes placed byteOf
-  reason passed is = go (standing l (b .key)) refl (domain l (writer l q r)) refl passed is
+  owned = go (standing l (b .key)) refl (domain l x) refl
     where
-      go : (o : Option Standing) → standing l (b .key) ≡ o → (d : Option ℕ) → domain l (writer l q r) ≡ d →
-          passesBy o d u (b .address) ≡ true → placeBy o (b .address) ≡ p → Reason l q r p
+      go : (o : Option Standing) → standing l (b .key) ≡ o → (d : Option ℕ) → domain l x ≡ d →
+          passesBy o d u (b .address) ≡ true → placeBy o (b .address) ≡ p → Owned l x b p
       go none e d f y z = absurd (true≢false (sym y))
       go (some h) e none f y z = absurd (true≢false (sym y))
       go (some h) e (some d) f y z =
@@ -68,10 +62,6 @@ module _ (l : Log) (q : ℕ) (r : Request) (i p : ℕ) (below : i < total r) whe
           let high = ltb-true (b .address) (h .reg .virt + h .reg .length) (and-right (s && t && v) w y) in
           let at : h .reg .start + (b .address - h .reg .virt) ≡ p = z in
           record {
-            i = i;
-            below = below;
-            is = is;
-            passed = passed;
             reg = h;
             held = record {
               stands = e;
@@ -82,9 +72,12 @@ module _ (l : Log) (q : ℕ) (r : Request) (i p : ℕ) (below : i < total r) whe
           }
 
 module _ (l : Log) (q : ℕ) (r : Request) (m m′ : List ℕ) (k : Bytewise l q r m m′)
-    (reasons : judge l q r ≡ true → (p i : ℕ) → i < total r → target l q r i ≡ p → Reason l q r p) where
+    (reasons : judge l q r ≡ true → (p i : ℕ) → i < total r → target l q r i ≡ p → Reason l q r p)
+    (sources : judge l q r ≡ true → r .inline ≡ false → (i : ℕ) → i < total r →
+    Owned l (reader l q r) (sourceByte l q r i) (placed l (sourceByte l q r i))) where
   apart-bytes : Apart l q r m m′
-  apart-bytes = record { changed = λ p d. changed p d (judge l q r) refl; spared = λ p f. spared p f (judge l q r) refl }
+  apart-bytes =
+      record { changed = λ p d. changed p d (judge l q r) refl; spared = λ p f. spared p f (judge l q r) refl; read = sources }
     where
       kept : judge l q r ≡ false → (p : ℕ) → getD m′ p 0 ≡ getD m p 0
       kept e p = ap (λ (x : List ℕ). getD x p 0) (k .failed e)
@@ -102,14 +95,19 @@ module _ (l : Log) (q : ℕ) (r : Request) (m m′ : List ℕ) (k : Bytewise l q
           (v : Bool) → judge l q r ≡ v → getD m′ p 0 ≡ getD m p 0
       spared p f true e =
           k .others e p
-          (λ i b x. let y = reasons e p i b x in f (targetByte l q r (y .i) .key) (y .reg) (y .held .stands) (y .held .same) (y .held .place .0) (y .held .place .1))
+          (λ i b x. let y = reasons e p i b x in f (targetByte l q r (y .i) .key) (y .owned .reg) (y .owned .held .stands) (y .owned .held .same) (y .owned .held .place .0) (y .owned .held .place .1))
       spared p f false e = kept e p
 
-apart : (c : Card) (l : Log) (a : Agree c l) (q : ℕ) (r : Request) (m : List ℕ) → Sendable c q r m → Apart l q r m (sendMemory c q r m)
+pub apart : (c : Card) (l : Log) (a : Agree c l) (q : ℕ) (r : Request) (m : List ℕ) → Sendable c q r m → Apart l q r m (sendMemory c q r m)
 unfolding target
 apart c l a q r m s =
     apart-bytes l q r m (sendMemory c q r m) (bytewise c l a q r m s)
-    (λ j p i h e. reason l q r i p h (target-passes l q r j (s .opcode) (s .inline) i h) e)
+    (λ j p i h e.
+    let t = target-passes l q r j (s .opcode) (s .inline) i h in
+    record { i = i; below = h; is = e; passed = t; owned = owned l (writer l q r) (writeRight (r .opcode)) (targetByte l q r i) p t e })
+    (λ j f i h.
+    owned l (reader l q r) (readRight (r .opcode)) (sourceByte l q r i) (placed l (sourceByte l q r i))
+    (source-passes l q r j (s .opcode) (s .inline) i h f) refl)
 
 module _ (cardOf : List ℕ → Card) (accepts : List ℕ → Bool) where
   pub domains-apart : DomainsApart cardOf accepts

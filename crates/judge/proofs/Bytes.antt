@@ -19,7 +19,7 @@ use Rattle.rules.proofs.Stored.{stored-length, stored-other, stored-last, map-l
 use Rattle.judge.specs.Log.{Log}
 use Rattle.judge.specs.Judge.{Right, passes, placed, peerNo, oldestAt, ownRight, farRight, fitsReceive, judge, judgedMemory}
 use Rattle.judge.specs.Demand3.{Correct, Bytewise, noByte, target, source, Demand3Bytes}
-use Rattle.judge.specs.Apart.{writer, writeRight, targetByte}
+use Rattle.judge.specs.Apart.{writer, writeRight, targetByte, reader, readRight, sourceByte}
 use Rattle.judge.proofs.Rights.{same-fills}
 use Rattle.judge.proofs.Agree.{Agree, Sendable}
 use Rattle.judge.proofs.Demand3.{correct}
@@ -99,6 +99,14 @@ module _ (l : Log) (q : ℕ) (r : Request) (ok : judge l q r ≡ true) (small : 
           passes l (cond b q (peerNo l q)) (cond b (ownRight (r .opcode)) (farRight (r .opcode))) (getD (cond b (ownBytes r) (farBytes r w)) i noByte) ≡ true
       go true n = all-at (passes l q (ownRight (r .opcode))) (ownBytes r) i noByte (omega arith) own-passes
       go false n = all-at (passes l (peerNo l q) (farRight (r .opcode))) (farBytes r w) i noByte (omega arith) far-passes
+
+  pub source-passes : (i : ℕ) → i < total r → r .inline ≡ false → passes l (reader l q r) (readRight (r .opcode)) (sourceByte l q r i) ≡ true
+  source-passes i h plain = go (reads (r .opcode)) (sources-length plain)
+    where
+      go : (b : Bool) → length (cond b (farBytes r w) (ownBytes r)) ≡ total r →
+          passes l (cond b (peerNo l q) q) (cond b (farRight (r .opcode)) (ownRight (r .opcode))) (getD (cond b (farBytes r w) (ownBytes r)) i noByte) ≡ true
+      go true n = all-at (passes l (peerNo l q) (farRight (r .opcode))) (farBytes r w) i noByte (omega arith) far-passes
+      go false n = all-at (passes l q (ownRight (r .opcode))) (ownBytes r) i noByte (omega arith) own-passes
 
   module _ (m : List ℕ) (inside : (x : ℕ) (u : Right) (b : Byte) → passes l x u b ≡ true → (placed l b < length m) × (b .address < 2 ^ 64)) where
     abbrev places : List ℕ

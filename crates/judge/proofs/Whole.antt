@@ -10,10 +10,14 @@ use Rattle.tables.specs.Accept.{accepts}
 use Rattle.tables.specs.Accepted.{accepted}
 use Rattle.tables.specs.Image.{card}
 use Rattle.tables.specs.Layout.{image}
+use Rattle.judge.specs.Demand3.{Correct, Bytewise}
+use Rattle.judge.specs.Apart.{Apart}
 use Rattle.judge.specs.Whole.{Whole}
+use Rattle.judge.proofs.Demand3.{correct}
 use Rattle.judge.proofs.Run.{demand3, resumed, steady}
-use Rattle.judge.proofs.Bytes.{demand3-bytes}
-use Rattle.judge.proofs.Apart.{domains-apart}
+use Rattle.judge.proofs.Bytes.{bytewise, demand3-bytes}
+use Rattle.judge.proofs.Apart.{apart, domains-apart}
+use Rattle.judge.proofs.Exported.{of-exports}
 use Rattle.judge.proofs.Count.{counted}
 
 accepted-length : (l : List ℕ) → accepts l ≡ true → eqb (length l) image ≡ true
@@ -27,4 +31,7 @@ whole = record {
   resumed = resumed card accepts;
   steady = steady card accepts accepted-length;
   counted = counted card accepts;
+  exported = of-exports Correct correct;
+  exported-bytes = of-exports (λ l q r s m m′. Bytewise l q r m m′) bytewise;
+  exported-apart = of-exports (λ l q r s m m′. Apart l q r m m′) apart;
 }

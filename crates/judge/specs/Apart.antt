@@ -1,17 +1,17 @@
--- No request writes into another domain's region: what demand 3 says to operators who share a card. Assumes nothing.
+-- No request writes into another domain's region or reads from one: what demand 3 says to operators who share a card. Assumes nothing.
 use mathlib.Core.Path.{_≡_}
 use mathlib.Core.Logic.{_≢_}
-use mathlib.Core.Bool.{Bool, true, cond}
+use mathlib.Core.Bool.{Bool, true, false, cond}
 use mathlib.Core.List.{List, []}
-use mathlib.Core.Option.{Option, some}
+use mathlib.Core.Option.{some}
 use Prim.Native.Nat.{ℕ, _+_, _≤_, _<_}
 use lib.ListN.{getD}
 use Rattle.tables.specs.Card.{Card}
 use Rattle.rules.specs.declared.Answer.the-variants.{Done}
 use Rattle.rules.specs.Call.{Call}
-use Rattle.rules.specs.Touch.{Request, Byte, reads, total, targetBytes}
+use Rattle.rules.specs.Touch.{Request, Byte, reads, total, sourceBytes, targetBytes}
 use Rattle.judge.specs.Log.{Log}
-use Rattle.judge.specs.Judge.{Right, Standing, standing, domain, passes, placed, peerNo, oldestAt, ownRight, farRight}
+use Rattle.judge.specs.Judge.{Right, Standing, standing, domain, passes, placed, peerNo, oldestAt, ownRight, farRight, judge}
 use Rattle.judge.specs.Demand3.{noByte, Seen, EachSend, Met, Linked}
 
 -- the queue pair that the written bytes belong to: the sender for a read, its peer otherwise
@@ -26,6 +26,18 @@ writeRight o = cond (reads o) (ownRight o) (farRight o)
 abbrev pub targetByte : Log → (q : ℕ) → Request → (i : ℕ) → Byte
 targetByte l q r i = getD (targetBytes r (oldestAt l q)) i noByte
 
+-- the queue pair that the bytes read belong to: the peer for a read, the sender otherwise
+abbrev pub reader : Log → (q : ℕ) → Request → ℕ
+reader l q r = cond (reads (r .opcode)) (peerNo l q) q
+
+-- the right that reading them needs
+abbrev pub readRight : (opcode : ℕ) → Right
+readRight o = cond (reads o) (farRight o) (ownRight o)
+
+-- message byte i of the request, as its source names it
+abbrev pub sourceByte : Log → (q : ℕ) → Request → (i : ℕ) → Byte
+sourceByte l q r i = getD (sourceBytes r (oldestAt l q)) i noByte
+
 -- h is the standing registration of b's key, made in the domain that x was created in, over b's address and the memory byte p
 pub record Held (l : Log) (x : ℕ) (b : Byte) (p : ℕ) (h : Standing) : Type 0 where
   pub stands : standing l (b .key) ≡ some h
@@ -33,14 +45,18 @@ pub record Held (l : Log) (x : ℕ) (b : Byte) (p : ℕ) (h : Standing) : Type 0
   pub address : (h .reg .virt ≤ b .address) × (b .address < h .reg .virt + h .reg .length)
   pub place : (h .reg .start ≤ p) × (p < h .reg .start + h .reg .length)
 
+-- there is such a registration
+pub record Owned (l : Log) (x : ℕ) (b : Byte) (p : ℕ) : Type 0 where
+  pub reg : Standing
+  pub held : Held l x b p reg
+
 -- why the memory byte p may be written for the request
 pub record Reason (l : Log) (q : ℕ) (r : Request) (p : ℕ) : Type 0 where
   pub i : ℕ
   pub below : i < total r
   pub is : placed l (targetByte l q r i) ≡ p
   pub passed : passes l (writer l q r) (writeRight (r .opcode)) (targetByte l q r i) ≡ true
-  pub reg : Standing
-  pub held : Held l (writer l q r) (targetByte l q r i) p reg
+  pub owned : Owned l (writer l q r) (targetByte l q r i) p
 
 pub record Apart (l : Log) (q : ℕ) (r : Request) (m m′ : List ℕ) : Type 0 where
   -- a memory byte that differs after the call has its reason
@@ -49,6 +65,9 @@ pub record Apart (l : Log) (q : ℕ) (r : Request) (m m′ : List ℕ) : Type 0 
   pub spared : (p : ℕ) →
       ((k : ℕ) (h : Standing) → standing l k ≡ some h → domain l (writer l q r) ≡ some (h .reg .pd) → h .reg .start ≤ p → p < h .reg .start + h .reg .length → ⊥) →
       getD m′ p 0 ≡ getD m p 0
+  -- a message is made of inline bytes, or of bytes in regions of the reader's domain
+  pub read : judge l q r ≡ true → r .inline ≡ false → (i : ℕ) → i < total r →
+      Owned l (reader l q r) (sourceByte l q r i) (placed l (sourceByte l q r i))
 
 module _ (cardOf : List ℕ → Card) (accepts : List ℕ → Bool) where
   -- of each work request answered 0, in every list of calls that follows a reset answered 0

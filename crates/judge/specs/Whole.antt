@@ -1,8 +1,9 @@
 -- Demand 3 over the lent state of docs/STATE.md. Assumes nothing.
 use Rattle.tables.specs.Accept.{accepts}
 use Rattle.tables.specs.Image.{card}
-use Rattle.judge.specs.Demand3.{Demand3, Demand3Bytes, Resumed, Steady}
-use Rattle.judge.specs.Apart.{DomainsApart}
+use Rattle.judge.specs.Demand3.{Correct, Bytewise, Demand3, Demand3Bytes, Resumed, Steady}
+use Rattle.judge.specs.Apart.{Apart, DomainsApart}
+use Rattle.judge.specs.Exported.{OfExports}
 use Rattle.judge.specs.Count.{Counted}
 
 pub record Whole : Type 0 where
@@ -18,3 +19,7 @@ pub record Whole : Type 0 where
   pub steady : Steady card accepts
   -- receives add up
   pub counted : Counted card accepts
+  -- the first three of lists of calls of the exported functions
+  pub exported : OfExports Correct
+  pub exported-bytes : OfExports (λ l q r s m m′. Bytewise l q r m m′)
+  pub exported-apart : OfExports (λ l q r s m m′. Apart l q r m m′)

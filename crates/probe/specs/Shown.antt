@@ -4,10 +4,11 @@ use mathlib.Core.Bool.{Bool, true, false, cond, _||_}
 use mathlib.Core.List.{List, [], _∷_, _++_}
 use Prim.Native.Nat.{ℕ, zero, suc, _+_, _*_, _≤_, _<_}
 use native.Mathlib.Numerals.{add-one}
+use native.Mathlib.Nat.{zero-add}
 use native.Mathlib.Omega.{arith}
 use lib.Dec.{eqb, ltb}
 use lib.ListN.{length, getD, set, take, drop, drop-of-length-le}
-use lib.Seq.{take-all, take-length, drop-length}
+use lib.Seq.{paste, take-all, take-length, drop-length}
 use borrow.Author.Tests.{eq-eqb, ne-eqb, lt-ltb, le-ltb}
 use Rattle.wire.specs.Fields.{Field, field, putFields}
 use Rattle.wire.specs.Le.{leAt}
@@ -141,23 +142,16 @@ commandTold k =
 
 -- ---- laws
 
--- one byte more is copied
-pub copied-more : (p o : List ℕ) (i : ℕ) → i < length p → i < length o
-    → set (take i p ++ drop i o) i (getD p i 0) ≡ take (i + 1) p ++ drop (i + 1) o
-copied-more p o i a b = rw add-one (go p o i a b)
-  where
-    go : (p o : List ℕ) (i : ℕ) → i < length p → i < length o → set (take i p ++ drop i o) i (getD p i 0) ≡ take (suc i) p ++ drop (suc i) o
-    go [] o i a b = absurd (omega arith)
-    go (x ∷ xs) [] i a b = absurd (omega arith)
-    go (x ∷ xs) (y ∷ ys) zero a b = refl
-    go (x ∷ xs) (y ∷ ys) (suc i) a b = ap (λ (l : List ℕ). x ∷ l) (go xs ys i (omega arith) (omega arith))
-
 module _ (p o : List ℕ) where
-  pub laid-all : length p ≤ length o → take (length p) p ++ drop (length p) o ≡ laid p o
-  laid-all h = ap (λ (l : List ℕ). l ++ drop (length p) o) (take-length p ∙ sym (take-all (length o) p h))
+  -- the copy's n bytes, and what stays
+  copied : (n : ℕ) → paste o 0 (drop 0 p) n ≡ take n p ++ drop n o
+  copied n = ap (λ (k : ℕ). take n p ++ drop k o) (zero-add n)
 
-  pub laid-part : length o < length p → take (length o) p ++ drop (length o) o ≡ laid p o
-  laid-part h = ap (λ (l : List ℕ). take (length o) p ++ l) (drop-length o ∙ sym (drop-of-length-le o {i = length p} (omega arith)))
+  pub laid-all : length p ≤ length o → paste o 0 (drop 0 p) (length p) ≡ laid p o
+  laid-all h = copied (length p) ∙ ap (λ (l : List ℕ). l ++ drop (length p) o) (take-length p ∙ sym (take-all (length o) p h))
+
+  pub laid-part : length o < length p → paste o 0 (drop 0 p) (length o) ≡ laid p o
+  laid-part h = copied (length o) ∙ ap (λ (l : List ℕ). take (length o) p ++ l) (drop-length o ∙ sym (drop-of-length-le o {i = length p} (omega arith)))
 
 -- four entries, one by one
 pub four : (ps : List Sge) (d : Sge) → length ps ≡ 4 → getD ps 0 d ∷ getD ps 1 d ∷ getD ps 2 d ∷ getD ps 3 d ∷ [] ≡ ps

@@ -108,27 +108,16 @@ pub extern "C" fn probe_read_send(request: &[u8], out: &mut [u8]) -> u32
     }
 }
 
-fn copy(part: &[u8], out: &mut [u8], n: usize)
-    requires { ⌜ (n ≤ length (now part)) × (n ≤ length (now out)) ⌝ }
-    ensures { λ _. ⌜ now (out .exit) ≡ take n (now (part .entry)) ++ drop n (now (out .entry)) ⌝ }
-{
-    let mut i = 0;
-    while i < n {
-        out[i] = part[i];
-        i += 1;
-    }
-}
-
 fn copy_held(part: &[u8], out: &mut [u8])
     ensures { λ _. ⌜ now (out .exit) ≡ laid (now (part .entry)) (now (out .entry)) ⌝ }
 {
     let n = part.len();
     let room = out.len();
     if n <= room {
-        copy(part, out, n);
+        wire::copy_bytes(out, 0, part, 0, n);
         return;
     }
-    copy(part, out, room);
+    wire::copy_bytes(out, 0, part, 0, room);
 }
 
 // The inline part's length; the part itself, as much as the buffer holds.

@@ -3,7 +3,8 @@ use mathlib.Core.Path.{_≡_, refl, sym, ap, subst}
 use mathlib.Core.Bool.{Bool, true, false, cond, not, _&&_, true≢false, false≢true}
 use mathlib.Core.List.{List, [], _∷_}
 use mathlib.Core.Option.{Option, none, some}
-use Prim.Native.Nat.{ℕ, _≤_}
+use Prim.Native.Nat.{ℕ, _+_, _*_, _/_, _%_, _≤_}
+use native.Mathlib.Nat.{add-zero}
 use native.Mathlib.Omega.{arith}
 use lib.Dec.{eqb, leb}
 use lib.ListN.{set}
@@ -15,14 +16,14 @@ use Rattle.wire.specs.Scan.{and-left, and-right, both-true, all}
 use Rattle.tables.specs.Card.{Card}
 use Rattle.tables.specs.Records.{Command, commandOf, sendChecks, receiveChecks, ackFields}
 use Rattle.rules.specs.declared.Cause.the-variants.{Peer, Place}
-use Rattle.rules.specs.declared.Answer.the-variants.{Held, Refused}
-use Rattle.rules.specs.Answer.{number, answered, isDone, isHeld, listed}
+use Rattle.rules.specs.declared.Answer.the-variants.{Done, Held, Refused}
+use Rattle.rules.specs.Answer.{number, codeOf, answered, answerIn, isDone, isHeld, listed}
 use Rattle.rules.specs.Control.{commandChecks}
 use Rattle.rules.specs.Send.{deliveryChecks}
 use Rattle.rules.specs.Queues.{joinChecks, flushChecks, pollChecks}
 use Rattle.rules.specs.Call.{Call, memoryOf}
 use Rattle.rules.proofs.Ranges.{all-split}
-use Rattle.rules.specs.Calls.{checks, resetChecks, controlChecks, bufferChecks, settled, step, owed, usable, bufferRefused, Result}
+use Rattle.rules.specs.Calls.{checks, resetChecks, controlChecks, bufferChecks, settled, step, statusOf, owed, owedChecks, usable, bufferRefused, Result}
 
 -- ---- a fact of every test's number is one of the refusal's
 
@@ -35,9 +36,12 @@ first-with f (c ∷ cs) n p e = go (c .bad) (first-with f cs n (and-right (f (c 
     go true ih e = let s : c .no ≡ n = cc in subst (λ x. f x ≡ true) s (and-left (f (c .no)) (all (λ x. f (x .no)) cs) p)
     go false ih e = ih e
 
--- the tests' numbers stand in the table below 14
+-- the tests' numbers stand in the table from 1 on and below 14
+abbrev within : ℕ → Bool
+within n = leb 1 n && leb n 13
+
 abbrev fine : Check → Bool
-fine k = leb (k .no) 13
+fine k = within (k .no)
 
 command-fine : (c : Card) (k : Command) → all fine (commandChecks c k) ≡ true
 unfolding all commandChecks
@@ -60,8 +64,10 @@ checks-fine c (Call.receive q x) = refl
 checks-fine c (Call.flush q) = refl
 checks-fine c (Call.poll n b) = refl
 
-pub refusal-fine : (c : Card) (k : Call) (n : ℕ) → refusal (checks c k) ≡ some n → n ≤ 13
-refusal-fine c k n e = leb-true n 13 (first-with (λ x. leb x 13) (checks c k) n (checks-fine c k) e)
+pub refusal-within : (c : Card) (k : Call) (n : ℕ) → refusal (checks c k) ≡ some n → (1 ≤ n) × (n ≤ 13)
+refusal-within c k n e =
+    let h = first-with within (checks c k) n (checks-fine c k) e in
+    (leb-true 1 n (and-left (leb 1 n) (leb n 13) h), leb-true n 13 (and-right (leb 1 n) (leb n 13) h))
 
 -- the number of an answer is that of the test
 pub answered-number : (n : ℕ) → number (answered 0 (some n)) ≡ n
@@ -71,6 +77,15 @@ answered-number n = go (eqb n 5) refl (eqb n 6) refl
     go true p b q = rw p (sym (eqb-true n 5 p))
     go false p true q = rw (p, q) (sym (eqb-true n 6 q))
     go false p false q = rw (p, q)
+
+-- and a result's number is no more
+pub answered-code : (n : ℕ) → codeOf (answered 0 (some n)) ≡ n
+answered-code n = go (eqb n 5) refl (eqb n 6) refl
+  where
+    go : (a : Bool) → eqb n 5 ≡ a → (b : Bool) → eqb n 6 ≡ b → codeOf (answered 0 (some n)) ≡ n
+    go true p b q = rw p (sym (eqb-true n 5 p))
+    go false p true q = rw (p, q) (sym (eqb-true n 6 q))
+    go false p false q = rw (p, q) (add-zero n)
 
 pub answered-not-done : (n : ℕ) → isDone (answered 0 (some n)) ≡ false
 answered-not-done n = go (eqb n 5) (eqb n 6)
@@ -87,7 +102,7 @@ step-below c k = go (refusal (checks c k)) refl
   where
     go : (o : Option ℕ) → refusal (checks c k) ≡ o → number (settled o c k .answer) ≤ 13
     go none e = omega arith
-    go (some n) e = rw (answered-number n) (refusal-fine c k n e)
+    go (some n) e = rw (answered-number n) (refusal-within c k n e .1)
 
 -- ---- holds: steps 1 and 2 of a post send, and a flush without a place, are the only ones
 
@@ -193,3 +208,33 @@ module _ (cardOf : List ℕ → Card) (accepts : List ℕ → Bool) where
           Unchanged (cardOf l) k (cond b (step (cardOf l) k) (settled (some 15) (cardOf l) k))
       go true e = step-unchanged (cardOf l) k e
       go false e = settled-unchanged (cardOf l) k 15
+
+  -- ---- the result that a caller in C gets tells the answer
+
+  owed-within : (l : List ℕ) (k : Call) (n : ℕ) → refusal (owedChecks cardOf accepts l k) ≡ some n → (1 ≤ n) × (n ≤ 15)
+  owed-within l k n = go (usable cardOf accepts l k)
+    where
+      go : (b : Bool) → cond (not b) (some 15) (refusal (checks (cardOf l) k)) ≡ some n → (1 ≤ n) × (n ≤ 15)
+      go true e = let h = refusal-within (cardOf l) k n e in let a = h .0 in let b = h .1 in (omega arith, omega arith)
+      go false e = let z : 15 ≡ n = cc in (omega arith, omega arith)
+
+  code-refused : (n : ℕ) → 1 ≤ n → n ≤ 15 → answerIn (codeOf (answered 0 (some n))) ≡ answered 0 (some n)
+  code-refused n h m =
+      let e : codeOf (answered 0 (some n)) ≡ n = answered-code n in
+      let d : n / 256 ≡ 0 = omega arith in
+      let w : n % 256 ≡ n = omega arith in
+      rw (e, d, w, ne-eqb n 0 (omega arith))
+
+  code-done : (s : ℕ) → answerIn (codeOf (Done s)) ≡ Done s
+  code-done s =
+      let d : (0 + 256 * s) / 256 ≡ s = omega arith in
+      let w : (0 + 256 * s) % 256 ≡ 0 = omega arith in
+      rw (w, d)
+
+  pub code-back : (l : List ℕ) (k : Call) → answerIn (codeOf (owed cardOf accepts l k .answer)) ≡ owed cardOf accepts l k .answer
+  code-back l k = go (refusal (owedChecks cardOf accepts l k)) refl
+    where
+      go : (o : Option ℕ) → refusal (owedChecks cardOf accepts l k) ≡ o →
+          answerIn (codeOf (settled o (cardOf l) k .answer)) ≡ settled o (cardOf l) k .answer
+      go none e = code-done (statusOf (cardOf l) k)
+      go (some n) e = let h = owed-within l k n e in code-refused n (h .0) (h .1)

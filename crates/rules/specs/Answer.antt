@@ -1,7 +1,7 @@
 -- Document 01, "Answer numbers": the number and the status of each answer. Assumes nothing.
 use mathlib.Core.Bool.{Bool, true, false, cond, not, _&&_}
 use mathlib.Core.Option.{Option, none, some}
-use Prim.Native.Nat.{ℕ, _+_, _*_}
+use Prim.Native.Nat.{ℕ, _+_, _*_, _/_, _%_}
 use lib.Dec.{eqb, leb}
 use Rattle.rules.specs.declared.Cause.{Cause}
 use Rattle.rules.specs.declared.Cause.the-variants.{Peer, Place}
@@ -33,6 +33,10 @@ codeOf a = number a + 256 * status a
 abbrev pub answered : (status : ℕ) → Option ℕ → Answer
 answered s none = Done s
 answered s (some n) = cond (eqb n 5) (Held Peer) (cond (eqb n 6) (Held Place) (Refused n))
+
+-- the answer that such a result tells
+abbrev pub answerIn : ℕ → Answer
+answerIn r = answered (r / 256) (cond (eqb (r % 256) 0) none (some (r % 256)))
 
 -- the call was answered 0
 abbrev pub isDone : Answer → Bool

@@ -94,7 +94,7 @@ fn put_answer(out: &mut [u8], answer: Answer, bytes: &[u8], n: usize) -> usize
     ensures { λ _. ⌜ now (out .exit) ≡ placed (answerRecord answer (take n (now (bytes .entry)))) (now (out .entry)) ⌝ }
 {
     put_head(out, answer, n as u16);
-    engine::transfer::copy_bytes(out, HEADER, bytes, 0, n);
+    wire::copy_bytes(out, HEADER, bytes, 0, n);
     HEADER + n
 }
 
@@ -145,7 +145,7 @@ fn answer_control(state: &mut [u8], body: &[u8], out: &mut [u8]) -> usize
     ensures { λ r. ⌜ Answers (Call.control (now (body .entry)) (zeros ackLeast)) (now (state .entry)) (now (out .entry)) r (now (state .exit)) (now (out .exit)) ⌝ }
 {
     let mut ack = [0u8; 13];
-    let answer = engine::control::control(state, body, &mut ack);
+    let answer = commands::control::control(state, body, &mut ack);
     let n = ack_written(answer, body);
     put_answer(out, answer, &ack, n)
 }

@@ -8,3 +8,4 @@ pub mod Scan
 pub mod Blocks
 pub mod Slots
 pub mod Checks
+pub mod Copy

@@ -1,7 +1,8 @@
-// Little-endian numbers of 1, 2, 4 and 8 bytes in a slice, read and written at an offset.
+// Little-endian numbers of 1, 2, 4 and 8 bytes in a slice, read and written at an offset; bytes copied from one slice to another.
 ghost use mathlib.Core.Path.{_≡_};
 ghost use Prim.Native.Nat.{_+_, _≤_};
-ghost use lib.ListN.{length};
+ghost use lib.ListN.{length, drop};
+ghost use lib.Seq.{paste};
 ghost use Rattle.wire.specs.Le.{leAt, putLe};
 
 fn wide16(x: u8) -> u16
@@ -67,4 +68,18 @@ pub fn put64(s: &mut [u8], at: usize, v: u64)
 {
     put32(s, at, (v % 4294967296) as u32);
     put32(s, at + 4, (v / 4294967296) as u32);
+}
+
+// ---- copies
+
+// Copies n bytes of src, from index from on, into dst from index at on.
+pub fn copy_bytes(dst: &mut [u8], at: usize, src: &[u8], from: usize, n: usize)
+    requires { ⌜ (at + n ≤ length (now dst)) × (from + n ≤ length (now src)) ⌝ }
+    ensures { λ _. ⌜ now (dst .exit) ≡ paste (now (dst .entry)) at (drop from (now (src .entry))) n ⌝ }
+{
+    let mut i = 0;
+    while i < n {
+        dst[at + i] = src[from + i];
+        i += 1;
+    }
 }

@@ -1,6 +1,5 @@
 use Prim.Native.Nat.{_≤_}
 use lib.ListN.{length}
-use mathlib.Core.Path.{_∙_, ap}
 use denote.Ref.{now}
 use Rattle.tape.specs.Written.{record-size, record-placed}
 use borrow.Author.Needs.{needs}

@@ -1,6 +1,6 @@
 use denote.Ref.{now}
 use borrow.Author.Tests.{not-true, not-false}
-use mathlib.Core.Path.{_≡_, refl, sym, ap, _∙_}
+use mathlib.Core.Path.{_≡_, sym, _∙_}
 use mathlib.Core.Bool.{true}
 use Rattle.tables.specs.Accept.{accepts}
 use Rattle.tables.specs.Accepted.{accepted}

@@ -1,6 +1,6 @@
 use denote.Ref.{now}
 use borrow.Author.Tests.{not-true, not-false}
-use mathlib.Core.Path.{_≡_, refl, sym, ap, _∙_}
+use mathlib.Core.Path.{sym, _∙_}
 use Rattle.tables.specs.Objects.{cq-below}
 use Rattle.commands.specs.ControlLaws.{destroy-cq-dead, destroy-cq-used, destroy-cq-done}
 use borrow.Author.Needs.{needs}

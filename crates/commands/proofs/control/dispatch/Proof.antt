@@ -1,4 +1,4 @@
-use mathlib.Core.Path.{_≡_, refl, sym, ap, _∙_}
+use mathlib.Core.Path.{sym, _∙_}
 use Rattle.commands.specs.ControlCall.{dispatch-short, dispatch-class, dispatch-run}
 use borrow.Author.Needs.{needs}
 use Rattle.commands.proofs.control.dispatch.Statement.{statement}

@@ -1,4 +1,4 @@
-use mathlib.Core.Path.{_≡_, refl, sym, ap, _∙_}
+use mathlib.Core.Path.{ap, _∙_}
 use Rattle.tables.specs.declared.Region.{Region}
 use Rattle.rules.specs.Control.{nextVariant}
 use borrow.Author.Needs.{needs}

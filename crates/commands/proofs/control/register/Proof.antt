@@ -1,5 +1,5 @@
 use borrow.Author.Tests.{not-true, not-false}
-use mathlib.Core.Path.{_≡_, refl, sym, ap, _∙_}
+use mathlib.Core.Path.{sym, _∙_}
 use Rattle.commands.specs.ControlLaws.{register-access, register-dead, register-range, register-full, register-done}
 use borrow.Author.Needs.{needs}
 use Rattle.commands.proofs.control.register.Statement.{statement}

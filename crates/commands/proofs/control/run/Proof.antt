@@ -1,4 +1,4 @@
-use mathlib.Core.Path.{_≡_, refl, sym, ap, _∙_}
+use mathlib.Core.Path.{sym, _∙_}
 use Rattle.commands.specs.ControlCall.{run-create-cq, run-destroy-cq, run-create-pd, run-destroy-pd, run-register, run-deregister, run-create-qp, run-modify-qp, run-destroy-qp, run-gap, run-unknown}
 use borrow.Author.Needs.{needs}
 use Rattle.commands.proofs.control.run.Statement.{statement}

@@ -1,5 +1,5 @@
 use borrow.Author.Tests.{not-true, not-false}
-use mathlib.Core.Path.{_≡_, refl, sym, ap, _∙_}
+use mathlib.Core.Path.{sym, _∙_}
 use Rattle.commands.specs.ControlLaws.{create-qp-fields, create-qp-dead, create-qp-full, create-qp-done}
 use borrow.Author.Needs.{needs}
 use Rattle.commands.proofs.control_qp.create_qp.Statement.{statement}

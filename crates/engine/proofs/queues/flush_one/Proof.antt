@@ -1,10 +1,10 @@
 use lib.ListN.{length}
 use denote.Ref.{now}
-use mathlib.Core.Path.{_≡_, sym, ap, _∙_}
+use mathlib.Core.Path.{_≡_, ap, _∙_}
 use Prim.Native.Nat.{_≤_, _<_}
 use native.Mathlib.Omega.{arith}
 use Rattle.wire.specs.Table.{rowAt}
-use Rattle.tables.specs.Layout.{cqT, qpT, waitingT}
+use Rattle.tables.specs.Layout.{cqT, qpT}
 use Rattle.engine.specs.FlushLaws.{flush-past, flush-dead, flush-state, flush-first, flush-cq, flush-most, flush-none, flush-held, flush-length, flush-some, flush-done}
 use borrow.Author.Needs.{needs}
 use Rattle.engine.proofs.queues.flush_one.Statement.{statement}

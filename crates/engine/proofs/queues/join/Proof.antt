@@ -1,8 +1,7 @@
 use denote.Ref.{now}
-use mathlib.Core.Path.{_≡_, sym, ap, _∙_}
-use Prim.Native.Nat.{_≤_, _<_}
+use mathlib.Core.Path.{_≡_}
 use Rattle.wire.specs.Table.{rowAt}
-use Rattle.tables.specs.Layout.{qpT, waitingT}
+use Rattle.tables.specs.Layout.{qpT}
 use Rattle.engine.specs.ReceiveLaws.{receive-past, receive-dead, receive-state, receive-full, receive-done}
 use borrow.Author.Needs.{needs}
 use Rattle.engine.proofs.queues.join.Statement.{statement}

@@ -1,6 +1,5 @@
 use denote.Ref.{now}
-use Prim.Native.Nat.{_≤_, _<_}
-use mathlib.Core.Path.{_≡_, sym, _∙_}
+use mathlib.Core.Path.{_≡_}
 use Rattle.wire.specs.Table.{rowAt}
 use Rattle.tables.specs.Layout.{cqT}
 use native.Mathlib.Omega.{arith}

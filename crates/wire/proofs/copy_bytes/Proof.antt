@@ -4,9 +4,9 @@ use denote.Ref.{now}
 use Prim.Native.Nat.{_-_, _≤_}
 use lib.ListN.{length, drop, length-set}
 use lib.Seq.{paste, paste-zero}
-use Rattle.dma.specs.Moves.{copy-more}
-use Rattle.dma.proofs.transfer.copy_bytes.Statement.{statement}
-use Rattle.dma.proofs.transfer.copy_bytes.Tie as tie
+use Rattle.wire.specs.Copy.{copy-more}
+use Rattle.wire.proofs.copy_bytes.Statement.{statement}
+use Rattle.wire.proofs.copy_bytes.Tie as tie
 
 abbrev Inv-loop : tie.InvT-loop
 Inv-loop dst₀ at src from n i₀ dst i = (i ≤ n) × (dst ≡ paste dst₀ at (drop from src) i) × (length dst ≡ length dst₀)
