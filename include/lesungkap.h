@@ -2,8 +2,9 @@
  *
  * The card keeps nothing between calls. The caller lends it all: the card's state, the memory and the records.
  *
- *   state    LESUNGKAP_STATE_BYTES bytes, made by lesungkap_reset. Between calls nobody else writes them; a call that finds them
- *            changed for the worse answers LESUNGKAP_BAD_STATE. A copy of them is a copy of the card's tables.
+ *   state    LESUNGKAP_STATE_BYTES bytes, made by lesungkap_reset. Between calls nobody else writes them. A call
+ *            answers LESUNGKAP_BAD_STATE where they break a limit of docs/STATE.md; any other change it cannot notice. A copy of them
+ *            is a copy of the card's tables.
  *   memory   the guest memory, of the length told to lesungkap_reset. The guest may write it between calls.
  *   command, record
  *            read only, and not looked at after the call.
@@ -148,7 +149,8 @@ uint32_t lesungkap_reset(uint8_t *state, size_t state_len, uint64_t memory_len);
 uint32_t lesungkap_control(uint8_t *state, size_t state_len, const uint8_t *command, size_t command_len, uint8_t *ack,
                            size_t ack_len);
 
-/* Runs a work request to its end. LESUNGKAP_HELD_PEER and LESUNGKAP_HELD_PLACE: nothing happened, try again later. */
+/* Runs a work request to its end. LESUNGKAP_HELD_PEER and LESUNGKAP_HELD_PLACE: nothing happened, try again later. A status other than
+ * LESUNGKAP_SUCCESS leaves the queue pair in error. docs/CALLS.md has the order of answers and statuses. */
 uint32_t lesungkap_post_send(uint8_t *state, size_t state_len, uint8_t *memory, size_t memory_len, uint32_t qpn,
                              const uint8_t *record, size_t record_len);
 

@@ -1,7 +1,7 @@
 -- Control commands over the lent state: what reading a command's data gives, and what each function that runs one owes. Assumes nothing.
 use mathlib.Core.Path.{_≡_}
 use mathlib.Core.Bool.{Bool, cond, not, _&&_, _||_}
-use mathlib.Core.List.{List, [], _∷_}
+use mathlib.Core.List.{List, [], _∷_, _++_}
 use mathlib.Core.Option.{Option, none, some}
 use Prim.Native.Nat.{ℕ, _+_, _%_}
 use lib.Dec.{eqb, ltb, leb}
@@ -12,7 +12,8 @@ use Rattle.tables.specs.Accept.{cqLive, isState}
 use Rattle.tables.specs.Card.{Card}
 use Rattle.tables.specs.Image.{card}
 use Rattle.tables.specs.Limits.{qpCount, mostAddress}
-use Rattle.tables.specs.Records.{Command, controlClass, dataSize, commandOf}
+use Rattle.tables.specs.Reading.{headChecks}
+use Rattle.tables.specs.Records.{Command, dataSize, commandOf}
 use Rattle.tables.specs.declared.Ack.{Ack}
 use Rattle.tables.specs.declared.Ack.the-variants as ack
 use Rattle.tables.specs.declared.CreateQp.{CreateQp}
@@ -104,7 +105,7 @@ numberChecks c k =
     commandChecks c (commandOf k)
 
 abbrev pub classChecks : Card → List ℕ → List Check
-classChecks c k = 1 if ltb (length k) 2 ∷ 13 if not (eqb (leAt 1 k 0) controlClass) ∷ numberChecks c k
+classChecks c k = headChecks k ++ numberChecks c k
 
 pub record Dispatched (cs : List Check) (l k : List ℕ) (r : Outcome) (l′ : List ℕ) : Type 0 where
   pub outcome : r ≡ outcomeBy (refusal cs) (commandAck (card l) (commandOf k))
@@ -134,7 +135,7 @@ modifyBad r =
     || (not (has destBit (r .mask)) && eqb (r .state) 2)
     || (has destBit (r .mask) && (leb qpCount (r .dest) || eqb (r .dest) (r .qpn)))
 
--- ---- numbers in the low byte of which they are stored
+-- ---- numbers cut to the low byte that is stored
 
 abbrev pub lowPair : CreateQp → CreateQp
 lowPair r = record { pd = r .pd % 256; kind = r .kind; signal = r .signal; scq = r .scq % 256; rcq = r .rcq % 256 }

@@ -16,7 +16,7 @@ use Rattle.tables.specs.Accept.{accepts}
 use Rattle.tables.specs.Accepted.{Accepted, accepted, accepting}
 use Rattle.tables.specs.Card.{Card}
 use Rattle.tables.specs.Image.{card}
-use Rattle.tables.specs.Reading.{numberRead, registerRead, createQpRead, modifyQpRead, ackValues}
+use Rattle.tables.specs.Reading.{headChecks, numberRead, registerRead, createQpRead, modifyQpRead, ackValues}
 use Rattle.tables.specs.Records.{Command, controlClass, dataSize, commandOf, numberCodec, registerCodec, createQpCodec, modifyQpCodec, ackFields, ackLeast}
 use Rattle.tables.specs.declared.Ack.{Ack}
 use Rattle.tables.specs.declared.CreateQpRead.{CreateQpRead}
@@ -28,6 +28,7 @@ use Rattle.tables.specs.declared.NumberRead.the-variants as number
 use Rattle.tables.specs.declared.RegisterRead.{RegisterRead}
 use Rattle.tables.specs.declared.RegisterRead.the-variants as register
 use Rattle.rules.proofs.Answers.{first-with}
+use Rattle.rules.proofs.Tests.{refusal-append}
 use Rattle.rules.proofs.Meeting.{refused-meets, done-meets}
 use Rattle.rules.specs.Answer.{answered}
 use Rattle.rules.specs.Call.{Call}
@@ -136,21 +137,18 @@ module _ (l k : List ℕ) where
   abbrev Classed : Outcome → List ℕ → Type 0
   Classed r l′ = Dispatched (classChecks (card l) k) l k r l′
 
-  pub dispatch-short : length k < 2 → Classed (Refused 1) l
-  dispatch-short h = let e = lt-ltb (length k) 2 h in record { outcome = rw e; bytes = rw e }
+  -- the head is refused
+  pub dispatch-stopped : (n : ℕ) → refusal (headChecks k) ≡ some n → Classed (Refused n) l
+  dispatch-stopped n e =
+      let z : refusal (classChecks (card l) k) ≡ some n = refusal-append (headChecks k) (numberChecks (card l) k) ∙ rw e in
+      record { outcome = rw z; bytes = rw z }
 
-  module _ (two : 2 ≤ length k) where
-    pub dispatch-class : (leAt 1 k 0 ≡ controlClass → ⊥) → Classed (Refused 13) l
-    dispatch-class h =
-        let e = le-ltb (length k) 2 two in
-        let f = ne-eqb (leAt 1 k 0) controlClass h in
-        record { outcome = rw (e, f); bytes = rw (e, f) }
-
-    pub dispatch-run : leAt 1 k 0 ≡ controlClass → (r : Outcome) (l′ : List ℕ) → Chosen r l′ → Classed r l′
-    dispatch-run h r l′ x =
-        let e = le-ltb (length k) 2 two in
-        let f = eq-eqb (leAt 1 k 0) controlClass h in
-        record { outcome = rw (e, f) (x .outcome); bytes = rw (e, f) (x .bytes) }
+  -- it is not
+  pub dispatch-passed : refusal (headChecks k) ≡ none → (r : Outcome) (l′ : List ℕ) → Chosen r l′ → Classed r l′
+  dispatch-passed e r l′ x =
+      let z : refusal (classChecks (card l) k) ≡ refusal (numberChecks (card l) k) =
+      refusal-append (headChecks k) (numberChecks (card l) k) ∙ rw e in
+      record { outcome = rw z (x .outcome); bytes = rw z (x .bytes) }
 
 -- ---- the call
 

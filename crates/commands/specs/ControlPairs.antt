@@ -24,8 +24,8 @@ use Rattle.tables.specs.Limits.{qpCount, mostWaiting}
 use Rattle.tables.specs.Objects.{pd-below, cq-below, qp-below, qp-live, qp-row}
 use Rattle.tables.specs.Records.{Command}
 use Rattle.tables.specs.Search.{freeQpn}
-use Rattle.tables.specs.Stores.{Fits, card-qp, card-waiting, pd-kept, cq-kept, receives-kept}
-use Rattle.tables.specs.WaitingLaws.{waiting-fits, pair-sound}
+use Rattle.tables.specs.Stores.{Fits, card-qp, card-waiting, pd-kept, cq-kept, receives-kept, qp-fits, waiting-fits}
+use Rattle.tables.specs.WaitingLaws.{pair-sound}
 use Rattle.tables.specs.declared.CreateQp.{CreateQp}
 use Rattle.tables.specs.declared.ModifyQp.{ModifyQp}
 use Rattle.tables.specs.declared.QueuePair.{QueuePair}
@@ -34,10 +34,6 @@ use Rattle.tables.specs.declared.WaitingHead.{WaitingHead}
 use Rattle.rules.specs.Control.{commandChecks, commandEffect, isMove, moved, stateBit, destBit}
 use Rattle.rules.specs.Bytes.{commandBytes, newPair, noPair, noneWait, movedPair, movedHead}
 use Rattle.commands.specs.ControlEffect.{Kept}
-
-pub pair-fits : (l : List ℕ) (n : ℕ) → Fits qpT (rowAt qpT l n)
-unfolding rowAt qpT fieldsAt
-pair-fits l n = fieldsAt-fit _ l _
 
 module _ (l : List ℕ) (ok : Accepted l) where
   pub destroy-qp : (q : ℕ) → refusal (commandChecks (card l) (Command.destroyQp q)) ≡ none → Kept l (Command.destroyQp q)
@@ -220,7 +216,7 @@ module _ (l : List ℕ) (ok : Accepted l) where
     moved-fits : Fits qpT p′
     unfolding qpT Fit
     moved-fits =
-        let f = pair-fits l q in
+        let f = qp-fits l q in
         let s = state-small in
         (f .0, (f .1 .0, (f .1 .1 .0, (f .1 .1 .1 .0, (f .1 .1 .1 .1 .0, (omega arith, (by (eqb t 0) (eqb t 2) (λ x. named x .0) (f .1 .1 .1 .1 .1 .1 .0), tt)))))))
       where

@@ -1,7 +1,8 @@
-// Control commands: document 01, "Control commands". Definitions: specs/Control.antt.
+// Control commands: document 01, "Control commands". Rules: rules/specs/Control.antt; contracts: specs/Control.antt.
 use crate::control_qp;
 use rules::Answer;
 use tables::Ack;
+use tables::HeadRead;
 use tables::NumberRead;
 use tables::QueueHead;
 use tables::Region;
@@ -42,8 +43,6 @@ pub enum Outcome {
     Refused(u8),
     Done(Ack),
 }
-
-const CONTROL_CLASS: u8 = 6;
 
 const ACK_LEAST: usize = 13;
 
@@ -255,13 +254,10 @@ fn dispatch(state: &mut [u8], command: &[u8]) -> Outcome
     requires { ⌜ (accepts (now state) ≡ true) × (length (now state) ≡ image) ⌝ }
     ensures { λ r. ⌜ Dispatched (classChecks (card (now (state .entry))) (now (command .entry))) (now (state .entry)) (now (command .entry)) r (now (state .exit)) ⌝ }
 {
-    if command.len() < 2 {
-        return Outcome::Refused(1);
+    match records::read_head(command) {
+        HeadRead::Number(n) => run(state, command, n),
+        HeadRead::Refused(n) => Outcome::Refused(n),
     }
-    if wire::get8(command, 0) != CONTROL_CLASS {
-        return Outcome::Refused(13);
-    }
-    run(state, command, wire::get8(command, 1))
 }
 
 fn ack_of(o: Outcome) -> Ack

@@ -1,4 +1,4 @@
-// Control commands of queue pairs: document 01, "Control commands". Definitions: specs/Control.antt.
+// Control commands of queue pairs: document 01, "Control commands". Rules: rules/specs/Control.antt; contracts: specs/Control.antt.
 use crate::control::Outcome;
 use tables::Ack;
 use tables::CreateQp;

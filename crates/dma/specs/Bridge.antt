@@ -1,6 +1,6 @@
 -- What the code asks of a byte, by a domain and a mask, is the rules' permission of a queue pair for a use; and the place that it finds
 -- for a byte that passes is the rules' place. Assumes nothing.
-use mathlib.Core.Path.{_≡_, refl, ap₂}
+use mathlib.Core.Path.{_≡_, refl, ap₂, _∙_}
 use mathlib.Core.Bool.{Bool, true, false, cond, _&&_, false≢true}
 use mathlib.Core.List.{List, [], _∷_, map}
 use mathlib.Core.Option.{Option, none, some}
@@ -8,13 +8,15 @@ use Prim.Native.Nat.{ℕ, _+_, _*_, _/_, _≤_}
 use lib.Dec.{eqb, leb, ltb}
 use Rattle.wire.specs.Scan.{all, and-left, and-right}
 use Rattle.tables.specs.Card.{Card}
+use Rattle.tables.specs.Image.{card}
 use Rattle.tables.specs.Limits.{mostMessage}
 use Rattle.tables.specs.declared.Registration.{Registration}
 use Rattle.tables.specs.declared.Sge.{Sge}
-use Rattle.rules.specs.Permit.{Use, granted, lookup, covers, permits, permitsAll, place, placeIn}
+use Rattle.rules.specs.Permit.{Use, granted, lookup, covers, permits, permitsAll, place, placeIn, NeverPast}
 use Rattle.rules.specs.Touch.{Byte, byteOf, sgeBytes, sgeTotal}
 use Rattle.dma.specs.Grants.{slotOf, matches, grants, within, serves, allows, allowsAll, locate}
 use Rattle.dma.specs.Ranges.{permitted-mapped-all}
+use Rattle.dma.specs.Inside.{permitted-word}
 use Rattle.dma.specs.Moves.{Message}
 
 -- the access bit of a use, 0 for none
@@ -48,6 +50,10 @@ module _ (c : Card) (q : ℕ) (u : Use) (b : Byte) where
   pub allowed : allows c (c .qp q .pd) (maskOf u) b ≡ permits c q u b
   unfolding allows serves matches within permits lookup
   allowed = rw (granted-mask u (g .access)) (where-found (slotOf (c .mr) (b .key) .live && eqb (256 * (b .key / 256) + slotOf (c .mr) (b .key) .variant) (b .key)))
+
+pub never-past : NeverPast
+unfolding NeverPast
+never-past l q u b ok e = permitted-word l ok (card l .qp q .pd) (maskOf u) b (allowed (card l) q u b ∙ e)
 
 pub allowed-all : (c : Card) (q : ℕ) (u : Use) (bs : List Byte) → allowsAll c (c .qp q .pd) (maskOf u) bs ≡ permitsAll c q u bs
 unfolding all permitsAll

@@ -1,5 +1,5 @@
 // How a request's bytes are moved: all source bytes are read, into a staging array, before any is written. Who may move them is not asked
-// here: each byte lies in a live region.
+// here, only that each byte lies in a live region.
 use tables::Sge;
 use tables::image;
 ghost use mathlib.Core.Path.{_≡_};

@@ -22,7 +22,7 @@ use Rattle.tables.specs.Limits.{cqCount, qpCount, mostPlaces, mostWaiting}
 use Rattle.tables.specs.Objects.{qp-live, qp-out, cq-live, cq-below}
 use Rattle.tables.specs.Queue.{pushPlace, longer, pushBytes, takeBytes}
 use Rattle.tables.specs.QueueLaws.{queue-sound, push-card, push-accepted}
-use Rattle.tables.specs.Stores.{Fits}
+use Rattle.tables.specs.Stores.{Fits, receive-fits}
 use Rattle.tables.specs.WaitingLaws.{pair-sound, first-is, take-card, take-accepted}
 use Rattle.tables.specs.declared.Completion.{Completion}
 use Rattle.tables.specs.declared.QueueHead.{QueueHead}
@@ -50,10 +50,6 @@ push-other t o c l n e k b h =
     let z : pushPlace q < mostPlaces = mod-lt (q .first + q .count) (omega arith) in
     table-other cqT t c (putRow entryT l (mostPlaces * n + pushPlace q) e) n (longer q) k b h
     ∙ table-other entryT t o l (mostPlaces * n + pushPlace q) e k (omega arith) h
-
-receive-fits : (l : List ℕ) (n : ℕ) → Fits receiveT (rowAt receiveT l n)
-unfolding rowAt receiveT fieldsAt
-receive-fits l n = fieldsAt-fit _ l _
 
 -- the completion of a flushed receive
 abbrev pub flushedEntry : ReceiveRecord → (q : ℕ) → Completion

@@ -153,7 +153,7 @@ carried c s x own far n m =
     cond (isInline s) (stored m (places c far) (inlinePart x))
     (cond (reads (s .opcode)) (moved m (places c far) (places c own)) (moved m (places c own) (places c far)))
 
--- what steps 4 to 6 ask of a message of n bytes
+-- what steps 3 to 6 ask of a message of n bytes
 pub record Sending (s : SendRecord) (x : List ℕ) (sges : List Sge) (n : ℕ) : Type 0 where
   pub plain : isInline s ≡ false → s .count ≤ 4
   pub total : totalBy s sges ≡ n
@@ -166,7 +166,7 @@ statusIn l e s sges w n =
     statusBy (fills (s .opcode)) true (allowsAll (card l) (e .own .pd) (ownMask (s .opcode)) (ownBy s sges)) (leb n (sgeTotal (receiveSges w)))
     (allowsAll (card l) (e .far .pd) (farMask (s .opcode)) (sgeBytes (farList s w n)))
 
--- steps 4 to 6 give the status st and leave the memory m′
+-- steps 3 to 6 give the status st and leave the memory m′
 pub record Delivery (l m : List ℕ) (e : Ends) (s : SendRecord) (x : List ℕ) (sges : List Sge) (w : ReceiveRecord) (n st : ℕ) (m′ : List ℕ) : Type 0 where
   pub status : st ≡ statusIn l e s sges w n
   pub memory : m′ ≡ cond (eqb st 0) (carried (card l) s x (take (s .count) sges) (farList s w n) n m) m

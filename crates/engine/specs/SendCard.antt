@@ -22,7 +22,7 @@ use Rattle.tables.specs.Limits.{cqCount, qpCount, mostPlaces, mostWaiting}
 use Rattle.tables.specs.Objects.{cq-is, cq-below, qp-below, qp-live, qp-row}
 use Rattle.tables.specs.Queue.{pushBytes}
 use Rattle.tables.specs.QueueLaws.{queue-is, push-card, push-accepted}
-use Rattle.tables.specs.Stores.{Fits, card-qp}
+use Rattle.tables.specs.Stores.{Fits, card-qp, qp-fits}
 use Rattle.tables.specs.WaitingLaws.{pair-sound, waiting-is, take-card, take-accepted}
 use Rattle.tables.specs.declared.QueuePair.{QueuePair}
 use Rattle.rules.specs.Lists.{isEmpty}
@@ -82,14 +82,10 @@ push-all (p ∷ ps) l ok can =
 
 -- ---- a queue pair in error
 
-pair-fits : (l : List ℕ) (n : ℕ) → Fits qpT (rowAt qpT l n)
-unfolding rowAt qpT fieldsAt
-pair-fits l n = fieldsAt-fit _ l _
-
 erring-fits : (l : List ℕ) (n : ℕ) → Fits qpT (erring (rowAt qpT l n))
 unfolding qpT Fit
 erring-fits l n =
-    let g = pair-fits l n in
+    let g = qp-fits l n in
     (g .0, (g .1 .0, (g .1 .1 .0, (g .1 .1 .1 .0, (g .1 .1 .1 .1 .0, (omega arith, (g .1 .1 .1 .1 .1 .1 .0, tt)))))))
 
 erring-ok : (n : ℕ) (p : QueuePair) → pairOk n p ≡ true → pairOk n (erring p) ≡ true

@@ -20,7 +20,7 @@ use Rattle.tables.specs.Layout.{receiveT, waitingT}
 use Rattle.tables.specs.Limits.{mostWaiting}
 use Rattle.tables.specs.Objects.{qp-below}
 use Rattle.tables.specs.Records.{sendCodec, sendChecks, sendRead, sendReadBy}
-use Rattle.tables.specs.Stores.{Fits}
+use Rattle.tables.specs.Stores.{Fits, receive-fits}
 use Rattle.tables.specs.WaitingLaws.{first-is}
 use Rattle.tables.specs.declared.SendRead.the-variants as send
 use Rattle.rules.specs.Answer.{answered}
@@ -39,10 +39,6 @@ use Rattle.engine.specs.SendCard.{Stands, CanAll, Open, opened, push-all
 use Rattle.engine.specs.SendLimits.{Going, going, sender-can, can-all}
 
 -- ---- the card
-
-receive-fits : (l : List ℕ) (n : ℕ) → Fits receiveT (rowAt receiveT l n)
-unfolding rowAt receiveT fieldsAt
-receive-fits l n = fieldsAt-fit _ l _
 
 pub send-fits : (x : List ℕ) → sendCodec .Fits (sendCodec .read x 0)
 unfolding sendCodec fieldsAt

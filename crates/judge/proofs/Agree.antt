@@ -28,7 +28,7 @@ use Rattle.rules.specs.declared.Answer.the-variants.{Done}
 use Rattle.rules.proofs.Variants.{next-small}
 use Rattle.rules.proofs.Tests.{passed-before, passed-after}
 use Rattle.judge.specs.Log.{Log, Note, noteCommand, ackData, fed}
-use Rattle.judge.specs.Judge.{Standing, standing, standingBy, domain, domainBy, peer, peerBy, accepted, acceptedBy, taken, takenBy}
+use Rattle.judge.specs.Judge.{Standing, standing, standingBy, domain, domainBy, peer, peerBy, accepted, acceptedBy, taken, takenCountBy}
 use Rattle.judge.proofs.Acks.{one-number, three-numbers}
 use Rattle.judge.proofs.Keys
 use Rattle.judge.proofs.Keys.{Keys}
@@ -47,7 +47,7 @@ Agree c l = Agreed (c .memory) (c .mr) (c .qp) (standing l) (said l)
 abbrev pub Noted : Card → Note → Log → Type 0
 Noted c n l =
     Agreed (c .memory) (c .mr) (c .qp) (λ k. standingBy n k (standing l k))
-    (λ q. record { domain = domainBy n q (domain l q); peer = peerBy n q (peer l q); accepted = acceptedBy n q (accepted l q); taken = takenBy n (peer l) q (taken l q) })
+    (λ q. record { domain = domainBy n q (domain l q); peer = peerBy n q (peer l q); accepted = acceptedBy n q (accepted l q); taken = takenCountBy n (peer l) q (taken l q) })
 
 -- ---- control commands
 

@@ -1,4 +1,4 @@
--- No request writes into another domain's region or reads from one. Assumes nothing.
+-- A byte in no region of the written side's domain keeps its value; a message comes out of regions of the read side's. Assumes nothing.
 use mathlib.Core.Path.{_≡_, refl, sym, ap, _∙_}
 use mathlib.Core.Logic.{_≢_, _⊎_, inl, inr}
 use mathlib.Core.Bool.{Bool, true, false, _&&_, true≢false}
@@ -13,13 +13,14 @@ use borrow.Author.Tests.{eqb-true, leb-true, ltb-true}
 use Rattle.wire.specs.Scan.{and-left, and-right}
 use Rattle.tables.specs.Card.{Card}
 use Rattle.rules.specs.Touch.{Request, Byte, total, byteOf}
-use Rattle.rules.specs.Send.{sendMemory}
+use Rattle.rules.specs.Send.{sendStatus, sendMemory}
 use Rattle.judge.specs.Log.{Log}
 use Rattle.judge.specs.Judge.{Right, Standing, standing, domain, grants, passes, passesBy, placed, placeBy, judge}
-use Rattle.judge.specs.Demand3.{Bytewise, target}
-use Rattle.judge.specs.Apart.{writer, writeRight, targetByte, reader, readRight, sourceByte, Owned, Reason, Apart, DomainsApart}
+use Rattle.judge.specs.Demand3.{Correct, Bytewise, target}
+use Rattle.judge.specs.Apart.{writtenSide, writeRight, targetByte, readSide, readRight, sourceByte, Covered, Reason, Apart, DomainsApart}
 use Rattle.judge.proofs.Agree.{Agree, Sendable}
-use Rattle.judge.proofs.Bytes.{target-passes, source-passes, bytewise}
+use Rattle.judge.proofs.Bytes.{target-passes, source-passes, on-success, correct-bytes}
+use Rattle.judge.proofs.Demand3.{correct}
 use Rattle.judge.proofs.Run.{every}
 
 -- ---- a number below n where f is x, or none
@@ -45,12 +46,12 @@ find f x (suc n) = go (find f x n) (ℕ-discrete (f n) x)
 -- ---- what a byte that passes stands on
 
 module _ (l : Log) (x : ℕ) (u : Right) (b : Byte) (p : ℕ) where
-  owned : passes l x u b ≡ true → placed l b ≡ p → Owned l x b p
+  covered : passes l x u b ≡ true → placed l b ≡ p → Covered l x b p
   unfolding passes placed byteOf
-  owned = go (standing l (b .key)) refl (domain l x) refl
+  covered = go (standing l (b .key)) refl (domain l x) refl
     where
       go : (o : Option Standing) → standing l (b .key) ≡ o → (d : Option ℕ) → domain l x ≡ d →
-          passesBy o d u (b .address) ≡ true → placeBy o (b .address) ≡ p → Owned l x b p
+          passesBy o d u (b .address) ≡ true → placeBy o (b .address) ≡ p → Covered l x b p
       go none e d f y z = absurd (true≢false (sym y))
       go (some h) e none f y z = absurd (true≢false (sym y))
       go (some h) e (some d) f y z =
@@ -63,7 +64,7 @@ module _ (l : Log) (x : ℕ) (u : Right) (b : Byte) (p : ℕ) where
           let at : h .reg .start + (b .address - h .reg .virt) ≡ p = z in
           record {
             reg = h;
-            held = record {
+            covers = record {
               stands = e;
               same = f ∙ ap some (sym (eqb-true (h .reg .pd) d (and-left s t (and-left (s && t) v (and-left (s && t && v) w y)))));
               address = (low, high);
@@ -71,45 +72,54 @@ module _ (l : Log) (x : ℕ) (u : Right) (b : Byte) (p : ℕ) where
             };
           }
 
-module _ (l : Log) (q : ℕ) (r : Request) (m m′ : List ℕ) (k : Bytewise l q r m m′)
-    (reasons : judge l q r ≡ true → (p i : ℕ) → i < total r → target l q r i ≡ p → Reason l q r p)
-    (sources : judge l q r ≡ true → r .inline ≡ false → (i : ℕ) → i < total r →
-    Owned l (reader l q r) (sourceByte l q r i) (placed l (sourceByte l q r i))) where
-  apart-bytes : Apart l q r m m′
-  apart-bytes =
-      record { changed = λ p d. changed p d (judge l q r) refl; spared = λ p f. spared p f (judge l q r) refl; read = sources }
+module _ (l : Log) (q : ℕ) (r : Request) (s : ℕ) (m m′ : List ℕ) (k : Correct l q r s m m′) (small : r .opcode ≤ 4)
+    (plain : r .inline ≡ true → eqb (r .opcode) 4 ≡ false) where
+  bytes : Bytewise l q r s m m′
+  bytes = correct-bytes l q r s m m′ k small plain
+
+  reason : s ≡ 0 → (p i : ℕ) → i < total r → target l q r i ≡ p → Reason l q r p
+  unfolding target
+  reason z p i h e =
+      let t = target-passes l q r (on-success l q r s m m′ k small plain z) small plain i h in
+      record { i = i; below = h; is = e; passed = t; covered = covered l (writtenSide l q r) (writeRight (r .opcode)) (targetByte l q r i) p t e }
+
+  kept : s ≢ 0 → (p : ℕ) → getD m′ p 0 ≡ getD m p 0
+  kept z p = ap (λ (x : List ℕ). getD x p 0) (bytes .failed z)
+
+  changed : (p : ℕ) → getD m′ p 0 ≢ getD m p 0 → Dec (s ≡ 0) → Reason l q r p
+  changed p d (yes z) = go (find (target l q r) p (total r))
     where
-      kept : judge l q r ≡ false → (p : ℕ) → getD m′ p 0 ≡ getD m p 0
-      kept e p = ap (λ (x : List ℕ). getD x p 0) (k .failed e)
+      go : Found (target l q r) p (total r) ⊎ ((i : ℕ) → i < total r → target l q r i ≢ p) → Reason l q r p
+      go (inl y) = reason z p (y .i) (y .below) (y .is)
+      go (inr g) = absurd (d (bytes .others z p g))
+  changed p d (no z) = absurd (d (kept z p))
 
-      changed : (p : ℕ) → getD m′ p 0 ≢ getD m p 0 → (v : Bool) → judge l q r ≡ v → Reason l q r p
-      changed p d true e = go (find (target l q r) p (total r))
-        where
-          go : Found (target l q r) p (total r) ⊎ ((i : ℕ) → i < total r → target l q r i ≢ p) → Reason l q r p
-          go (inl y) = reasons e p (y .i) (y .below) (y .is)
-          go (inr g) = absurd (d (k .others e p g))
-      changed p d false e = absurd (d (kept e p))
+  spared : (p : ℕ) →
+      ((n : ℕ) (h : Standing) → standing l n ≡ some h → domain l (writtenSide l q r) ≡ some (h .reg .pd) → h .reg .start ≤ p → p < h .reg .start + h .reg .length → ⊥) →
+      Dec (s ≡ 0) → getD m′ p 0 ≡ getD m p 0
+  spared p f (yes z) =
+      bytes .others z p
+      (λ i b x.
+      let y = reason z p i b x .covered in
+      f (targetByte l q r i .key) (y .reg) (y .covers .stands) (y .covers .same) (y .covers .place .0) (y .covers .place .1))
+  spared p f (no z) = kept z p
 
-      spared : (p : ℕ) →
-          ((n : ℕ) (h : Standing) → standing l n ≡ some h → domain l (writer l q r) ≡ some (h .reg .pd) → h .reg .start ≤ p → p < h .reg .start + h .reg .length → ⊥) →
-          (v : Bool) → judge l q r ≡ v → getD m′ p 0 ≡ getD m p 0
-      spared p f true e =
-          k .others e p
-          (λ i b x. let y = reasons e p i b x in f (targetByte l q r (y .i) .key) (y .owned .reg) (y .owned .held .stands) (y .owned .held .same) (y .owned .held .place .0) (y .owned .held .place .1))
-      spared p f false e = kept e p
+  apart-bytes : Apart l q r s m m′
+  apart-bytes =
+      record {
+        changed = λ p d. changed p d (ℕ-discrete s 0);
+        spared = λ p f. spared p f (ℕ-discrete s 0);
+        read =
+            λ z f i h.
+            (let t = source-passes l q r (on-success l q r s m m′ k small plain z) small plain i h f in
+            (t, covered l (readSide l q r) (readRight (r .opcode)) (sourceByte l q r i) (placed l (sourceByte l q r i)) t refl));
+      }
 
-pub apart : (c : Card) (l : Log) (a : Agree c l) (q : ℕ) (r : Request) (m : List ℕ) → Sendable c q r m → Apart l q r m (sendMemory c q r m)
-unfolding target
-apart c l a q r m s =
-    apart-bytes l q r m (sendMemory c q r m) (bytewise c l a q r m s)
-    (λ j p i h e.
-    let t = target-passes l q r j (s .opcode) (s .inline) i h in
-    record { i = i; below = h; is = e; passed = t; owned = owned l (writer l q r) (writeRight (r .opcode)) (targetByte l q r i) p t e })
-    (λ j f i h.
-    owned l (reader l q r) (readRight (r .opcode)) (sourceByte l q r i) (placed l (sourceByte l q r i))
-    (source-passes l q r j (s .opcode) (s .inline) i h f) refl)
+pub apart : (c : Card) (l : Log) (a : Agree c l) (q : ℕ) (r : Request) (m : List ℕ) → Sendable c q r m →
+    Apart l q r (sendStatus c q r) m (sendMemory c q r m)
+apart c l a q r m p = apart-bytes l q r (sendStatus c q r) m (sendMemory c q r m) (correct c l a q r m p) (p .opcode) (p .inline)
 
 module _ (cardOf : List ℕ → Card) (accepts : List ℕ → Bool) where
   pub domains-apart : DomainsApart cardOf accepts
   unfolding DomainsApart
-  domains-apart st n x e h d xs links = every cardOf accepts st n x e h d (λ l q r s m m′. Apart l q r m m′) apart xs links
+  domains-apart st n x e h d xs links = every cardOf accepts st n x e h d Apart apart xs links

@@ -8,7 +8,7 @@ use native.Mathlib.Omega.{arith}
 use lib.Dec.{eqb, leb}
 use lib.ListN.{length, getD, take}
 use lib.Seq.{length-take-le}
-use borrow.Author.Tests.{leb-true}
+use borrow.Author.Tests.{leb-true, eq-eqb, ne-eqb}
 use Rattle.wire.specs.Scan.{and-left, and-right, all}
 use Rattle.tables.specs.Limits.{mostMessage}
 use Rattle.tables.specs.Card.{Card, Receive}
@@ -19,7 +19,7 @@ use Rattle.rules.proofs.Stored.{stored-length, stored-other, stored-last, map-l
 use Rattle.judge.specs.Log.{Log}
 use Rattle.judge.specs.Judge.{Right, passes, placed, peerNo, oldestAt, ownRight, farRight, fitsReceive, judge, judgedMemory}
 use Rattle.judge.specs.Demand3.{Correct, Bytewise, noByte, target, source, Demand3Bytes}
-use Rattle.judge.specs.Apart.{writer, writeRight, targetByte, reader, readRight, sourceByte}
+use Rattle.judge.specs.Apart.{writtenSide, writeRight, targetByte, readSide, readRight, sourceByte}
 use Rattle.judge.proofs.Rights.{same-fills}
 use Rattle.judge.proofs.Agree.{Agree, Sendable}
 use Rattle.judge.proofs.Demand3.{correct}
@@ -92,7 +92,7 @@ module _ (l : Log) (q : ℕ) (r : Request) (ok : judge l q r ≡ true) (small : 
       go true = far-length
       go false = own-length r h
 
-  pub target-passes : (i : ℕ) → i < total r → passes l (writer l q r) (writeRight (r .opcode)) (targetByte l q r i) ≡ true
+  pub target-passes : (i : ℕ) → i < total r → passes l (writtenSide l q r) (writeRight (r .opcode)) (targetByte l q r i) ≡ true
   target-passes i h = go (reads (r .opcode)) targets-length
     where
       go : (b : Bool) → length (cond b (ownBytes r) (farBytes r w)) ≡ total r →
@@ -100,7 +100,7 @@ module _ (l : Log) (q : ℕ) (r : Request) (ok : judge l q r ≡ true) (small : 
       go true n = all-at (passes l q (ownRight (r .opcode))) (ownBytes r) i noByte (omega arith) own-passes
       go false n = all-at (passes l (peerNo l q) (farRight (r .opcode))) (farBytes r w) i noByte (omega arith) far-passes
 
-  pub source-passes : (i : ℕ) → i < total r → r .inline ≡ false → passes l (reader l q r) (readRight (r .opcode)) (sourceByte l q r i) ≡ true
+  pub source-passes : (i : ℕ) → i < total r → r .inline ≡ false → passes l (readSide l q r) (readRight (r .opcode)) (sourceByte l q r i) ≡ true
   source-passes i h plain = go (reads (r .opcode)) (sources-length plain)
     where
       go : (b : Bool) → length (cond b (farBytes r w) (ownBytes r)) ≡ total r →
@@ -139,7 +139,7 @@ module _ (l : Log) (q : ℕ) (r : Request) (ok : judge l q r ≡ true) (small : 
 
     target-inside : (i : ℕ) → i < total r → target l q r i < length m
     unfolding target
-    target-inside i h = inside (writer l q r) (writeRight (r .opcode)) (targetByte l q r i) (target-passes i h) .0
+    target-inside i h = inside (writtenSide l q r) (writeRight (r .opcode)) (targetByte l q r i) (target-passes i h) .0
 
     written : (i : ℕ) → i < total r → ((j : ℕ) → i < j → j < total r → target l q r j ≢ target l q r i) →
         getD (stored m places values) (target l q r i) 0 ≡ source l q r m i
@@ -157,13 +157,20 @@ module _ (l : Log) (q : ℕ) (r : Request) (ok : judge l q r ≡ true) (small : 
 
 module _ (l : Log) (q : ℕ) (r : Request) (s : ℕ) (m m′ : List ℕ) (k : Correct l q r s m m′) (small : r .opcode ≤ 4)
     (plain : r .inline ≡ true → eqb (r .opcode) 4 ≡ false) where
-  pub correct-bytes : Bytewise l q r m m′
+  -- the status tells the verdict
+  pub on-success : s ≡ 0 → judge l q r ≡ true
+  on-success e = sym (k .verdict) ∙ eq-eqb s 0 e
+
+  on-failure : s ≢ 0 → judge l q r ≡ false
+  on-failure e = sym (k .verdict) ∙ ne-eqb s 0 e
+
+  pub correct-bytes : Bytewise l q r s m m′
   unfolding judgedMemory delivered
   correct-bytes =
       record {
-        written = λ j i h last. rw (k .memory, j) (written l q r j small plain m (k .inside) i h last);
-        others = λ j x h. rw (k .memory, j) (others l q r j small plain m (k .inside) x h);
-        failed = λ j. rw (k .memory, j);
+        written = λ z i h last. let j = on-success z in rw (k .memory, j) (written l q r j small plain m (k .inside) i h last);
+        others = λ z x h. let j = on-success z in rw (k .memory, j) (others l q r j small plain m (k .inside) x h);
+        failed = λ z. rw (k .memory, on-failure z);
         sized = ap length (k .memory) ∙ go (judge l q r);
       }
     where
@@ -171,10 +178,10 @@ module _ (l : Log) (q : ℕ) (r : Request) (s : ℕ) (m m′ : List ℕ) (k : Co
       go true = stored-length m _ _
       go false = refl
 
-pub bytewise : (c : Card) (l : Log) (a : Agree c l) (q : ℕ) (r : Request) (m : List ℕ) → Sendable c q r m → Bytewise l q r m (sendMemory c q r m)
+pub bytewise : (c : Card) (l : Log) (a : Agree c l) (q : ℕ) (r : Request) (m : List ℕ) → Sendable c q r m → Bytewise l q r (sendStatus c q r) m (sendMemory c q r m)
 bytewise c l a q r m p = correct-bytes l q r (sendStatus c q r) m (sendMemory c q r m) (correct c l a q r m p) (p .opcode) (p .inline)
 
 module _ (cardOf : List ℕ → Card) (accepts : List ℕ → Bool) where
   pub demand3-bytes : Demand3Bytes cardOf accepts
   unfolding Demand3Bytes
-  demand3-bytes st n x e h d xs links = every cardOf accepts st n x e h d (λ l q r s m m′. Bytewise l q r m m′) bytewise xs links
+  demand3-bytes st n x e h d xs links = every cardOf accepts st n x e h d Bytewise bytewise xs links

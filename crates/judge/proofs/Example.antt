@@ -113,6 +113,11 @@ pub register-read : commandOf registerBytes
 unfolding fieldsAt leAt commandOf numberCodec registerCodec createQpCodec modifyQpCodec
 register-read = refl
 
+-- one number
+pub number-read : commandOf (6 ∷ 2 ∷ 1 ∷ 2 ∷ 3 ∷ 4 ∷ []) ≡ Command.createCq 67305985
+unfolding fieldsAt leAt commandOf numberCodec registerCodec createQpCodec modifyQpCodec
+number-read = refl
+
 -- pdn, type, signal, 2 ignored, send cqn, receive cqn
 pub create-read : commandOf (6 ∷ 9 ∷ 1 ∷ 0 ∷ 0 ∷ 0 ∷ 2 ∷ 3 ∷ 99 ∷ 99 ∷ 4 ∷ 0 ∷ 0 ∷ 0 ∷ 5 ∷ 0 ∷ 0 ∷ 0 ∷ [])
     ≡ Command.createQp (record { pd = 1; kind = 2; signal = 3; scq = 4; rcq = 5 })

@@ -19,7 +19,7 @@ told st x h = ap answerIn (h .code) ∙ code-back card accepts st (x .call)
 met : (st : List ℕ) (x : Returned) → Kept st x → Met card accepts st (seen x)
 met st x h = rw (told st x h) (h .owes .meets)
 
-linked : (st : List ℕ) (xs : List Returned) → Chained st xs → Linked card accepts st (map seen xs)
+pub linked : (st : List ℕ) (xs : List Returned) → Chained st xs → Linked card accepts st (map seen xs)
 unfolding Chained Linked
 linked st [] h = tt
 linked st (x ∷ xs) h = (met st x (h .0), linked (x .state) xs (h .1))

@@ -17,7 +17,7 @@ use Rattle.judge.proofs.Demand3.{correct}
 use Rattle.judge.proofs.Run.{demand3, resumed, steady}
 use Rattle.judge.proofs.Bytes.{bytewise, demand3-bytes}
 use Rattle.judge.proofs.Apart.{apart, domains-apart}
-use Rattle.judge.proofs.Exported.{of-exports}
+use Rattle.judge.proofs.Exported.{linked, of-exports}
 use Rattle.judge.proofs.Count.{counted}
 
 accepted-length : (l : List ℕ) → accepts l ≡ true → eqb (length l) image ≡ true
@@ -31,7 +31,8 @@ whole = record {
   resumed = resumed card accepts;
   steady = steady card accepts accepted-length;
   counted = counted card accepts;
+  links = linked;
   exported = of-exports Correct correct;
-  exported-bytes = of-exports (λ l q r s m m′. Bytewise l q r m m′) bytewise;
-  exported-apart = of-exports (λ l q r s m m′. Apart l q r m m′) apart;
+  exported-bytes = of-exports Bytewise bytewise;
+  exported-apart = of-exports Apart apart;
 }

@@ -42,14 +42,14 @@ target l q r i = placed l (getD (targetBytes r (oldestAt l q)) i noByte)
 unfoldable pub source : Log → (q : ℕ) → Request → (m : List ℕ) → (i : ℕ) → ℕ
 source l q r m i = cond (r .inline) (getD (r .bytes) i 0) (getD m (placed l (getD (sourceBytes r (oldestAt l q)) i noByte)) 0)
 
-pub record Bytewise (l : Log) (q : ℕ) (r : Request) (m m′ : List ℕ) : Type 0 where
+pub record Bytewise (l : Log) (q : ℕ) (r : Request) (s : ℕ) (m m′ : List ℕ) : Type 0 where
   -- "On success each byte written takes the value its source had before the call, the later piece winning,"
-  pub written : judge l q r ≡ true → (i : ℕ) → i < total r → ((j : ℕ) → i < j → j < total r → target l q r j ≢ target l q r i) →
+  pub written : s ≡ 0 → (i : ℕ) → i < total r → ((j : ℕ) → i < j → j < total r → target l q r j ≢ target l q r i) →
       getD m′ (target l q r i) 0 ≡ source l q r m i
   -- "and no other changes;"
-  pub others : judge l q r ≡ true → (x : ℕ) → ((i : ℕ) → i < total r → target l q r i ≢ x) → getD m′ x 0 ≡ getD m x 0
+  pub others : s ≡ 0 → (x : ℕ) → ((i : ℕ) → i < total r → target l q r i ≢ x) → getD m′ x 0 ≡ getD m x 0
   -- "on failure none does"
-  pub failed : judge l q r ≡ false → m′ ≡ m
+  pub failed : s ≢ 0 → m′ ≡ m
   pub sized : length m′ ≡ length m
 
 -- ---- lists of calls
@@ -62,7 +62,7 @@ pub record Seen : Type 0 where
   pub memory : List ℕ
   pub buffer : List ℕ
 
--- P of every work request of the list that is neither refused nor held, with the log before it
+-- a claim of a work request: the log before it, its queue pair, the request, its status, the memory before and after
 abbrev pub Sent : Type 1
 Sent = Log → (q : ℕ) → Request → (s : ℕ) → (m m′ : List ℕ) → Type 0
 
@@ -79,6 +79,7 @@ OfAnswer P (Done s) k l m′ = OfCall P k l s m′
 OfAnswer P (Held c) k l m′ = Unit {0}
 OfAnswer P (Refused n) k l m′ = Unit {0}
 
+-- P of every work request of the list that is neither refused nor held, with the log before it
 unfoldable pub EachSend : Sent → Log → List Seen → Type 0
 EachSend P l [] = Unit {0}
 EachSend P l (x ∷ xs) = OfAnswer P (x .answer) (x .call) l (x .memory) × EachSend P (fed (x .call) (x .answer) (x .buffer) l) xs
@@ -114,7 +115,7 @@ module _ (cardOf : List ℕ → Card) (accepts : List ℕ → Bool) where
   unfoldable pub Demand3Bytes : Type 0
   Demand3Bytes =
       (st : List ℕ) (n : ℕ) (x : Seen) → x .call ≡ Call.reset n → Met st x → x .answer ≡ Done 0 →
-      (xs : List Seen) → Linked (x .state) xs → EachSend (λ l q r s m m′. Bytewise l q r m m′) [] xs
+      (xs : List Seen) → Linked (x .state) xs → EachSend Bytewise [] xs
 
   -- a state that means the card that a list left goes on with the list's log
   unfoldable pub Resumed : Type 0

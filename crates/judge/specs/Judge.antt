@@ -88,19 +88,19 @@ accepted [] q = []
 accepted (e ∷ l) q = acceptedBy (note e) q (accepted l q)
 
 -- "less the oldest, one per flush of it and per post send whose peer it then was (opcode 1 to 3, status 0 or 7) in that time"
-abbrev pub takenBy : Note → (peers : ℕ → Option ℕ) → (q : ℕ) → ℕ → ℕ
-takenBy (Note.registered m i j g) f q n = n
-takenBy (Note.deregistered m) f q n = n
-takenBy (Note.created x p) f q n = cond (eqb x q) 0 n
-takenBy (Note.changed x t d) f q n = cond (eqb x q && eqb t 0) 0 n
-takenBy (Note.received x w) f q n = n
-takenBy (Note.flushed x) f q n = cond (eqb x q) (suc n) n
-takenBy (Note.sent x o s) f q n = cond (names (f x) q && ((leb 1 o && leb o 3) && (eqb s 0 || eqb s 7))) (suc n) n
-takenBy Note.other f q n = n
+abbrev pub takenCountBy : Note → (peers : ℕ → Option ℕ) → (q : ℕ) → ℕ → ℕ
+takenCountBy (Note.registered m i j g) f q n = n
+takenCountBy (Note.deregistered m) f q n = n
+takenCountBy (Note.created x p) f q n = cond (eqb x q) 0 n
+takenCountBy (Note.changed x t d) f q n = cond (eqb x q && eqb t 0) 0 n
+takenCountBy (Note.received x w) f q n = n
+takenCountBy (Note.flushed x) f q n = cond (eqb x q) (suc n) n
+takenCountBy (Note.sent x o s) f q n = cond (names (f x) q && ((leb 1 o && leb o 3) && (eqb s 0 || eqb s 7))) (suc n) n
+takenCountBy Note.other f q n = n
 
 unfoldable pub taken : Log → (q : ℕ) → ℕ
 taken [] q = 0
-taken (e ∷ l) q = takenBy (note e) (peer l) q (taken l q)
+taken (e ∷ l) q = takenCountBy (note e) (peer l) q (taken l q)
 
 unfoldable pub waiting : Log → (q : ℕ) → List Receive
 waiting l q = drop (taken l q) (accepted l q)

@@ -24,7 +24,8 @@ pub record Entry : Type 0 where
 abbrev pub Log : Type 0
 Log = List Entry
 
--- the ack data, read out of the answer buffer after the call by the layout that it was written by
+-- the ack data, read out of the answer buffer after the call by the layout that it was written by; fields that a command does not
+-- write hold what was lent, and no note below reads them
 unfoldable pub ackData : List ℕ → List ℕ
 ackData b = drop 1 (fieldsAt ackFields b 0)
 

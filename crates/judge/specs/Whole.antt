@@ -1,9 +1,11 @@
 -- Demand 3 over the lent state of docs/STATE.md. Assumes nothing.
+use mathlib.Core.List.{List, map}
+use Prim.Native.Nat.{ℕ}
 use Rattle.tables.specs.Accept.{accepts}
 use Rattle.tables.specs.Image.{card}
-use Rattle.judge.specs.Demand3.{Correct, Bytewise, Demand3, Demand3Bytes, Resumed, Steady}
+use Rattle.judge.specs.Demand3.{Correct, Bytewise, Linked, Demand3, Demand3Bytes, Resumed, Steady}
 use Rattle.judge.specs.Apart.{Apart, DomainsApart}
-use Rattle.judge.specs.Exported.{OfExports}
+use Rattle.judge.specs.Exported.{Returned, seen, Chained, OfExports}
 use Rattle.judge.specs.Count.{Counted}
 
 pub record Whole : Type 0 where
@@ -11,7 +13,8 @@ pub record Whole : Type 0 where
   pub judged : Demand3 card accepts
   -- one byte at a time
   pub bytes : Demand3Bytes card accepts
-  -- no byte outside the regions of the writer's domain is written
+  -- no byte outside the regions of the written side's domain changes, and a message that is not inline comes out of regions of the
+  -- read side's domain
   pub apart : DomainsApart card accepts
   -- each work request is judged right from a state that means a card that a list left, too
   pub resumed : Resumed card accepts
@@ -19,7 +22,9 @@ pub record Whole : Type 0 where
   pub steady : Steady card accepts
   -- receives add up
   pub counted : Counted card accepts
-  -- the first three of lists of calls of the exported functions
+  -- a list of calls of the exported functions is a list of which all this is said,
+  pub links : (st : List ℕ) (xs : List Returned) → Chained st xs → Linked card accepts st (map seen xs)
+  -- and so the first three hold of it
   pub exported : OfExports Correct
-  pub exported-bytes : OfExports (λ l q r s m m′. Bytewise l q r m m′)
-  pub exported-apart : OfExports (λ l q r s m m′. Apart l q r m m′)
+  pub exported-bytes : OfExports Bytewise
+  pub exported-apart : OfExports Apart

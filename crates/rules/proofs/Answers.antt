@@ -13,7 +13,9 @@ use Rattle.wire.specs.Checks.{Check, _if_, refusal}
 use Rattle.wire.specs.Fields.{putFields}
 use Rattle.wire.specs.Le.{putLe}
 use Rattle.wire.specs.Scan.{and-left, and-right, both-true, all}
+use Rattle.tables.specs.Accept.{accepts}
 use Rattle.tables.specs.Card.{Card}
+use Rattle.tables.specs.Image.{card}
 use Rattle.tables.specs.Records.{Command, commandOf, sendChecks, receiveChecks, ackFields}
 use Rattle.rules.specs.declared.Cause.the-variants.{Peer, Place}
 use Rattle.rules.specs.declared.Answer.the-variants.{Done, Held, Refused}
@@ -21,9 +23,10 @@ use Rattle.rules.specs.Answer.{number, codeOf, answered, answerIn, isDon
 use Rattle.rules.specs.Control.{commandChecks}
 use Rattle.rules.specs.Send.{deliveryChecks}
 use Rattle.rules.specs.Queues.{joinChecks, flushChecks, pollChecks}
-use Rattle.rules.specs.Call.{Call, memoryOf}
+use Rattle.rules.specs.Call.{Call}
 use Rattle.rules.proofs.Ranges.{all-split}
-use Rattle.rules.specs.Calls.{checks, resetChecks, controlChecks, bufferChecks, settled, step, statusOf, owed, owedChecks, usable, bufferRefused, Result}
+use Rattle.rules.specs.Demand1.{Unchanged, Demand1}
+use Rattle.rules.specs.Calls.{checks, resetChecks, controlChecks, bufferChecks, settled, step, statusOf, owed, owedChecks, usable}
 
 -- ---- a fact of every test's number is one of the refusal's
 
@@ -36,6 +39,20 @@ first-with f (c ∷ cs) n p e = go (c .bad) (first-with f cs n (and-right (f (c 
     go true ih e = let s : c .no ≡ n = cc in subst (λ x. f x ≡ true) s (and-left (f (c .no)) (all (λ x. f (x .no)) cs) p)
     go false ih e = ih e
 
+-- a fact of the six numbers that a command's tests have is one of each test
+module _ (f : ℕ → Bool) (four : f 4 ≡ true) (two : f 2 ≡ true) (eleven : f 11 ≡ true) (three : f 3 ≡ true) (ten : f 10 ≡ true) (eight : f 8 ≡ true) where
+  pub command-tests : (c : Card) (k : Command) → all (λ t. f (t .no)) (commandChecks c k) ≡ true
+  unfolding all commandChecks
+  command-tests c (Command.createCq n) = rw (four, eight)
+  command-tests c (Command.destroyCq n) = rw (two, ten)
+  command-tests c Command.createPd = rw eight
+  command-tests c (Command.destroyPd n) = rw (two, ten)
+  command-tests c (Command.register g) = rw (four, two, eleven, eight)
+  command-tests c (Command.deregister n) = rw two
+  command-tests c (Command.createQp r) = rw (four, two, eight)
+  command-tests c (Command.modifyQp r) = rw (four, two, three)
+  command-tests c (Command.destroyQp q) = rw two
+
 -- the tests' numbers stand in the table from 1 on and below 14
 abbrev within : ℕ → Bool
 within n = leb 1 n && leb n 13
@@ -44,16 +61,7 @@ abbrev fine : Check → Bool
 fine k = within (k .no)
 
 command-fine : (c : Card) (k : Command) → all fine (commandChecks c k) ≡ true
-unfolding all commandChecks
-command-fine c (Command.createCq n) = refl
-command-fine c (Command.destroyCq n) = refl
-command-fine c Command.createPd = refl
-command-fine c (Command.destroyPd n) = refl
-command-fine c (Command.register g) = refl
-command-fine c (Command.deregister n) = refl
-command-fine c (Command.createQp r) = refl
-command-fine c (Command.modifyQp r) = refl
-command-fine c (Command.destroyQp q) = refl
+command-fine = command-tests within refl refl refl refl refl refl
 
 checks-fine : (c : Card) (k : Call) → all fine (checks c k) ≡ true
 unfolding all checks resetChecks controlChecks bufferChecks sendChecks receiveChecks deliveryChecks joinChecks flushChecks pollChecks
@@ -118,16 +126,7 @@ abbrev plain : ℕ → Bool
 plain n = not (eqb n 5) && not (eqb n 6)
 
 command-plain : (c : Card) (k : Command) → all (λ t. plain (t .no)) (commandChecks c k) ≡ true
-unfolding all commandChecks
-command-plain c (Command.createCq n) = refl
-command-plain c (Command.destroyCq n) = refl
-command-plain c Command.createPd = refl
-command-plain c (Command.destroyPd n) = refl
-command-plain c (Command.register g) = refl
-command-plain c (Command.deregister n) = refl
-command-plain c (Command.createQp r) = refl
-command-plain c (Command.modifyQp r) = refl
-command-plain c (Command.destroyQp q) = refl
+command-plain = command-tests plain refl refl refl refl refl refl
 
 checks-plain : (c : Card) (k : Call) → mayHold k ≡ false → all (λ t. plain (t .no)) (checks c k) ≡ true
 unfolding all checks resetChecks controlChecks bufferChecks receiveChecks joinChecks pollChecks
@@ -155,12 +154,6 @@ only-holds c k h = go (refusal (checks c k)) refl
     go (some n) e = plain-refused n (first-with plain (checks c k) n (checks-plain c k h) e)
 
 -- ---- what an answer other than 0 leaves
-
--- an answer other than 0 leaves the card and the memory; of the answer buffer it leaves all but the ack byte of a refused command
-pub record Unchanged (c : Card) (k : Call) (r : Result) : Type 0 where
-  pub card : r .card ≡ c
-  pub memory : r .memory ≡ memoryOf k
-  pub buffer : r .buffer ≡ bufferRefused (number (r .answer)) k
 
 settled-unchanged : (c : Card) (k : Call) (n : ℕ) → Unchanged c k (settled (some n) c k)
 settled-unchanged c k n = record { card = refl; memory = refl; buffer = rw (answered-number n) }
@@ -238,3 +231,6 @@ module _ (cardOf : List ℕ → Card) (accepts : List ℕ → Bool) where
           answerIn (codeOf (settled o (cardOf l) k .answer)) ≡ settled o (cardOf l) k .answer
       go none e = code-done (statusOf (cardOf l) k)
       go (some n) e = let h = owed-within l k n e in code-refused n (h .0) (h .1)
+
+pub demand1 : Demand1
+demand1 = record { ends = owed-listed card accepts; keeps = owed-unchanged card accepts }

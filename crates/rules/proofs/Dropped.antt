@@ -16,7 +16,7 @@ use Rattle.rules.specs.Touch.{Request, fills, takes, farBytes}
 use Rattle.rules.specs.Permit.{keyOf, lookup, covers, permits, permitsAll}
 use Rattle.rules.specs.Control.{commandEffect, newVariant, nextVariant}
 use Rattle.tables.specs.Search.{freeMrn}
-use Rattle.rules.specs.Send.{peerOf, takenBy, farUse, errorIf, consumeIf, sendStatus, sendMemory, sendQps, sendEffect}
+use Rattle.rules.specs.Send.{peerOf, takenBy, farUse, errorIf, consumeIf, sendStatus, sendMemory, sendQps, sendPuts, sendEffect}
 use Rattle.rules.proofs.Variants.{next-differs, next-small, slot}
 use Rattle.rules.specs.Dropped.{Reaches, farKey, StaleFails, DroppedRegion, KeysDropped, OldKeyStale, NewKeyStands}
 
@@ -62,7 +62,7 @@ module _ (f : ℕ → Qp) (q d : ℕ) where
       go false e = rw (e, same q)
 
 pub stale-fails : StaleFails
-unfolding StaleFails sendEffect sendQps sendMemory
+unfolding StaleFails sendEffect sendQps sendPuts sendMemory
 stale-fails c q r m i s k =
     let e : sendStatus c q r ≡ 7 = status-7 c q r i s k in
     let t : takes (r .opcode) ≡ true = fill-takes (r .opcode) (s .opcode) in
@@ -70,6 +70,7 @@ stale-fails c q r m i s k =
       sender = e;
       receiver = rw (e, s .fits);
       memory = rw e;
+      puts = rw (e, t);
       sender-state = rw (e, t) (sender-after (c .qp) q (peerOf c q));
       peer-state = rw (e, t) (peer-after (c .qp) q (peerOf c q) .0);
       consumed = rw (e, t) (peer-after (c .qp) q (peerOf c q) .1);

@@ -81,13 +81,15 @@ unfoldable pub pushAll : List ℕ → List Put → List ℕ
 pushAll l [] = l
 pushAll l (p ∷ ps) = pushAll (pushBytes l (p .cqn) (p .entry)) ps
 
--- the queue pair q in error, where b holds
+-- a queue pair in error
 abbrev pub erring : QueuePair → QueuePair
 erring p = record { live = p .live; pd = p .pd; signal = p .signal; scq = p .scq; rcq = p .rcq; state = 6; dest = p .dest }
 
+-- the queue pair q in error, where b holds
 abbrev pub errorBytes : Bool → List ℕ → (q : ℕ) → List ℕ
 errorBytes b l q = cond b (putRow qpT l q (erring (rowAt qpT l q))) l
 
+-- its oldest receive consumed, where b holds
 abbrev pub consumeBytes : Bool → List ℕ → (q : ℕ) → List ℕ
 consumeBytes b l q = cond b (takeBytes l q) l
 

@@ -1,7 +1,7 @@
 -- A region that is dropped while a receive waits on it: the next send that fills the receive finds out. Assumes nothing.
 use mathlib.Core.Path.{_≡_}
 use mathlib.Core.Bool.{true}
-use mathlib.Core.List.{List}
+use mathlib.Core.List.{List, [], _∷_}
 use mathlib.Core.Option.{none, some}
 use Prim.Native.Nat.{ℕ, _/_, _≤_, _<_}
 use lib.Dec.{leb}
@@ -14,13 +14,14 @@ use Rattle.rules.specs.Touch.{Request, fills, total, sgeTotal, ownBytes,
 use Rattle.rules.specs.Permit.{keyOf, lookup, permitsAll}
 use Rattle.rules.specs.Control.{commandEffect, newVariant}
 use Rattle.tables.specs.Search.{freeMrn}
-use Rattle.rules.specs.Send.{peerOf, takenBy, ownUse, sendStatus, sendMemory, sendEffect, receiverPut}
+use Rattle.rules.specs.Send.{peerOf, takenBy, ownUse, sendStatus, sendMemory, sendEffect, senderPut, receiverPut, sendPuts}
 
 -- "sender 7, receiver 3. The receive is consumed, both QPs go to error"; no byte is moved
 pub record Fails (c : Card) (q : ℕ) (r : Request) (m : List ℕ) : Type 0 where
   pub sender : sendStatus c q r ≡ 7
   pub receiver : receiverPut c q r (sendStatus c q r) .entry .status ≡ 3
   pub memory : sendMemory c q r m ≡ m
+  pub puts : sendPuts c q r (sendStatus c q r) ≡ senderPut c q r 7 ∷ receiverPut c q r 7 ∷ []
   pub sender-state : sendEffect c q r .qp q .state ≡ 6
   pub peer-state : sendEffect c q r .qp (peerOf c q) .state ≡ 6
   pub consumed : sendEffect c q r .qp (peerOf c q) .waiting ≡ tail (c .qp (peerOf c q) .waiting)

@@ -11,3 +11,4 @@ pub mod Marks
 pub mod Dropped
 pub mod Bytes
 pub mod Contract
+pub mod Demand1

@@ -4,7 +4,7 @@ use mathlib.Core.Bool.{Bool, true, cond, not}
 use mathlib.Core.List.{List, [], _∷_, map}
 use mathlib.Core.Option.{Option, none, some}
 use Prim.Native.Nat.{ℕ, _-_, _^_}
-use lib.Dec.{eqb}
+use lib.Dec.{eqb, ltb}
 use lib.ListN.{getD}
 use Rattle.wire.specs.Scan.{all}
 use Rattle.wire.specs.Checks.{refusal}
@@ -45,7 +45,7 @@ renewed = after platform (Command.deregister 0 ∷ Command.register (region 256 
 -- all slots but 31 are taken, and 31 last had the variant 254
 unfoldable pub nearlyFull : Card
 nearlyFull =
-    withMr platform (λ i. cond (eqb i 31) (freeMr 254) (record { live = true; variant = 1; reg = region 256 4096 }))
+    withMr platform (λ i. cond (ltb i 31) (record { live = true; variant = 1; reg = region 256 4096 }) (freeMr (cond (eqb i 31) 254 0)))
 
 -- ---- questions and results
 

@@ -1,12 +1,15 @@
 -- Document 01, "Permitted byte", by the card's tables. Assumes nothing.
+use mathlib.Core.Path.{_≡_}
 use mathlib.Core.Bool.{Bool, true, false, cond, _&&_}
 use mathlib.Core.List.{List}
 use mathlib.Core.Option.{Option, none, some}
-use Prim.Native.Nat.{ℕ, _+_, _*_, _/_}
+use Prim.Native.Nat.{ℕ, _+_, _*_, _/_, _^_, _<_}
 use lib.Dec.{eqb, ltb, leb}
 use Rattle.wire.specs.Scan.{all}
 use Rattle.wire.specs.Checks.{has}
+use Rattle.tables.specs.Accept.{accepts}
 use Rattle.tables.specs.Card.{Card, Mr}
+use Rattle.tables.specs.Image.{card}
 use Rattle.tables.specs.declared.Registration.{Registration}
 use Rattle.rules.specs.Touch.{Byte, byteOf}
 
@@ -34,7 +37,8 @@ found s n k = cond (s .live && eqb (keyOf n (s .variant)) k) (some (s .reg)) non
 unfoldable pub lookup : (ℕ → Mr) → (k : ℕ) → Option Registration
 lookup mr k = found (mr (k / 256)) (k / 256) k
 
--- "has .. the QP's PD, virt ≤ address < virt + length, and its access has the use's right"; the sum is a whole number
+-- "has .. the QP's PD, virt ≤ address < virt + length, and its access has the use's right"; the sum is a whole number. A region ends at
+-- 2^64 − 1 at most, so that "an address at or past 2^64 is never permitted": NeverPast below.
 unfoldable pub covers : Option Registration → (pd : ℕ) → Use → (a : ℕ) → Bool
 covers none p u a = false
 covers (some g) p u a = eqb (g .pd) p && granted u (g .access) && leb (g .virt) a && ltb a (g .virt + g .length)
@@ -54,3 +58,7 @@ placeIn (some g) a = byteOf g a
 -- the memory byte that a permitted byte is
 unfoldable pub place : Card → Byte → ℕ
 place c b = placeIn (lookup (c .mr) (b .key)) (b .address)
+
+-- "An address at or past 2^64 is never permitted", on any state that passes the state test
+unfoldable pub NeverPast : Type 0
+NeverPast = (l : List ℕ) (q : ℕ) (u : Use) (b : Byte) → accepts l ≡ true → permits (card l) q u b ≡ true → b .address < 2 ^ 64

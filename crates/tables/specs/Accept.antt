@@ -46,18 +46,20 @@ completionOk e = isStatus (e .status) && leb (e .opcode) 4 && leb (e .length) mo
 abbrev pub queueOk : QueueHead → Bool
 queueOk h = leb (h .places) mostPlaces && ltb (h .first) mostPlaces && leb (h .count) (h .places)
 
--- a live region: its access, its range in the memory and in the addresses, its domain
+-- a live region: its access, its variant, its range in the memory and in the addresses
 abbrev pub regionOk : ℕ → Region → Bool
 regionOk memory r =
     leb (r .access) mostAccess && leb 1 (r .variant) && leb 1 (r .length) && leb (r .start + r .length) memory && leb (r .virt + r .length) mostAddress
 
--- a live queue pair n: "each with up to 4 waiting receives"
+-- a live queue pair n: "QP state", and "(so is a QP that names itself as destination)"
 abbrev pub pairOk : ℕ → QueuePair → Bool
 pairOk n p = leb (p .signal) 1 && isState (p .state) && leb (p .dest) qpCount && not (eqb (p .dest) n)
 
+-- "each with up to 4 waiting receives"
 abbrev pub waitingOk : WaitingHead → Bool
 waitingOk h = ltb (h .first) mostWaiting && leb (h .count) mostWaiting
 
+-- "at most two" pieces
 abbrev pub receiveOk : ReceiveRecord → Bool
 receiveOk r = leb (r .count) mostReceiveSges
 
@@ -88,13 +90,6 @@ qpSound pd cq n p h ws =
 
 unfoldable pub qpOk : List ℕ → ℕ → Bool
 qpOk l n = qpSound (card l .pd) (cqLive (card l)) n (rowAt qpT l n) (rowAt waitingT l n) (receivesAt l n)
-
--- the parts of a live queue pair's test: what it names, and its receives
-abbrev pub namesOk : Card → QueuePair → Bool
-namesOk c p = c .pd (p .pd) && cqLive c (p .scq) && cqLive c (p .rcq)
-
-unfoldable pub receivesOk : List ℕ → ℕ → Bool
-receivesOk l n = waitingOk (rowAt waitingT l n) && all receiveOk (posted (rowAt waitingT l n) (receivesAt l n))
 
 -- ---- the test
 

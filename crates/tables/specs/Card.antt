@@ -1,5 +1,5 @@
 -- The card, document 01, "What the card is": its tables as functions of a number. A number past a table's end, and a slot that is
--- not live, hold the free object. Assumes nothing.
+-- not live, hold the free object, but for the variant of a region slot, which stays. Assumes nothing.
 use mathlib.Core.Bool.{Bool, false}
 use mathlib.Core.List.{List, [], _∷_}
 use mathlib.Core.Option.{Option, none}

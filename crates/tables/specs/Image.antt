@@ -1,5 +1,5 @@
 -- What a state means: the card whose objects it lists. Past the end of a table nothing is live, and a row that is not live
--- means the free object whatever else it holds. Assumes nothing.
+-- means the free object whatever else it holds, but for the variant of a region slot, which stays. Assumes nothing.
 use mathlib.Core.Bool.{Bool, true, false, cond}
 use mathlib.Core.List.{List, [], map}
 use mathlib.Core.Option.{Option, none, some}

@@ -47,6 +47,7 @@ receiveBase = mrBase + mrCount * 32
 abbrev pub entryBase : ℕ
 entryBase = receiveBase + receiveCount * 56
 
+-- the state's length in bytes, 6,056
 abbrev pub image : ℕ
 image = entryBase + entryCount * 24
 

@@ -1,4 +1,4 @@
--- Document 01's numbers, each once. Assumes nothing.
+-- Document 01's limits. Assumes nothing.
 use Prim.Native.Nat.{ℕ, _-_, _^_}
 
 -- the tables: "8 domains (PD), 8 completion queues (CQ) of 1 to 16 places, 32 regions (MR), 8 queue pairs (QP), each with up to 4 waiting receives"

@@ -23,15 +23,11 @@ use Rattle.tables.specs.KeptNamed.{cq-made, entry-stored}
 use Rattle.tables.specs.Layout.{image, cqT, entryT}
 use Rattle.tables.specs.Limits.{cqCount, mostPlaces}
 use Rattle.tables.specs.Objects.{cq-is, entry-at}
-use Rattle.tables.specs.Stores.{Fits, card-cq, card-entry, entries-kept, entries-put}
+use Rattle.tables.specs.Stores.{Fits, card-cq, card-entry, entries-kept, entries-put, cq-fits}
 use Rattle.tables.specs.declared.Completion.{Completion}
 use Rattle.tables.specs.declared.QueueHead.{QueueHead}
 use Rattle.tables.specs.Accept.{cqOk}
 use Rattle.tables.specs.Queue.{queueAt, pushed, popped, pushPlace, longer, shorter, pushBytes, popBytes}
-
-pub head-fits : (l : List ℕ) (n : ℕ) → Fits cqT (rowAt cqT l n)
-unfolding rowAt cqT fieldsAt
-head-fits l n = fieldsAt-fit _ l _
 
 module _ (l : List ℕ) (ok : Accepted l) (n : ℕ) (b : n < cqCount) (live : rowAt cqT l n .places ≡ 0 → ⊥) where
   abbrev h : QueueHead
@@ -56,7 +52,7 @@ module _ (l : List ℕ) (ok : Accepted l) (n : ℕ) (b : n < cqCount) (live : ro
     longer-fits : Fits cqT (longer h)
     unfolding cqT Fit
     longer-fits =
-        let g = head-fits l n in
+        let g = cq-fits l n in
         let m : h .places ≤ mostPlaces = queue-sound .most in
         (g .0, (g .1 .0, (omega arith, tt)))
 
@@ -107,7 +103,7 @@ module _ (l : List ℕ) (ok : Accepted l) (n : ℕ) (b : n < cqCount) (live : ro
     shorter-fits : Fits cqT (shorter h)
     unfolding cqT Fit
     shorter-fits =
-        let g = head-fits l n in
+        let g = cq-fits l n in
         let m : (h .first + 1) % mostPlaces < mostPlaces = mod-lt (h .first + 1) (omega arith) in
         let c : h .count < 256 = g .1 .1 .0 in
         (g .0, (omega arith, (omega arith, tt)))

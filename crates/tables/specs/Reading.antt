@@ -4,7 +4,7 @@ use mathlib.Core.Path.{_≡_, refl, sym, ap, _∙_}
 use mathlib.Core.Logic.{_⊎_, inl, inr}
 use mathlib.Core.Bool.{Bool, true, false, cond, not, _&&_, _||_}
 use mathlib.Core.List.{List, [], _∷_}
-use mathlib.Core.Option.{some}
+use mathlib.Core.Option.{Option, none, some}
 use Prim.Native.Nat.{ℕ, zero, suc, min, _+_, _*_, _%_, _≤_, _<_}
 use native.Mathlib.Omega.{arith}
 use native.Mathlib.Decide.{decLe}
@@ -12,16 +12,18 @@ use lib.Dec.{T, eqb, ltb, leb}
 use lib.ListN.{length, getD, take, drop, List·getD-eq-default}
 use lib.Seq.{take-all, take-length}
 use borrow.Author.Tests.{eq-eqb, ne-eqb, le-leb, lt-leb, lt-ltb, le-ltb}
-use Rattle.wire.specs.Checks.{_if_, refusal, only}
+use Rattle.wire.specs.Checks.{Check, _if_, refusal, only}
 use Rattle.wire.specs.Codec.{Codec}
 use Rattle.wire.specs.Fields.{Field, fieldsAt, putFields, Fit, within, clear, apart, both, fieldsAt-stored, putFields-outside}
 use Rattle.wire.specs.Le.{leAt, putLe, leAt-below, leAt-split}
 use Rattle.tables.specs.Limits.{mostSges, mostInline, mostReceiveSges}
-use Rattle.tables.specs.Records.{numberCodec, registerCodec, createQpCodec, modifyQpCodec, sgeCodec, sendCodec, receiveCodec, completionCodec, noSge, flagBits, isInline, inlineLength, inlineBytes, sendChecks, sendRead, sendReadBy, receiveChecks, receiveRead, ackFields, ackLeast, dataSize}
+use Rattle.tables.specs.Records.{controlClass, numberCodec, registerCodec, createQpCodec, modifyQpCodec, sgeCodec, sendCodec, receiveCodec, completionCodec, noSge, flagBits, isInline, inlineLength, inlineBytes, sendChecks, sendRead, sendReadBy, receiveChecks, receiveRead, ackFields, ackLeast, dataSize}
 use Rattle.tables.specs.declared.Ack.{Ack}
 use Rattle.tables.specs.declared.Ack.the-variants.{Error, Done, Number, Keys}
 use Rattle.tables.specs.declared.CreateQpRead.{CreateQpRead}
 use Rattle.tables.specs.declared.CreateQpRead.the-variants as create
+use Rattle.tables.specs.declared.HeadRead.{HeadRead}
+use Rattle.tables.specs.declared.HeadRead.the-variants as head
 use Rattle.tables.specs.declared.ModifyQpRead.{ModifyQpRead}
 use Rattle.tables.specs.declared.ModifyQpRead.the-variants as modify
 use Rattle.tables.specs.declared.NumberRead.{NumberRead}
@@ -33,6 +35,36 @@ use Rattle.tables.specs.declared.RegisterRead.the-variants as register
 use Rattle.tables.specs.declared.SendRecord.{SendRecord}
 use Rattle.tables.specs.declared.SendRead.the-variants as send
 use Rattle.tables.specs.declared.Sge.{Sge}
+
+-- ---- the class and the command byte: "fewer than two bytes 1; 13"
+
+abbrev pub headChecks : List ℕ → List Check
+headChecks k = 1 if ltb (length k) 2 ∷ 13 if not (eqb (leAt 1 k 0) controlClass) ∷ []
+
+abbrev pub headReadBy : Option ℕ → ℕ → HeadRead
+headReadBy none n = head.Number n
+headReadBy (some n) v = head.Refused n
+
+abbrev pub headRead : List ℕ → HeadRead
+headRead k = headReadBy (refusal (headChecks k)) (leAt 1 k 1)
+
+pub head-short : (k : List ℕ) → length k < 2 → headRead k ≡ head.Refused 1
+head-short k h = rw (lt-ltb (length k) 2 h)
+
+pub head-class : (k : List ℕ) → 2 ≤ length k → (leAt 1 k 0 ≡ controlClass → ⊥) → headRead k ≡ head.Refused 13
+head-class k h e = rw (le-ltb (length k) 2 h, ne-eqb (leAt 1 k 0) controlClass e)
+
+pub head-right : (k : List ℕ) → 2 ≤ length k → leAt 1 k 0 ≡ controlClass → headRead k ≡ head.Number (leAt 1 k 1)
+head-right k h e = rw (le-ltb (length k) 2 h, eq-eqb (leAt 1 k 0) controlClass e)
+
+-- what a head that was read tells
+pub head-number : (o : Option ℕ) (v n : ℕ) → headReadBy o v ≡ head.Number n → (o ≡ none) × (v ≡ n)
+head-number none v n e = (refl, cc)
+head-number (some k) v n e = cc
+
+pub head-refused : (o : Option ℕ) (v n : ℕ) → headReadBy o v ≡ head.Refused n → o ≡ some n
+head-refused none v n e = cc
+head-refused (some k) v n e = let i : k ≡ n = cc in ap some i
 
 -- ---- command data, from byte 2 of the command on: wrong where the command does not have its exact length
 

@@ -4,7 +4,7 @@
 use mathlib.Core.Path.{refl}
 use mathlib.Core.Bool.{Bool, cond, not, _&&_}
 use mathlib.Core.Option.{Option, none, some}
-use mathlib.Core.List.{List, [], _∷_}
+use mathlib.Core.List.{List, [], _∷_, _++_}
 use Prim.Native.Nat.{ℕ, _+_, _*_}
 use lib.Dec.{eqb, ltb, leb}
 use lib.ListN.{length, getD, take, drop}
@@ -107,11 +107,14 @@ ackLeast = 13
 
 -- ---- pieces and work requests
 
--- "A piece is address 8, length 4, key 4"
+-- "A piece is address 8, length 4, key 4", at an offset
+abbrev pub sgeFields : ℕ → List Field
+sgeFields o = field o 8 ∷ field (o + 8) 4 ∷ field (o + 12) 4 ∷ []
+
 unfoldable pub sgeCodec : Codec Sge
 unfolding within clear apart
 sgeCodec =
-    structCodec 16 (field 0 8 ∷ field 8 4 ∷ field 12 4 ∷ []) tt tt
+    structCodec 16 (sgeFields 0) tt tt
     (λ vs. record { address = getD vs 0 0; length = getD vs 1 0; key = getD vs 2 0 })
     (λ r. r .address ∷ r .length ∷ r .key ∷ []) (λ r. refl)
 
@@ -173,7 +176,7 @@ sendRead x = sendReadBy (refusal (sendChecks x)) (sendCodec .read x 0)
 abbrev pub receiveCodec : Codec ReceiveRecord
 unfolding within clear apart
 receiveCodec =
-    structCodec 56 (field 0 8 ∷ field 8 4 ∷ field 24 8 ∷ field 32 4 ∷ field 36 4 ∷ field 40 8 ∷ field 48 4 ∷ field 52 4 ∷ []) tt tt
+    structCodec 56 (field 0 8 ∷ field 8 4 ∷ (sgeFields 24 ++ sgeFields 40)) tt tt
     (λ vs. record { wr = getD vs 0 0; count = getD vs 1 0; address0 = getD vs 2 0; length0 = getD vs 3 0; key0 = getD vs 4 0; address1 = getD vs 5 0; length1 = getD vs 6 0; key1 = getD vs 7 0 })
     (λ r. r .wr ∷ r .count ∷ r .address0 ∷ r .length0 ∷ r .key0 ∷ r .address1 ∷ r .length1 ∷ r .key1 ∷ []) (λ r. refl)
 

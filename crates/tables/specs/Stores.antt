@@ -20,10 +20,28 @@ use Rattle.tables.specs.declared.QueuePair.{QueuePair}
 use Rattle.tables.specs.declared.ReceiveRecord.{ReceiveRecord}
 use Rattle.tables.specs.declared.Region.{Region}
 use Rattle.tables.specs.declared.WaitingHead.{WaitingHead}
+use Rattle.wire.specs.Fields.{fieldsAt, fieldsAt-fit}
 
 -- what a store needs of the value: that each number fits its field
 abbrev pub Fits : {A : Type 0} → Table A → A → Type 0
 Fits t v = t .codec .Fits v
+
+-- what is read out of a table fits it
+pub cq-fits : (l : List ℕ) (n : ℕ) → Fits cqT (rowAt cqT l n)
+unfolding rowAt cqT fieldsAt
+cq-fits l n = fieldsAt-fit _ l _
+
+pub qp-fits : (l : List ℕ) (n : ℕ) → Fits qpT (rowAt qpT l n)
+unfolding rowAt qpT fieldsAt
+qp-fits l n = fieldsAt-fit _ l _
+
+pub waiting-fits : (l : List ℕ) (n : ℕ) → Fits waitingT (rowAt waitingT l n)
+unfolding rowAt waitingT fieldsAt
+waiting-fits l n = fieldsAt-fit _ l _
+
+pub receive-fits : (l : List ℕ) (n : ℕ) → Fits receiveT (rowAt receiveT l n)
+unfolding rowAt receiveT fieldsAt
+receive-fits l n = fieldsAt-fit _ l _
 
 -- ---- what a store in a table t leaves
 module _ {A : Type 0} (t : Table A) (l : List ℕ) (n : ℕ) (v : A) (h : n < t .count) where

@@ -12,13 +12,21 @@ use Rattle.wire.specs.Fields.{fieldsAt}
 use Rattle.wire.specs.Le.{leAt}
 use Rattle.wire.specs.Scan.{all, allBelow, all-at}
 use Rattle.wire.specs.Table.{rowAt, place}
-use Rattle.tables.specs.Accept.{cqLive, namesOk, receivesOk, cqOk, mrOk, qpOk, completionOk, receiveOk, regionOk, pairOk, waitingOk}
+use Rattle.tables.specs.Accept.{cqLive, cqOk, mrOk, qpOk, completionOk, receiveOk, regionOk, pairOk, waitingOk}
+use Rattle.tables.specs.Card.{Card}
 use Rattle.tables.specs.Image.{card, unread, posted, entriesAt, receivesAt}
 use Rattle.tables.specs.Layout.{memoryT, mrLiveT, mrLiveBase, mrT, cqT, qpT, waitingT}
 use Rattle.tables.specs.Limits.{mostPlaces, mostWaiting}
 use Rattle.tables.specs.declared.QueueHead.{QueueHead}
 use Rattle.tables.specs.declared.QueuePair.{QueuePair}
 use Rattle.tables.specs.declared.WaitingHead.{WaitingHead}
+
+-- the parts of a live queue pair's test: what it names, and its receives
+abbrev pub namesOk : Card → QueuePair → Bool
+namesOk c p = c .pd (p .pd) && cqLive c (p .scq) && cqLive c (p .rcq)
+
+unfoldable pub receivesOk : List ℕ → ℕ → Bool
+receivesOk l n = waitingOk (rowAt waitingT l n) && all receiveOk (posted (rowAt waitingT l n) (receivesAt l n))
 
 module _ (l : List ℕ) (n : ℕ) where
   abbrev h : QueueHead

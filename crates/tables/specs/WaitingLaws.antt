@@ -21,16 +21,12 @@ use Rattle.tables.specs.Kept.{waiting-stored, receive-stored}
 use Rattle.tables.specs.Layout.{image, pdT, cqT, entryT, qpT, waitingT, receiveT}
 use Rattle.tables.specs.Limits.{qpCount, mostWaiting}
 use Rattle.tables.specs.Objects.{qp-row, receive-at}
-use Rattle.tables.specs.Stores.{Fits, card-waiting, card-receive, receives-put, pd-kept, cq-kept}
+use Rattle.tables.specs.Stores.{Fits, card-waiting, card-receive, receives-put, pd-kept, cq-kept, waiting-fits}
 use Rattle.tables.specs.declared.QueuePair.{QueuePair}
 use Rattle.tables.specs.declared.ReceiveRecord.{ReceiveRecord}
 use Rattle.tables.specs.declared.WaitingHead.{WaitingHead}
 use Rattle.tables.specs.Accept.{cqLive, qpOk, qpSound}
 use Rattle.tables.specs.Queue.{postPlace, grown, shrunk, postBytes, takeBytes}
-
-pub waiting-fits : (l : List ℕ) (n : ℕ) → Fits waitingT (rowAt waitingT l n)
-unfolding rowAt waitingT fieldsAt
-waiting-fits l n = fieldsAt-fit _ l _
 
 module _ (l : List ℕ) (ok : Accepted l) (q : ℕ) (b : q < qpCount) (live : rowAt qpT l q .live ≡ 1) where
   abbrev h : WaitingHead

@@ -31,10 +31,11 @@ ghost use lib.Dec.{leb};
 ghost use lib.ListN.{length};
 ghost use Rattle.wire.specs.Scan.{all, allBelow};
 ghost use Rattle.wire.specs.Table.{rowAt};
-ghost use Rattle.tables.specs.Accept.{accepts, cqLive, isStatus, isState, completionOk, receiveOk, regionOk, pairOk, namesOk, receivesOk, pdOk, cqOk, mrOk, qpOk};
+ghost use Rattle.tables.specs.Accept.{accepts, cqLive, isStatus, isState, completionOk, receiveOk, regionOk, pairOk, pdOk, cqOk, mrOk, qpOk};
 ghost use Rattle.tables.specs.Image.{card, unread, posted, entriesAt, receivesAt};
 ghost use Rattle.tables.specs.Layout.{image, memoryT};
 ghost use Rattle.tables.specs.Limits.{pdCount, cqCount, mrCount, qpCount, mostPlaces, mostWaiting};
+ghost use Rattle.tables.specs.Tests.{namesOk, receivesOk};
 
 // Whether protection domain n is live.
 pub fn pd_live(img: &[u8], n: u32) -> bool

@@ -130,25 +130,31 @@ pub struct ModifyQp {
     pub dest: u32,
 }
 
-// What a command's data reads as, Wrong where it does not have its exact length: of the commands of one number,
+// What a command's class and command byte read as: its number, or the answer that refuses it.
+pub enum HeadRead {
+    Number(u8),
+    Refused(u8),
+}
+
+// What the data of a command of one number reads as; Wrong where its length is not exact.
 pub enum NumberRead {
     Value(u32),
     Wrong,
 }
 
-// of command 7,
+// What the data of command 7 reads as; Wrong where its length is not exact.
 pub enum RegisterRead {
     Value(Registration),
     Wrong,
 }
 
-// of command 9,
+// What the data of command 9 reads as; Wrong where its length is not exact.
 pub enum CreateQpRead {
     Value(CreateQp),
     Wrong,
 }
 
-// and of command 10.
+// What the data of command 10 reads as; Wrong where its length is not exact.
 pub enum ModifyQpRead {
     Value(ModifyQp),
     Wrong,

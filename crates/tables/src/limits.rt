@@ -1,4 +1,4 @@
-// Document 01's numbers, each once.
+// Document 01's limits, bits, states, opcodes and statuses, by name.
 
 // ---- tables and lengths
 pub const PD_COUNT: usize = 8;

@@ -3,6 +3,7 @@ use crate::Ack;
 use crate::Completion;
 use crate::CreateQp;
 use crate::CreateQpRead;
+use crate::HeadRead;
 use crate::ModifyQp;
 use crate::ModifyQpRead;
 use crate::NumberRead;
@@ -25,7 +26,7 @@ ghost use lib.ListN.{length, take, drop};
 ghost use Rattle.wire.specs.Fields.{putFields};
 ghost use Rattle.wire.specs.Rows.{rows};
 ghost use Rattle.tables.specs.Limits.{mostSges};
-ghost use Rattle.tables.specs.Reading.{inlinePart, sgeAt, sendBad, sendSize, numberRead, registerRead, createQpRead, modifyQpRead, ackValues};
+ghost use Rattle.tables.specs.Reading.{inlinePart, headRead, sgeAt, sendBad, sendSize, numberRead, registerRead, createQpRead, modifyQpRead, ackValues};
 ghost use Rattle.tables.specs.Records.{ackFields, ackLeast, completionCodec, receiveRead, sendCodec, sendRead, sendSge};
 
 // A send record's bytes before its scatter/gather entries, and where its inline bytes begin.
@@ -33,9 +34,12 @@ const SEND_SIZE: usize = 576;
 
 const INLINE_AT: usize = 48;
 
-const INLINE_LENGTH_AT: usize = 560;
+// The piece count; with inline, the inline length in its low two bytes.
+const COUNT_AT: usize = 560;
 
 const RECEIVE_HEAD: usize = 24;
+
+const CONTROL_CLASS: u8 = 6;
 
 const SGE_SIZE: usize = 16;
 
@@ -52,7 +56,7 @@ fn send_head(request: &[u8]) -> SendRecord
         imm: wire::get32(request, 12),
         address: wire::get64(request, 16),
         key: wire::get32(request, 24),
-        count: wire::get32(request, INLINE_LENGTH_AT),
+        count: wire::get32(request, COUNT_AT),
     }
 }
 
@@ -117,10 +121,10 @@ fn inline_first(request: &[u8], n: usize) -> &[u8]
 pub fn inline_bytes(request: &[u8]) -> &[u8]
     ensures { λ r. ⌜ now r ≡ inlinePart (now (request .entry)) ⌝ }
 {
-    if request.len() < INLINE_LENGTH_AT + 2 {
+    if request.len() < COUNT_AT + 2 {
         return inline_first(request, 0);
     }
-    let n = wire::get16(request, INLINE_LENGTH_AT) as usize;
+    let n = wire::get16(request, COUNT_AT) as usize;
     inline_first(request, n)
 }
 
@@ -193,6 +197,19 @@ pub fn read_receive(request: &[u8]) -> ReceiveRead
 }
 
 // ---- control commands: the class byte, the command byte, and the data from byte 2 on
+
+// Reads the class and the command byte.
+pub fn read_head(command: &[u8]) -> HeadRead
+    ensures { λ r. ⌜ r ≡ headRead (now (command .entry)) ⌝ }
+{
+    if command.len() < 2 {
+        return HeadRead::Refused(1);
+    }
+    if wire::get8(command, 0) != CONTROL_CLASS {
+        return HeadRead::Refused(13);
+    }
+    HeadRead::Number(wire::get8(command, 1))
+}
 
 // Reads the data of a command of one number.
 pub fn read_number(command: &[u8]) -> NumberRead

@@ -19,7 +19,7 @@ use Rattle.rules.specs.Calls.{checks, controlChecks, bufferChecks, owedChecks}
 use Rattle.rules.specs.Control.{commandChecks}
 use Rattle.rules.specs.Queues.{joinChecks, flushChecks, pollChecks}
 use Rattle.rules.specs.Send.{deliveryChecks}
-use Rattle.rules.proofs.Answers.{first-with}
+use Rattle.rules.proofs.Answers.{first-with, command-tests}
 use Rattle.rules.proofs.Ranges.{all-split}
 use Rattle.tape.specs.Tape.{completionSize, callOf}
 
@@ -30,16 +30,7 @@ abbrev spare : Check → Bool
 spare t = other (t .no)
 
 command-spare : (c : Card) (k : Command) → all spare (commandChecks c k) ≡ true
-unfolding all commandChecks
-command-spare c (Command.createCq n) = refl
-command-spare c (Command.destroyCq n) = refl
-command-spare c Command.createPd = refl
-command-spare c (Command.destroyPd n) = refl
-command-spare c (Command.register g) = refl
-command-spare c (Command.deregister n) = refl
-command-spare c (Command.createQp r) = refl
-command-spare c (Command.modifyQp r) = refl
-command-spare c (Command.destroyQp q) = refl
+command-spare = command-tests other refl refl refl refl refl refl
 
 without : (cs : List Check) → all spare cs ≡ true → refusal cs ≡ some 12 → ⊥
 without cs a e = true≢false (sym (first-with other cs 12 a e))
