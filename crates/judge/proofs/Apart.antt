@@ -100,8 +100,9 @@ module _ (l : Log) (q : ℕ) (r : Request) (s : ℕ) (m m′ : List ℕ) (k : Co
   spared p f (yes z) =
       bytes .others z p
       (λ i b x.
-      let y = reason z p i b x .covered in
-      f (targetByte l q r i .key) (y .reg) (y .covers .stands) (y .covers .same) (y .covers .place .0) (y .covers .place .1))
+      let y = reason z p i b x in
+      let h = y .covered .covers in
+      f (targetByte l q r (y .i) .key) (y .covered .reg) (h .stands) (h .same) (h .place .0) (h .place .1))
   spared p f (no z) = kept z p
 
   apart-bytes : Apart l q r s m m′

@@ -18,10 +18,12 @@ use Rattle.tables.specs.Card.{Card}
 use Rattle.tables.specs.Image.{card}
 use Rattle.tables.specs.Limits.{mostSges}
 use Rattle.tables.specs.Search.{freePdn, freeCqn, freeMrn, freeQpn}
-use Rattle.tables.specs.Records.{controlClass, sgeCodec, sendSge}
-use Rattle.tables.specs.Reading.{numberRead, registerRead, createQpRead, modifyQpRead}
+use Rattle.tables.specs.Records.{sgeCodec, sendSge}
+use Rattle.tables.specs.Reading.{headRead, numberRead, registerRead, createQpRead, modifyQpRead}
 use Rattle.tables.specs.declared.CreateQpRead.{CreateQpRead}
 use Rattle.tables.specs.declared.CreateQpRead.the-variants as create
+use Rattle.tables.specs.declared.HeadRead.{HeadRead}
+use Rattle.tables.specs.declared.HeadRead.the-variants as head
 use Rattle.tables.specs.declared.ModifyQpRead.{ModifyQpRead}
 use Rattle.tables.specs.declared.ModifyQpRead.the-variants as modify
 use Rattle.tables.specs.declared.NumberRead.{NumberRead}
@@ -136,9 +138,12 @@ dataTold n k =
     (cond (eqb n 9) (createQpTold (createQpRead k))
     (cond (eqb n 10) (modifyQpTold (modifyQpRead k)) (refused 13)))))
 
+abbrev pub headTold : HeadRead → List ℕ → Told
+headTold (head.Number n) k = dataTold n k
+headTold (head.Refused n) k = refused n
+
 unfoldable pub commandTold : List ℕ → Told
-commandTold k =
-    cond (ltb (length k) 2) (refused 1) (cond (eqb (leAt 1 k 0) controlClass) (dataTold (leAt 1 k 1) k) (refused 13))
+commandTold k = headTold (headRead k) k
 
 -- ---- laws
 
@@ -189,15 +194,7 @@ module _ (n : ℕ) (k : List ℕ) where
   unfolding dataTold
   told-unknown e a b c d = rw (e, ne-eqb n 4 a, ne-eqb n 7 b, ne-eqb n 9 c, ne-eqb n 10 d)
 
-module _ (k : List ℕ) where
-  pub told-short : length k < 2 → commandTold k ≡ refused 1
-  unfolding commandTold
-  told-short h = rw (lt-ltb (length k) 2 h)
-
-  pub told-class : 2 ≤ length k → (leAt 1 k 0 ≡ controlClass → ⊥) → commandTold k ≡ refused 13
-  unfolding commandTold
-  told-class h e = rw (le-ltb (length k) 2 h, ne-eqb (leAt 1 k 0) controlClass e)
-
-  pub told-data : 2 ≤ length k → leAt 1 k 0 ≡ controlClass → commandTold k ≡ dataTold (leAt 1 k 1) k
-  unfolding commandTold
-  told-data h e = rw (le-ltb (length k) 2 h, eq-eqb (leAt 1 k 0) controlClass e)
+-- a head that was read tells what follows
+pub told-head : (k : List ℕ) (r : HeadRead) → headRead k ≡ r → commandTold k ≡ headTold r k
+unfolding commandTold
+told-head k r e = ap (λ (h : HeadRead). headTold h k) e

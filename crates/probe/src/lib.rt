@@ -1,5 +1,6 @@
 // Exports for tests alone: the lower part's readings, written out as numbers. What each answers and writes: specs/Shown.antt.
 use tables::CreateQpRead;
+use tables::HeadRead;
 use tables::ModifyQp;
 use tables::ModifyQpRead;
 use tables::NumberRead;
@@ -331,12 +332,8 @@ pub extern "C" fn probe_read_command(command: &[u8], out: &mut [u8]) -> u32
     ensures { λ r. ⌜ r ≡ toldAnswer (commandTold (now (command .entry))) ⌝ }
     ensures { λ _. ⌜ now (out .exit) ≡ toldOut (commandTold (now (command .entry))) (now (out .entry)) ⌝ }
 {
-    if command.len() < 2 {
-        return 1;
+    match tables::records::read_head(command) {
+        HeadRead::Number(n) => show_data(command, out, n),
+        HeadRead::Refused(n) => n as u32,
     }
-    if wire::get8(command, 0) != 6 {
-        return 13;
-    }
-    let n = wire::get8(command, 1);
-    show_data(command, out, n)
 }

@@ -60,7 +60,7 @@ head-right k h e = rw (le-ltb (length k) 2 h, eq-eqb (leAt 1 k 0) controlClass e
 -- what a head that was read tells
 pub head-number : (o : Option ℕ) (v n : ℕ) → headReadBy o v ≡ head.Number n → (o ≡ none) × (v ≡ n)
 head-number none v n e = (refl, cc)
-head-number (some k) v n e = cc
+head-number (some k) v n e = (cc, cc)
 
 pub head-refused : (o : Option ℕ) (v n : ℕ) → headReadBy o v ≡ head.Refused n → o ≡ some n
 head-refused none v n e = cc

@@ -1,35 +1,53 @@
+use denote.Ref.{now}
 use mathlib.Core.Path.{sym, _∙_}
-use Rattle.commands.specs.ControlCall.{dispatch-short, dispatch-class, dispatch-run}
+use Rattle.wire.specs.Checks.{refusal}
+use Rattle.wire.specs.Le.{leAt}
+use Rattle.tables.specs.Reading.{headChecks, head-number, head-refused}
+use Rattle.commands.specs.ControlCall.{dispatch-stopped, dispatch-passed}
 use borrow.Author.Needs.{needs}
 use Rattle.commands.proofs.control.dispatch.Statement.{statement}
 use Rattle.commands.proofs.control.dispatch.Tie as tie
 use Rattle.commands.proofs.control.dispatch.Reads as reads
 use Rattle.commands.proofs.control.dispatch.Lts as lts
 use Rattle.commands.proofs.control.run.Reads as run-reads
-use Rattle.wire.proofs.get8.Reads as get8-reads
+use Rattle.tables.proofs.records.read_head.Reads as read-head-reads
 
-returns : tie.Need-returns
-returns c = dispatch-short _ _ (c .if1 .taken)
+read-head-requires : tie.Need-read-head-requires
+read-head-requires c κs = search needs
 
-get8-requires : tie.Need-get8-requires
-get8-requires c κs = search needs
-
-returns-2 : tie.Need-returns-2
-returns-2 c = dispatch-class _ _ (c .before .before .if1 .left) (λ x. c .if2 .taken (c .before .get8 .ensures ∙ x))
-
-get8-requires-2 : tie.Need-get8-requires-2
-get8-requires-2 c κs = search needs
+enum-known-n : tie.Need-enum-known-n
+enum-known-n c = search needs
 
 run-requires : tie.Need-run-requires
-run-requires c κs = search needs
+run-requires c κs =
+    let a = c .before .before .before .before .before .before .before in
+    let k = now (a .args .command) in
+    (a .pre .0, a .pre .1, sym (head-number (refusal (headChecks k)) (leAt 1 k 1) _ (sym (c .before .before .before .before .read-head .ensures) ∙ c .before .before .n .given .1) .1))
+
+enum-known-n-2 : tie.Need-enum-known-n-2
+enum-known-n-2 c = search needs
 
 same-length : tie.Need-same-length
 same-length c = search needs
 
-returns-3 : tie.Need-returns-3
-returns-3 c = dispatch-run _ _ (c .before .before .before .before .before .before .before .if1 .left) (sym (c .before .before .before .before .before .before .get8 .ensures) ∙ c .before .before .before .before .before .if2 .left) _ _ (c .before .before .run .ensures)
+returns : tie.Need-returns
+returns c =
+    let k = now (c .before .before .before .before .before .before .before .before .before .before .args .command) in
+    dispatch-passed _ k (head-number (refusal (headChecks k)) (leAt 1 k 1) _ (sym (c .before .before .before .before .before .before .before .read-head .ensures) ∙ c .before .before .before .before .before .n .given .1) .0) _ _ (c .before .before .run .ensures)
+
+returns-2 : tie.Need-returns-2
+returns-2 c =
+    let k = now (c .before .before .before .before .before .before .args .command) in
+    dispatch-stopped _ k _ (head-refused (refusal (headChecks k)) (leAt 1 k 1) _ (sym (c .before .before .before .read-head .ensures) ∙ c .before .n2 .given .1))
 
 pub dispatch-spec : {M : Type 1} → statement M
 dispatch-spec =
     tie.close
-    (tie.spec returns get8-requires returns-2 get8-requires-2 run-requires same-length returns-3)
+    (tie.spec
+    read-head-requires
+    enum-known-n
+    run-requires
+    enum-known-n-2
+    same-length
+    returns
+    returns-2)
