@@ -29,20 +29,15 @@ use Rattle.rules.proofs.Answers.{owed-is}
 use Rattle.rules.proofs.Tests.{passed-before, passed-after}
 use Rattle.judge.specs.Log.{noteCommand, ackData}
 use Rattle.judge.specs.Demand3.{Seen, stateAfter, Linked}
-use Rattle.judge.specs.Count.{puts, receivePuts, Tally, none-yet, tallyBy, tallied, tallyAfter, Counted}
+use Rattle.judge.specs.Count.{puts, Puts, receivePuts, Tally, none-yet, tallyBy, tallied, tallyAfter, Counted}
 use Rattle.judge.proofs.Acks.{one-number}
 use Rattle.judge.proofs.Pairs.{error-waiting}
 use Rattle.judge.proofs.Agree.{sendable}
 use Rattle.judge.proofs.Run.{fresh-card}
 
--- what is counted as put is what the card puts
-pub puts-send : (c : Card) (q : ℕ) (x m : List ℕ) → effect c (Call.send q x m) .cq ≡ putAll (puts c (Call.send q x m)) (c .cq)
-unfolding effect sendEffect puts
-puts-send c q x m = refl
-
-pub puts-flush : (c : Card) (q : ℕ) → effect c (Call.flush q) .cq ≡ putAll (puts c (Call.flush q)) (c .cq)
-unfolding effect flushed puts
-puts-flush c q = refl
+pub puts-are : Puts
+unfolding effect sendEffect flushed joined puts putAll
+puts-are = record { send = λ c q x m. refl; flush = λ c q. refl; receive = λ c q x. refl }
 
 -- a live queue pair's tally adds up
 abbrev Sums : Qp → Tally → Type 0

@@ -4,13 +4,14 @@ use mathlib.Core.Path.{_≡_, refl}
 use mathlib.Core.Bool.{Bool, true, false}
 use mathlib.Core.List.{List, [], _∷_, _++_}
 use Prim.Native.Nat.{ℕ, _+_, _*_, _^_}
-use lib.ListN.{replicate, drop, length}
+use lib.ListN.{replicate, take, drop, length}
 use Rattle.wire.specs.Fields.{fieldsAt, putFields}
 use Rattle.wire.specs.Le.{leAt, putLe}
 use Rattle.wire.specs.Rows.{rows, rowsFrom}
 use Rattle.wire.specs.Scan.{lowest, lowestFrom, anyBelow, all}
 use Rattle.tables.specs.Card.{Card, fresh}
 use Rattle.tables.specs.Image.{receiveOf}
+use Rattle.tables.specs.declared.Sge.{Sge}
 use Rattle.tables.specs.Records.{Command, commandOf, dataSize, numberCodec, registerCodec, createQpCodec, modifyQpCodec, sendCodec, sgeCodec, receiveCodec, sendChecks, receiveChecks, receiveSges, sendSge, inlineBytes, inlineLength}
 use Rattle.rules.specs.declared.Answer.{Answer}
 use Rattle.rules.specs.declared.Cause.the-variants.{Peer}
@@ -130,11 +131,11 @@ pub modify-read : commandOf (6 ∷ 10 ∷ 1 ∷ 0 ∷ 0 ∷ 0 ∷ 1 ∷ 128 ∷ 
 unfolding fieldsAt leAt commandOf numberCodec registerCodec createQpCodec modifyQpCodec
 modify-read = refl
 
--- wr_id at 0, opcode 8, flags 9, immediate 12, remote address 16, remote key 24, piece count 560, one piece at 576
+-- wr_id at 0, opcode 8, flags 9, immediate 12, remote address 16, remote key 24, inline bytes 48, piece count 560, one piece at 576
 abbrev sendBytes : List ℕ
 sendBytes =
     (1 ∷ 2 ∷ 0 ∷ 0 ∷ 0 ∷ 0 ∷ 0 ∷ 3 ∷ 3 ∷ 2 ∷ 99 ∷ 99 ∷ 4 ∷ 5 ∷ 6 ∷ 7 ∷ 8 ∷ 0 ∷ 0 ∷ 0 ∷ 0 ∷ 0 ∷ 0 ∷ 9 ∷ 10 ∷ 0 ∷ 0 ∷ 11 ∷ [])
-    ++ (replicate 532 99 ++ (1 ∷ 0 ∷ 0 ∷ 0 ∷ (replicate 12 99 ++ (101 ∷ 0 ∷ 0 ∷ 0 ∷ 0 ∷ 0 ∷ 0 ∷ 0 ∷ 2 ∷ 0 ∷ 0 ∷ 0 ∷ 1 ∷ 0 ∷ 0 ∷ 0 ∷ []))))
+    ++ (replicate 20 99 ++ (50 ∷ (replicate 511 99 ++ (1 ∷ 0 ∷ 0 ∷ 0 ∷ (replicate 12 99 ++ (101 ∷ 0 ∷ 0 ∷ 0 ∷ 0 ∷ 0 ∷ 0 ∷ 0 ∷ 2 ∷ 0 ∷ 0 ∷ 0 ∷ 1 ∷ 0 ∷ 0 ∷ 0 ∷ []))))))
 
 pub send-read : requestOf sendBytes
     ≡ record {
@@ -142,7 +143,7 @@ pub send-read : requestOf sendBytes
       opcode = 3;
       signaled = true;
       inline = false;
-      bytes = 99 ∷ [];
+      bytes = 50 ∷ [];
       imm = 117835012;
       address = 8 + 9 * 2 ^ 56;
       key = 10 + 11 * 2 ^ 24;
@@ -150,6 +151,26 @@ pub send-read : requestOf sendBytes
     }
 unfolding fieldsAt leAt rows rowsFrom sendCodec sgeCodec sendSge inlineBytes inlineLength requestOf
 send-read = refl
+
+-- two pieces: address 8, length 4, key 4
+abbrev pieces : List ℕ
+pieces =
+    1 ∷ 0 ∷ 0 ∷ 0 ∷ 0 ∷ 0 ∷ 0 ∷ 2 ∷ 3 ∷ 0 ∷ 0 ∷ 0 ∷ 4 ∷ 0 ∷ 0 ∷ 0 ∷
+    5 ∷ 0 ∷ 0 ∷ 0 ∷ 0 ∷ 0 ∷ 0 ∷ 6 ∷ 7 ∷ 0 ∷ 0 ∷ 0 ∷ 8 ∷ 0 ∷ 0 ∷ 0 ∷ []
+
+abbrev pieces-are : List Sge
+pieces-are = record { address = 1 + 2 * 2 ^ 56; length = 3; key = 4 } ∷ record { address = 5 + 6 * 2 ^ 56; length = 7; key = 8 } ∷ []
+
+-- "pieces from 576"
+pub pieces-read : rows 2 (sendSge (replicate 576 99 ++ pieces)) ≡ pieces-are
+unfolding fieldsAt leAt rows rowsFrom sgeCodec sendSge
+pieces-read = refl
+
+-- wr_id 0, count 8, "pieces from 24"
+pub receive-read : receiveIn (1 ∷ 0 ∷ 0 ∷ 0 ∷ 0 ∷ 0 ∷ 0 ∷ 2 ∷ 2 ∷ 0 ∷ 0 ∷ 0 ∷ (replicate 12 99 ++ pieces))
+    ≡ record { wr = 1 + 2 * 2 ^ 56; sges = pieces-are }
+unfolding fieldsAt leAt receiveSges receiveIn receiveOf
+receive-read = refl
 
 -- wr_id 0, count 8, pieces from 24
 abbrev receiveBytes : List ℕ
@@ -163,6 +184,15 @@ polling = Call.poll 0 (replicate 25 99)
 unfoldable pub buffers : Card → List Call → List (List ℕ)
 buffers c [] = []
 buffers c (k ∷ ks) = let r = step c k in r .buffer ∷ buffers (r .card) ks
+
+-- ack, mrn, lkey, rkey of the two registrations; ack, qpn of a creation, whose later bytes stay
+pub acks : take 3 (drop 2 (buffers (fresh 8) setup))
+    ≡ (0 ∷ 0 ∷ 0 ∷ 0 ∷ 0 ∷ 1 ∷ 0 ∷ 0 ∷ 0 ∷ 1 ∷ 0 ∷ 0 ∷ 0 ∷ [])
+    ∷ (0 ∷ 1 ∷ 0 ∷ 0 ∷ 0 ∷ 1 ∷ 1 ∷ 0 ∷ 0 ∷ 1 ∷ 1 ∷ 0 ∷ 0 ∷ [])
+    ∷ (0 ∷ 0 ∷ 0 ∷ 0 ∷ 0 ∷ 9 ∷ 9 ∷ 9 ∷ 9 ∷ 9 ∷ 9 ∷ 9 ∷ 9 ∷ [])
+    ∷ []
+unfolding buffers fieldsAt putFields leAt putLe rows rowsFrom lowest lowestFrom anyBelow commandOf dataSize numberCodec registerCodec createQpCodec modifyQpCodec commandChecks commandAck commandEffect checks controlChecks statusOf effect memoryAfter bufferAfter step
+acks = refl
 
 -- wr_id, status, opcode, zero, byte length, immediate, owner: the sender's completion, its receiver's, a failed write's; byte 24 stays
 pub polled-bytes :

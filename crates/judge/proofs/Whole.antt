@@ -18,7 +18,7 @@ use Rattle.judge.proofs.Run.{demand3, resumed, steady}
 use Rattle.judge.proofs.Bytes.{bytewise, demand3-bytes}
 use Rattle.judge.proofs.Apart.{apart, domains-apart}
 use Rattle.judge.proofs.Exported.{linked, of-exports}
-use Rattle.judge.proofs.Count.{counted}
+use Rattle.judge.proofs.Count.{puts-are, counted}
 
 accepted-length : (l : List ℕ) → accepts l ≡ true → eqb (length l) image ≡ true
 accepted-length l e = eq-eqb (length l) image (accepted l e .sized)
@@ -30,6 +30,7 @@ whole = record {
   apart = domains-apart card accepts;
   resumed = resumed card accepts;
   steady = steady card accepts accepted-length;
+  put = puts-are;
   counted = counted card accepts;
   links = linked;
   exported = of-exports Correct correct;

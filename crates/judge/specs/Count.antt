@@ -10,7 +10,8 @@ use Rattle.tables.specs.Card.{Card}
 use Rattle.rules.specs.declared.Answer.{Answer}
 use Rattle.rules.specs.declared.Answer.the-variants.{Done, Held, Refused}
 use Rattle.rules.specs.Touch.{requestOf}
-use Rattle.rules.specs.Send.{Put, sendPuts, sendStatus}
+use Rattle.rules.specs.Calls.{effect}
+use Rattle.rules.specs.Send.{Put, putAll, sendPuts, sendStatus}
 use Rattle.rules.specs.Queues.{flushPut}
 use Rattle.rules.specs.Call.{Call}
 use Rattle.judge.specs.Log.{Note, noteCall, ackOf, begins}
@@ -24,6 +25,12 @@ puts c (Call.send q x m) = sendPuts c q (requestOf x) (sendStatus c q (requestOf
 puts c (Call.receive q x) = []
 puts c (Call.flush q) = flushPut c q ∷ []
 puts c (Call.poll n b) = []
+
+-- what is counted as put is what the card puts into its completion queues
+pub record Puts : Type 0 where
+  pub send : (c : Card) (q : ℕ) (x m : List ℕ) → effect c (Call.send q x m) .cq ≡ putAll (puts c (Call.send q x m)) (c .cq)
+  pub flush : (c : Card) (q : ℕ) → effect c (Call.flush q) .cq ≡ putAll (puts c (Call.flush q)) (c .cq)
+  pub receive : (c : Card) (q : ℕ) (x : List ℕ) → effect c (Call.receive q x) .cq ≡ putAll (puts c (Call.receive q x)) (c .cq)
 
 -- how many of them are receive completions of q: opcode 3 or 4, owner q
 unfoldable pub receivePuts : (q : ℕ) → List Put → ℕ

@@ -6,7 +6,7 @@ use Rattle.tables.specs.Image.{card}
 use Rattle.judge.specs.Demand3.{Correct, Bytewise, Linked, Demand3, Demand3Bytes, Resumed, Steady}
 use Rattle.judge.specs.Apart.{Apart, DomainsApart}
 use Rattle.judge.specs.Exported.{Returned, seen, Chained, OfExports}
-use Rattle.judge.specs.Count.{Counted}
+use Rattle.judge.specs.Count.{Puts, Counted}
 
 pub record Whole : Type 0 where
   -- each work request is judged right
@@ -20,7 +20,8 @@ pub record Whole : Type 0 where
   pub resumed : Resumed card accepts
   -- no call of the list finds its state unacceptable
   pub steady : Steady card accepts
-  -- receives add up
+  -- receives add up, where the completions counted are those that the card puts
+  pub put : Puts
   pub counted : Counted card accepts
   -- a list of calls of the exported functions is a list of which all this is said,
   pub links : (st : List ℕ) (xs : List Returned) → Chained st xs → Linked card accepts st (map seen xs)

@@ -1,6 +1,6 @@
 -- Demand 1: every answer is a number of the table, and what an answer other than 0 leaves. Assumes nothing.
-use mathlib.Core.Path.{_≡_, refl, sym, ap, subst}
-use mathlib.Core.Bool.{Bool, true, false, cond, not, _&&_, true≢false, false≢true}
+use mathlib.Core.Path.{_≡_, refl, sym, ap, subst, _∙_}
+use mathlib.Core.Bool.{Bool, true, false, cond, not, _&&_, _||_, true≢false, false≢true}
 use mathlib.Core.List.{List, [], _∷_}
 use mathlib.Core.Option.{Option, none, some}
 use Prim.Native.Nat.{ℕ, _+_, _*_, _/_, _%_, _≤_}
@@ -23,10 +23,11 @@ use Rattle.rules.specs.Answer.{number, codeOf, answered, answerIn, isDon
 use Rattle.rules.specs.Control.{commandChecks}
 use Rattle.rules.specs.Send.{deliveryChecks}
 use Rattle.rules.specs.Queues.{joinChecks, flushChecks, pollChecks}
-use Rattle.rules.specs.Call.{Call}
+use Rattle.rules.specs.Call.{Call, memoryOf}
 use Rattle.rules.proofs.Ranges.{all-split}
-use Rattle.rules.specs.Demand1.{Unchanged, Demand1}
-use Rattle.rules.specs.Calls.{checks, resetChecks, controlChecks, bufferChecks, settled, step, statusOf, owed, owedChecks, usable}
+use Rattle.rules.specs.Contract.{bytesBy, bytesAfter}
+use Rattle.rules.specs.Demand1.{bufferLeft, Unchanged, Demand1}
+use Rattle.rules.specs.Calls.{checks, resetChecks, controlChecks, bufferChecks, settled, step, statusOf, owed, owedChecks, usable, bufferRefused, Result}
 
 -- ---- a fact of every test's number is one of the refusal's
 
@@ -155,14 +156,20 @@ only-holds c k h = go (refusal (checks c k)) refl
 
 -- ---- what an answer other than 0 leaves
 
-settled-unchanged : (c : Card) (k : Call) (n : ℕ) → Unchanged c k (settled (some n) c k)
+-- an answer other than 0 leaves the card and the memory; of the answer buffer it leaves what the rules say
+pub record Left (c : Card) (k : Call) (r : Result) : Type 0 where
+  pub card : r .card ≡ c
+  pub memory : r .memory ≡ memoryOf k
+  pub buffer : r .buffer ≡ bufferRefused (number (r .answer)) k
+
+settled-unchanged : (c : Card) (k : Call) (n : ℕ) → Left c k (settled (some n) c k)
 settled-unchanged c k n = record { card = refl; memory = refl; buffer = rw (answered-number n) }
 
-pub step-unchanged : (c : Card) (k : Call) → isDone (step c k .answer) ≡ false → Unchanged c k (step c k)
+pub step-unchanged : (c : Card) (k : Call) → isDone (step c k .answer) ≡ false → Left c k (step c k)
 unfolding step
 step-unchanged c k = go (refusal (checks c k))
   where
-    go : (o : Option ℕ) → isDone (settled o c k .answer) ≡ false → Unchanged c k (settled o c k)
+    go : (o : Option ℕ) → isDone (settled o c k .answer) ≡ false → Left c k (settled o c k)
     go none e = absurd (true≢false e)
     go (some n) e = settled-unchanged c k n
 
@@ -194,11 +201,11 @@ module _ (cardOf : List ℕ → Card) (accepts : List ℕ → Bool) where
       go false = refl
 
   -- demand 1: a refused or held call changes no memory, no table and no lent byte, but for the one ack byte of a refused command
-  pub owed-unchanged : (l : List ℕ) (k : Call) → isDone (owed cardOf accepts l k .answer) ≡ false → Unchanged (cardOf l) k (owed cardOf accepts l k)
+  pub owed-unchanged : (l : List ℕ) (k : Call) → isDone (owed cardOf accepts l k .answer) ≡ false → Left (cardOf l) k (owed cardOf accepts l k)
   owed-unchanged l k = rw (owed-is l k) (go (usable cardOf accepts l k))
     where
       go : (b : Bool) → isDone (cond b (step (cardOf l) k) (settled (some 15) (cardOf l) k) .answer) ≡ false →
-          Unchanged (cardOf l) k (cond b (step (cardOf l) k) (settled (some 15) (cardOf l) k))
+          Left (cardOf l) k (cond b (step (cardOf l) k) (settled (some 15) (cardOf l) k))
       go true e = step-unchanged (cardOf l) k e
       go false e = settled-unchanged (cardOf l) k 15
 
@@ -232,5 +239,32 @@ module _ (cardOf : List ℕ → Card) (accepts : List ℕ → Bool) where
       go none e = code-done (statusOf (cardOf l) k)
       go (some n) e = let h = owed-within l k n e in code-refused n (h .0) (h .1)
 
+-- ---- demand 1 over the lent state
+
+buffer-left : (n : ℕ) (k : Call) → bufferRefused n k ≡ bufferLeft n k
+buffer-left n (Call.reset k) = refl
+buffer-left n (Call.control k a) = ap (λ (x : List ℕ). cond (eqb n 12 || eqb n 15) a x) (error-ack a)
+buffer-left n (Call.send q x m) = refl
+buffer-left n (Call.receive q x) = refl
+buffer-left n (Call.flush q) = refl
+buffer-left n (Call.poll k b) = refl
+
+bytes-left : (l : List ℕ) (k : Call) → isDone (owed card accepts l k .answer) ≡ false → bytesAfter l k ≡ l
+bytes-left l k = go (refusal (owedChecks card accepts l k))
+  where
+    go : (o : Option ℕ) → isDone (settled o (card l) k .answer) ≡ false → bytesBy o l k ≡ l
+    go none d = absurd (true≢false d)
+    go (some n) d = refl
+
+unchanged : (l : List ℕ) (k : Call) → isDone (owed card accepts l k .answer) ≡ false → Unchanged l k
+unchanged l k d =
+    let u = owed-unchanged card accepts l k d in
+    record {
+      bytes = bytes-left l k d;
+      card = u .card;
+      memory = u .memory;
+      buffer = u .buffer ∙ buffer-left (number (owed card accepts l k .answer)) k;
+    }
+
 pub demand1 : Demand1
-demand1 = record { ends = owed-listed card accepts; keeps = owed-unchanged card accepts }
+demand1 = record { ends = owed-listed card accepts; keeps = unchanged }
