@@ -5,7 +5,7 @@ use mathlib.Core.Bool.{Bool, true, false}
 use mathlib.Core.List.{List, [], _∷_, _++_}
 use Prim.Native.Nat.{ℕ, _+_, _*_, _^_}
 use lib.ListN.{replicate, take, drop, length}
-use Rattle.wire.specs.Fields.{fieldsAt, putFields}
+use Rattle.wire.specs.Fields.{fieldsAt, putFields, within, clear, apart}
 use Rattle.wire.specs.Le.{leAt, putLe}
 use Rattle.wire.specs.Rows.{rows, rowsFrom}
 use Rattle.wire.specs.Scan.{lowest, lowestFrom, anyBelow, all}
@@ -169,7 +169,7 @@ pieces-read = refl
 -- wr_id 0, count 8, "pieces from 24"
 pub receive-read : receiveIn (1 ∷ 0 ∷ 0 ∷ 0 ∷ 0 ∷ 0 ∷ 0 ∷ 2 ∷ 2 ∷ 0 ∷ 0 ∷ 0 ∷ (replicate 12 99 ++ pieces))
     ≡ record { wr = 1 + 2 * 2 ^ 56; sges = pieces-are }
-unfolding fieldsAt leAt receiveSges receiveIn receiveOf
+unfolding fieldsAt leAt within clear apart receiveSges receiveIn receiveOf
 receive-read = refl
 
 -- wr_id 0, count 8, pieces from 24

@@ -261,7 +261,7 @@ unchanged l k d =
     let u = owed-unchanged card accepts l k d in
     record {
       bytes = bytes-left l k d;
-      card = u .card;
+      tables = u .card;
       memory = u .memory;
       buffer = u .buffer ∙ buffer-left (number (owed card accepts l k .answer)) k;
     }

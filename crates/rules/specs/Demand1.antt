@@ -24,7 +24,7 @@ bufferLeft n (Call.poll k b) = b
 -- "changes no memory, no table and no lent byte"
 pub record Unchanged (l : List ℕ) (k : Call) : Type 0 where
   pub bytes : bytesAfter l k ≡ l
-  pub card : owed card accepts l k .card ≡ card l
+  pub tables : owed card accepts l k .card ≡ card l
   pub memory : owed card accepts l k .memory ≡ memoryOf k
   pub buffer : owed card accepts l k .buffer ≡ bufferLeft (number (owed card accepts l k .answer)) k
 
