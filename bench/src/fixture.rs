@@ -69,6 +69,11 @@ pub fn write(length: u32, pieces: u32) -> Vec<u8> {
     send.bytes()
 }
 
+/// The same with `length` inline bytes.
+pub fn inline_write(length: usize) -> Vec<u8> {
+    Send::new(1, 0).remote(REMOTE_VIRT, REMOTE_KEY).inline(&vec![7; length]).bytes()
+}
+
 fn run(state: &mut [u8], command: Vec<u8>) {
     assert_eq!(Reference.control(state, &command, &mut [0; 13]).answer, 0);
 }

@@ -13,8 +13,13 @@ fn main() {
     let first: &dyn Card = proved().unwrap_or(&Reference);
     heading(first.name(), Reference.name());
     for (tables, state) in [("thin", fixture::thin()), ("full", fixture::full())] {
-        for (name, length, pieces) in [("64 bytes", 64, 1), ("4,096 bytes", 4096, 1), ("4,096 bytes in four pieces", 4096, 4)] {
-            let record = fixture::write(length, pieces);
+        for (name, record) in [
+            ("64 bytes", fixture::write(64, 1)),
+            ("4,096 bytes", fixture::write(4096, 1)),
+            ("4,096 bytes in four pieces", fixture::write(4096, 4)),
+            ("64 inline bytes", fixture::inline_write(64)),
+            ("512 inline bytes", fixture::inline_write(512)),
+        ] {
             let (mut ours, mut theirs) = (writes(first, &state, &record), writes(&Reference, &state, &record));
             compare(&format!("write {name}, {tables}"), calls, &mut ours, &mut theirs);
         }
@@ -22,8 +27,8 @@ fn main() {
         fixture::fill_queues(&mut unread);
         compare(&format!("poll, {tables}"), calls, &mut polls(first, &unread), &mut polls(&Reference, &unread));
     }
-    println!("Lent buffers are made once and never cleared in the timing. The reference copies one piece in place and clears");
-    println!("a staging array of 4,096 bytes only for several pieces. Refilling the queues before polls isn't timed.");
+    println!("Lent buffers are made once and never cleared in the timing. The reference copies one piece, and inline bytes, in place and");
+    println!("clears a staging array of 4,096 bytes only for several pieces. Refilling the queues before polls isn't timed.");
 }
 
 fn writes<'a>(card: &'a dyn Card, state: &[u8], record: &'a [u8]) -> Work<'a> {
