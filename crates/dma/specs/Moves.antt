@@ -203,3 +203,16 @@ pub inlined : (c : Card) (m m′ z st vs : List ℕ) (ts : List Sge) → sgeTota
     → m′ ≡ stored m (places c ts) st → m′ ≡ stored m (places c ts) vs
 inlined c m m′ z st vs ts k e w =
     staged c m m′ st vs ts (length vs) k (ap (take (length vs)) e ∙ front z vs (length vs) (omega arith) ∙ take-length vs) w
+
+-- inline bytes to one entry
+pub inline-run : (c : Card) (m m′ vs : List ℕ) (t : Sge) (b : ℕ) → Run c (length m) t → b ≡ locate c (byte (t .address) (t .key))
+    → t .length ≡ length vs → m′ ≡ paste m b vs (length vs) → m′ ≡ stored m (placesOf c t) vs
+inline-run c m m′ vs t b r eb k e = copied-in c m t 0 m′ vs b r eb (omega arith) (rw k e)
+
+module _ (c : Card) (ts : List Sge) (nt : ℕ) (t : nt ≡ 1) (ht : 1 ≤ length ts) where
+  pub inline-single : mappedAll c (sgeBytes (take nt ts)) ≡ true → (n : ℕ) → sgeTotal (take nt ts) ≡ n
+      → (mappedAll c (bytesOf (getD ts 0 noSge)) ≡ true) × (getD ts 0 noSge .length ≡ n)
+  inline-single h n k = (rw (alone-bytes c ts nt t ht) at h, sym (alone-total c ts nt t ht) ∙ k)
+
+  pub inline-done : (m m′ vs : List ℕ) → m′ ≡ stored m (placesOf c (getD ts 0 noSge)) vs → m′ ≡ stored m (places c (take nt ts)) vs
+  inline-done m m′ vs e = rw (alone-bytes c ts nt t ht) e

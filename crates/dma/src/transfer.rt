@@ -147,8 +147,32 @@ pub fn transfer(state: &[u8], memory: &mut [u8], from: [Sge; 4], nf: usize, to: 
     transfer_many(state, memory, from, nf, to, nt);
 }
 
-// Writes inline bytes, which stand in the caller's record, to the first nt entries of to.
-pub fn scatter_inline(state: &[u8], memory: &mut [u8], bytes: &[u8], to: [Sge; 4], nt: usize)
+// Writes inline bytes to a place of memory.
+fn deliver_inline(memory: &mut [u8], bytes: &[u8], to: usize)
+    requires { ⌜ (length (now bytes) ≤ mostInline) × (to + length (now bytes) ≤ length (now memory)) ⌝ }
+    ensures { λ _. ⌜ now (memory .exit) ≡ paste (now (memory .entry)) to (now (bytes .entry)) (length (now (bytes .entry))) ⌝ }
+{
+    let mut staging = [0u8; 4096];
+    let n = bytes.len();
+    wire::copy_bytes(&mut staging, 0, bytes, 0, n);
+    wire::copy_bytes(memory, to, &staging, 0, n);
+}
+
+// Writes inline bytes to one entry.
+fn inline_one(state: &[u8], memory: &mut [u8], bytes: &[u8], to: Sge)
+    requires { ⌜ Ready (now state) (now memory) ⌝ }
+    requires { ⌜ (mappedAll (card (now state)) (bytesOf to) ≡ true) × (to .length ≡ length (now bytes)) × (length (now bytes) ≤ mostInline) ⌝ }
+    ensures { λ _. ⌜ now (memory .exit) ≡ stored (now (memory .entry)) (placesOf (card (now (state .entry))) to) (now (bytes .entry)) ⌝ }
+{
+    if to.length == 0 {
+        return;
+    }
+    let at = place_of(state, to.address, to.key);
+    deliver_inline(memory, bytes, at);
+}
+
+// Writes inline bytes to the first nt entries of to.
+fn inline_many(state: &[u8], memory: &mut [u8], bytes: &[u8], to: [Sge; 4], nt: usize)
     requires { ⌜ Ready (now state) (now memory) ⌝ }
     requires { ⌜ (nt ≤ 4) × (mappedAll (card (now state)) (sgeBytes (take nt to)) ≡ true) × (sgeTotal (take nt to) ≡ length (now bytes)) × (length (now bytes) ≤ mostInline) ⌝ }
     ensures { λ _. ⌜ now (memory .exit) ≡ stored (now (memory .entry)) (places (card (now (state .entry))) (take nt to)) (now (bytes .entry)) ⌝ }
@@ -157,4 +181,18 @@ pub fn scatter_inline(state: &[u8], memory: &mut [u8], bytes: &[u8], to: [Sge; 4
     let n = bytes.len();
     wire::copy_bytes(&mut staging, 0, bytes, 0, n);
     scatter(state, memory, to, nt, &staging);
+}
+
+// Writes inline bytes, which stand in the caller's record, to the first nt entries of to; those of one entry are one move.
+pub fn scatter_inline(state: &[u8], memory: &mut [u8], bytes: &[u8], to: [Sge; 4], nt: usize)
+    requires { ⌜ Ready (now state) (now memory) ⌝ }
+    requires { ⌜ (nt ≤ 4) × (mappedAll (card (now state)) (sgeBytes (take nt to)) ≡ true) × (sgeTotal (take nt to) ≡ length (now bytes)) × (length (now bytes) ≤ mostInline) ⌝ }
+    ensures { λ _. ⌜ now (memory .exit) ≡ stored (now (memory .entry)) (places (card (now (state .entry))) (take nt to)) (now (bytes .entry)) ⌝ }
+{
+    if nt == 1 {
+        let t = to[0];
+        inline_one(state, memory, bytes, t);
+        return;
+    }
+    inline_many(state, memory, bytes, to, nt);
 }

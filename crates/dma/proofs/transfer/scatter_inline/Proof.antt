@@ -1,42 +1,54 @@
+use mathlib.Core.Path.{_≡_}
 use native.Mathlib.Omega.{arith}
 use denote.Ref.{now}
-use lib.ListN.{take}
+use lib.ListN.{length}
 use Prim.Native.Nat.{_-_}
 use Rattle.tables.specs.Image.{card}
-use Rattle.dma.specs.Moves.{inlined}
+use Rattle.dma.specs.Moves.{inline-single, inline-done}
 use borrow.Author.Needs.{needs}
 use Rattle.dma.proofs.transfer.scatter_inline.Statement.{statement}
 use Rattle.dma.proofs.transfer.scatter_inline.Tie as tie
+use Rattle.dma.proofs.transfer.scatter_inline.Reads as reads
+use Rattle.dma.proofs.transfer.scatter_inline.Lts as lts
+use Rattle.dma.proofs.transfer.inline_many.Reads as inline-many-reads
+use Rattle.dma.proofs.transfer.inline_one.Reads as inline-one-reads
 
-slice-aggregate-copy-bytes : tie.Need-slice-aggregate-copy-bytes
-slice-aggregate-copy-bytes c = search needs
+array-copy-out-t : tie.Need-array-copy-out-t
+array-copy-out-t c = search needs
 
-copy-bytes-requires : tie.Need-copy-bytes-requires
-copy-bytes-requires c κs = search needs
-
-slice-aggregate-scatter : tie.Need-slice-aggregate-scatter
-slice-aggregate-scatter c = search needs
-
-scatter-requires : tie.Need-scatter-requires
-scatter-requires c κs =
-    let s = c .before .before .before .before .before .before .before .before in
-    (s .pre .0, (s .pre .1 .0, s .pre .1 .1, omega (arith, c .before .before .before .copy-bytes .kept .0)))
+inline-one-requires : tie.Need-inline-one-requires
+inline-one-requires c κs =
+    let s = c .before .before .before .before .before .before in
+    let x : length (s .args .t4) ≡ 4 = s .good .1 .1 .1 .0 .1 .0 .1 in
+    let h = inline-single (card (now (s .args .state))) (s .args .t4) (s .args .nt) (c .before .before .if1 .taken) (omega arith) (s .pre .1 .1) (length (now (s .args .bytes))) (s .pre .1 .2) in
+    (s .pre .0, (h .0, h .1, s .pre .1 .3))
 
 same-length : tie.Need-same-length
 same-length c = search needs
 
 returns : tie.Need-returns
 returns c =
-    let s = c .before .before .before .before .before .before .before .before .before .before .before in
-    inlined (card (now (s .args .state))) (now (s .args .memory)) _ _ _ (now (s .args .bytes)) (take (s .args .nt) (s .args .to)) (s .pre .1 .2) (c .before .before .before .before .before .before .copy-bytes .ensures) (c .before .before .scatter .ensures)
+    let s = c .before .before .before .before .before .before .before .before .before in
+    let x : length (s .args .t4) ≡ 4 = s .good .1 .1 .1 .0 .1 .0 .1 in
+    inline-done (card (now (s .args .state))) (s .args .t4) (s .args .nt) (c .before .before .before .before .before .if1 .taken) (omega arith) (now (s .args .memory)) _ (now (s .args .bytes)) (c .before .before .inline-one .ensures)
+
+inline-many-requires : tie.Need-inline-many-requires
+inline-many-requires c κs = search needs
+
+same-length-2 : tie.Need-same-length-2
+same-length-2 c = search needs
+
+returns-2 : tie.Need-returns-2
+returns-2 c = search needs
 
 pub scatter-inline-spec : {M : Type 1} → statement M
 scatter-inline-spec =
     tie.close
     (tie.spec
-    slice-aggregate-copy-bytes
-    copy-bytes-requires
-    slice-aggregate-scatter
-    scatter-requires
+    array-copy-out-t
+    inline-one-requires
     same-length
-    returns)
+    returns
+    inline-many-requires
+    same-length-2
+    returns-2)
