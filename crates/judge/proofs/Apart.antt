@@ -17,11 +17,10 @@ use Rattle.rules.specs.Send.{sendStatus, sendMemory}
 use Rattle.judge.specs.Log.{Log}
 use Rattle.judge.specs.Judge.{Right, Standing, standing, domain, grants, passes, passesBy, placed, placeBy, judge}
 use Rattle.judge.specs.Demand3.{Correct, Bytewise, target}
-use Rattle.judge.specs.Apart.{writtenSide, writeRight, targetByte, readSide, readRight, sourceByte, Covered, Reason, Apart, DomainsApart}
+use Rattle.judge.specs.Apart.{writtenSide, writeRight, targetByte, readSide, readRight, sourceByte, Covered, Reason, Apart}
 use Rattle.judge.proofs.Agree.{Agree, Sendable}
 use Rattle.judge.proofs.Bytes.{target-passes, source-passes, on-success, correct-bytes}
 use Rattle.judge.proofs.Demand3.{correct}
-use Rattle.judge.proofs.Run.{every}
 
 -- ---- a number below n where f is x, or none
 
@@ -119,8 +118,3 @@ module _ (l : Log) (q : ℕ) (r : Request) (s : ℕ) (m m′ : List ℕ) (k : Co
 pub apart : (c : Card) (l : Log) (a : Agree c l) (q : ℕ) (r : Request) (m : List ℕ) → Sendable c q r m →
     Apart l q r (sendStatus c q r) m (sendMemory c q r m)
 apart c l a q r m p = apart-bytes l q r (sendStatus c q r) m (sendMemory c q r m) (correct c l a q r m p) (p .opcode) (p .inline)
-
-module _ (cardOf : List ℕ → Card) (accepts : List ℕ → Bool) where
-  pub domains-apart : DomainsApart cardOf accepts
-  unfolding DomainsApart
-  domains-apart st n x e h d xs links = every cardOf accepts st n x e h d Apart apart xs links

@@ -18,12 +18,11 @@ use Rattle.rules.specs.Send.{sendStatus, sendMemory}
 use Rattle.rules.proofs.Stored.{stored-length, stored-other, stored-last, map-length, map-at, range-length, sge-length}
 use Rattle.judge.specs.Log.{Log}
 use Rattle.judge.specs.Judge.{Right, passes, placed, peerNo, oldestAt, ownRight, farRight, fitsReceive, judge, judgedMemory}
-use Rattle.judge.specs.Demand3.{Correct, Bytewise, noByte, target, source, Demand3Bytes}
+use Rattle.judge.specs.Demand3.{Correct, Bytewise, noByte, target, source}
 use Rattle.judge.specs.Apart.{writtenSide, writeRight, targetByte, readSide, readRight, sourceByte}
 use Rattle.judge.proofs.Rights.{same-fills}
 use Rattle.judge.proofs.Agree.{Agree, Sendable}
 use Rattle.judge.proofs.Demand3.{correct}
-use Rattle.judge.proofs.Run.{every}
 
 all-at : {A : Type 0} (p : A → Bool) (xs : List A) (i : ℕ) (d : A) → i < length xs → all p xs ≡ true → p (getD xs i d) ≡ true
 unfolding all
@@ -180,8 +179,3 @@ module _ (l : Log) (q : ℕ) (r : Request) (s : ℕ) (m m′ : List ℕ) (k : Co
 
 pub bytewise : (c : Card) (l : Log) (a : Agree c l) (q : ℕ) (r : Request) (m : List ℕ) → Sendable c q r m → Bytewise l q r (sendStatus c q r) m (sendMemory c q r m)
 bytewise c l a q r m p = correct-bytes l q r (sendStatus c q r) m (sendMemory c q r m) (correct c l a q r m p) (p .opcode) (p .inline)
-
-module _ (cardOf : List ℕ → Card) (accepts : List ℕ → Bool) where
-  pub demand3-bytes : Demand3Bytes cardOf accepts
-  unfolding Demand3Bytes
-  demand3-bytes st n x e h d xs links = every cardOf accepts st n x e h d Bytewise bytewise xs links

@@ -225,5 +225,5 @@ module _ (cardOf : List ℕ → Card) (accepts : List ℕ → Bool) where
 
   pub counted : Counted cardOf accepts
   unfolding Counted
-  counted st n x e h d xs links q = counts-list (x .state) (λ i. none-yet) xs
-      (rw (fresh-card cardOf accepts st n x e h d) (λ q e. absurd (false≢true e))) links q
+  counted x b xs links q = counts-list (x .state) (λ i. none-yet) xs
+      (rw (fresh-card cardOf accepts x b) (λ q e. absurd (false≢true e))) links q

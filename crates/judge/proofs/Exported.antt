@@ -7,7 +7,7 @@ use Rattle.tables.specs.Image.{card}
 use Rattle.rules.specs.Answer.{answerIn}
 use Rattle.rules.specs.Calls.{owed}
 use Rattle.rules.proofs.Answers.{code-back}
-use Rattle.judge.specs.Demand3.{Sent, Met, Linked}
+use Rattle.judge.specs.Demand3.{Sent, Met, Linked, EverySend}
 use Rattle.judge.specs.Exported.{Returned, seen, Kept, Chained, OfExports}
 use Rattle.judge.proofs.Demand3.{Claim}
 use Rattle.judge.proofs.Run.{every}
@@ -25,6 +25,8 @@ linked st [] h = tt
 linked st (x ∷ xs) h = (met st x (h .0), linked (x .state) xs (h .1))
 
 pub of-exports : (P : Sent) → Claim P → OfExports P
-unfolding OfExports
-of-exports P claim st n x e h d xs chain =
-    every card accepts st n (seen x) e (met st x h) (ap answerIn d) P claim (map seen xs) (linked (x .state) xs chain)
+unfolding OfExports EverySend
+of-exports P claim x o xs chain =
+    every card accepts P claim (seen x)
+    (record { before = o .before; length = o .length; reset = o .reset; met = met (o .before) x (o .kept); done = ap answerIn (o .zero) })
+    (map seen xs) (linked (x .state) xs chain)

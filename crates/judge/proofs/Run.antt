@@ -17,7 +17,7 @@ use Rattle.rules.specs.Call.{Call}
 use Rattle.rules.specs.Calls.{checks, effect, settled, step, usable}
 use Rattle.rules.specs.declared.Answer.the-variants.{Done}
 use Rattle.rules.proofs.Answers.{owed-is, step-below, answered-not-done}
-use Rattle.judge.specs.Demand3.{Correct, Seen, Sent, EachSend, logAfter, Met, Linked, Demand3, Resumed, Steady}
+use Rattle.judge.specs.Demand3.{Correct, Seen, Sent, logAfter, Met, Linked, Begins, EverySend, Resumed, Steady}
 use Rattle.judge.proofs.Agree.{Agree, start}
 use Rattle.judge.proofs.Demand3.{Claim, correct, each-send, agrees-after}
 
@@ -34,34 +34,34 @@ reset-done c n = go (refusal (checks c (Call.reset n)))
     go (some k) e = absurd (not-refused k e)
 
 module _ (cardOf : List ℕ → Card) (accepts : List ℕ → Bool) where
-  module _ (st : List ℕ) (n : ℕ) (x : Seen) (is-reset : x .call ≡ Call.reset n) (met : Met cardOf accepts st x) (done : x .answer ≡ Done 0) where
+  module _ (x : Seen) (b : Begins cardOf accepts x) where
+    abbrev c : Card
+    c = cardOf (b .before)
+
     -- whatever the state held
-    pub fresh-card : cardOf (x .state) ≡ fresh n
+    pub fresh-card : cardOf (x .state) ≡ fresh (b .length)
     fresh-card =
-        rw (met .card, is-reset, owed-is cardOf accepts st (Call.reset n))
-        (go (eqb (length st) image) (rw (is-reset, owed-is cardOf accepts st (Call.reset n)) at (sym (met .answer) ∙ done)))
+        rw (b .met .card, b .reset, owed-is cardOf accepts (b .before) (Call.reset (b .length)))
+        (go (eqb (length (b .before)) image) (rw (b .reset, owed-is cardOf accepts (b .before) (Call.reset (b .length))) at (sym (b .met .answer) ∙ b .done)))
       where
-        go : (b : Bool) → cond b (step (cardOf st) (Call.reset n)) (settled (some 15) (cardOf st) (Call.reset n)) .answer ≡ Done 0 →
-            cond b (step (cardOf st) (Call.reset n)) (settled (some 15) (cardOf st) (Call.reset n)) .card ≡ fresh n
-        go true e = reset-done (cardOf st) n e
+        go : (y : Bool) → cond y (step c (Call.reset (b .length))) (settled (some 15) c (Call.reset (b .length))) .answer ≡ Done 0 →
+            cond y (step c (Call.reset (b .length))) (settled (some 15) c (Call.reset (b .length))) .card ≡ fresh (b .length)
+        go true e = reset-done c (b .length) e
         go false e = absurd (not-refused 15 e)
 
     begun : Agree (cardOf (x .state)) []
-    begun = rw fresh-card (start n)
+    begun = rw fresh-card (start (b .length))
 
-    -- any claim of the work requests of a list
-    pub every : (P : Sent) → Claim P → (xs : List Seen) → Linked cardOf accepts (x .state) xs → EachSend P [] xs
-    every P claim xs links = each-send P claim cardOf accepts (x .state) [] xs begun links
-
-  pub demand3 : Demand3 cardOf accepts
-  unfolding Demand3
-  demand3 st n x e h d xs links = every st n x e h d Correct correct xs links
+  -- any claim of the work requests of a list
+  pub every : (P : Sent) → Claim P → EverySend cardOf accepts P
+  unfolding EverySend
+  every P claim x b xs links = each-send P claim cardOf accepts (x .state) [] xs (begun x b) links
 
   pub resumed : Resumed cardOf accepts
   unfolding Resumed
-  resumed st n x e h d xs links st′ is ys more =
-      each-send Correct correct cardOf accepts st′ (logAfter [] xs) ys
-      (rw is (agrees-after Correct correct cardOf accepts (x .state) [] xs (begun st n x e h d) links)) more
+  resumed x b xs links st is ys more =
+      each-send Correct correct cardOf accepts st (logAfter [] xs) ys
+      (rw is (agrees-after Correct correct cardOf accepts (x .state) [] xs (begun x b) links)) more
 
   -- ---- no call of such a list is answered 15
 
@@ -95,4 +95,4 @@ module _ (cardOf : List ℕ → Card) (accepts : List ℕ → Bool) where
 
     pub steady : Steady cardOf accepts
     unfolding Steady
-    steady st n x e h d xs links = all-steady (x .state) xs (h .sound (ap isDone d)) links
+    steady x b xs links = all-steady (x .state) xs (b .met .sound (ap isDone (b .done))) links

@@ -14,9 +14,9 @@ use Rattle.judge.specs.Demand3.{Correct, Bytewise}
 use Rattle.judge.specs.Apart.{Apart}
 use Rattle.judge.specs.Whole.{Whole}
 use Rattle.judge.proofs.Demand3.{correct}
-use Rattle.judge.proofs.Run.{demand3, resumed, steady}
-use Rattle.judge.proofs.Bytes.{bytewise, demand3-bytes}
-use Rattle.judge.proofs.Apart.{apart, domains-apart}
+use Rattle.judge.proofs.Run.{every, resumed, steady}
+use Rattle.judge.proofs.Bytes.{bytewise}
+use Rattle.judge.proofs.Apart.{apart}
 use Rattle.judge.proofs.Exported.{linked, of-exports}
 use Rattle.judge.proofs.Count.{puts-are, counted}
 
@@ -25,9 +25,9 @@ accepted-length l e = eq-eqb (length l) image (accepted l e .sized)
 
 pub whole : Whole
 whole = record {
-  judged = demand3 card accepts;
-  bytes = demand3-bytes card accepts;
-  apart = domains-apart card accepts;
+  judged = every card accepts Correct correct;
+  bytes = every card accepts Bytewise bytewise;
+  apart = every card accepts Apart apart;
   resumed = resumed card accepts;
   steady = steady card accepts accepted-length;
   put = puts-are;

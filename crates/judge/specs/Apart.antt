@@ -2,18 +2,15 @@
 -- message is read out of regions of the read side's domain only. Assumes nothing.
 use mathlib.Core.Path.{_≡_}
 use mathlib.Core.Logic.{_≢_}
-use mathlib.Core.Bool.{Bool, true, false, cond}
-use mathlib.Core.List.{List, []}
+use mathlib.Core.Bool.{true, false, cond}
+use mathlib.Core.List.{List}
 use mathlib.Core.Option.{some}
 use Prim.Native.Nat.{ℕ, _+_, _≤_, _<_}
 use lib.ListN.{getD}
-use Rattle.tables.specs.Card.{Card}
-use Rattle.rules.specs.declared.Answer.the-variants.{Done}
-use Rattle.rules.specs.Call.{Call}
 use Rattle.rules.specs.Touch.{Request, Byte, reads, total, sourceBytes, targetBytes}
 use Rattle.judge.specs.Log.{Log}
 use Rattle.judge.specs.Judge.{Right, Standing, standing, domain, passes, placed, peerNo, oldestAt, ownRight, farRight}
-use Rattle.judge.specs.Demand3.{noByte, Seen, EachSend, Met, Linked}
+use Rattle.judge.specs.Demand3.{noByte}
 
 -- the queue pair that the written bytes belong to: the sender for a read, its peer otherwise
 abbrev pub writtenSide : Log → (q : ℕ) → Request → ℕ
@@ -59,6 +56,7 @@ pub record Reason (l : Log) (q : ℕ) (r : Request) (p : ℕ) : Type 0 where
   pub passed : passes l (writtenSide l q r) (writeRight (r .opcode)) (targetByte l q r i) ≡ true
   pub covered : Covered l (writtenSide l q r) (targetByte l q r i) p
 
+-- of a work request answered 0
 pub record Apart (l : Log) (q : ℕ) (r : Request) (s : ℕ) (m m′ : List ℕ) : Type 0 where
   -- a memory byte that differs after the call has its reason
   pub changed : (p : ℕ) → getD m′ p 0 ≢ getD m p 0 → Reason l q r p
@@ -70,10 +68,3 @@ pub record Apart (l : Log) (q : ℕ) (r : Request) (s : ℕ) (m m′ : List ℕ)
   pub read : s ≡ 0 → r .inline ≡ false → (i : ℕ) → i < total r →
       (passes l (readSide l q r) (readRight (r .opcode)) (sourceByte l q r i) ≡ true) ×
       Covered l (readSide l q r) (sourceByte l q r i) (placed l (sourceByte l q r i))
-
-module _ (cardOf : List ℕ → Card) (accepts : List ℕ → Bool) where
-  -- of each work request answered 0, in every list of calls that follows a reset answered 0
-  unfoldable pub DomainsApart : Type 0
-  DomainsApart =
-      (st : List ℕ) (n : ℕ) (x : Seen) → x .call ≡ Call.reset n → Met cardOf accepts st x → x .answer ≡ Done 0 →
-      (xs : List Seen) → Linked cardOf accepts (x .state) xs → EachSend Apart [] xs

@@ -15,7 +15,7 @@ use Rattle.rules.specs.Send.{Put, putAll, sendPuts, sendStatus}
 use Rattle.rules.specs.Queues.{flushPut}
 use Rattle.rules.specs.Call.{Call}
 use Rattle.judge.specs.Log.{Note, noteCall, ackOf, begins}
-use Rattle.judge.specs.Demand3.{Seen, stateAfter, Met, Linked}
+use Rattle.judge.specs.Demand3.{Seen, stateAfter, Linked, Begins}
 
 -- the completions that a call puts when it is done
 unfoldable pub puts : Card → Call → List Put
@@ -73,8 +73,7 @@ module _ (cardOf : List ℕ → Card) (accepts : List ℕ → Bool) where
   -- after every list of calls that follows a reset answered 0, for every live queue pair
   unfoldable pub Counted : Type 0
   Counted =
-      (st : List ℕ) (n : ℕ) (x : Seen) → x .call ≡ Call.reset n → Met cardOf accepts st x → x .answer ≡ Done 0 →
-      (xs : List Seen) → Linked cardOf accepts (x .state) xs → (q : ℕ) →
+      (x : Seen) → Begins cardOf accepts x → (xs : List Seen) → Linked cardOf accepts (x .state) xs → (q : ℕ) →
       let s = cardOf (stateAfter (x .state) xs) .qp q in
       let t = tallyAfter (λ i. none-yet) (x .state) xs q in
       s .live ≡ true → t .accepted ≡ t .put + t .dropped + length (s .waiting)

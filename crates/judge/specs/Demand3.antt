@@ -104,28 +104,31 @@ module _ (cardOf : List ℕ → Card) (accepts : List ℕ → Bool) where
   Linked st [] = Unit {0}
   Linked st (x ∷ xs) = Met st x × Linked (x .state) xs
 
-  -- Demand 3. After a reset answered 0, whatever the state held, each work request of any list of calls that is neither refused nor
-  -- held is judged right. Memory and buffers may be any at each call. A reset answered 0 within the list begins a new log.
-  unfoldable pub Demand3 : Type 0
-  Demand3 =
-      (st : List ℕ) (n : ℕ) (x : Seen) → x .call ≡ Call.reset n → Met st x → x .answer ≡ Done 0 →
-      (xs : List Seen) → Linked (x .state) xs → EachSend Correct [] xs
+  -- "a reset answered 0, whatever the state held"
+  pub record Begins (x : Seen) : Type 0 where
+    pub before : List ℕ
+    pub length : ℕ
+    pub reset : x .call ≡ Call.reset length
+    pub met : Met before x
+    pub done : x .answer ≡ Done 0
 
-  -- the same in the demand's own words, one byte at a time
-  unfoldable pub Demand3Bytes : Type 0
-  Demand3Bytes =
-      (st : List ℕ) (n : ℕ) (x : Seen) → x .call ≡ Call.reset n → Met st x → x .answer ≡ Done 0 →
-      (xs : List Seen) → Linked (x .state) xs → EachSend Bytewise [] xs
+  -- P of each work request, neither refused nor held, of any list of calls after such a reset. Memory and buffers may be any at each
+  -- call. A reset answered 0 within the list begins a new log.
+  unfoldable pub EverySend : Sent → Type 0
+  EverySend P = (x : Seen) → Begins x → (xs : List Seen) → Linked (x .state) xs → EachSend P [] xs
+
+  -- Demand 3: each is judged right
+  abbrev pub Demand3 : Type 0
+  Demand3 = EverySend Correct
 
   -- a state that means the card that a list left goes on with the list's log
   unfoldable pub Resumed : Type 0
   Resumed =
-      (st : List ℕ) (n : ℕ) (x : Seen) → x .call ≡ Call.reset n → Met st x → x .answer ≡ Done 0 →
-      (xs : List Seen) → Linked (x .state) xs → (st′ : List ℕ) → cardOf st′ ≡ cardOf (stateAfter (x .state) xs) →
-      (ys : List Seen) → Linked st′ ys → EachSend Correct (logAfter [] xs) ys
+      (x : Seen) → Begins x → (xs : List Seen) → Linked (x .state) xs →
+      (st : List ℕ) → cardOf st ≡ cardOf (stateAfter (x .state) xs) → (ys : List Seen) → Linked st ys → EachSend Correct (logAfter [] xs) ys
 
   -- every state of the list is accepted, and no call of it is answered 15
   unfoldable pub Steady : Type 0
   Steady =
-      (st : List ℕ) (n : ℕ) (x : Seen) → x .call ≡ Call.reset n → Met st x → x .answer ≡ Done 0 →
-      (xs : List Seen) → Linked (x .state) xs → All (λ y. (accepts (y .state) ≡ true) × (eqb (number (y .answer)) 15 ≡ false)) xs
+      (x : Seen) → Begins x → (xs : List Seen) → Linked (x .state) xs →
+      All (λ y. (accepts (y .state) ≡ true) × (eqb (number (y .answer)) 15 ≡ false)) xs

@@ -29,9 +29,14 @@ unfoldable pub Chained : (st : List ℕ) → List Returned → Type 0
 Chained st [] = Unit {0}
 Chained st (x ∷ xs) = Kept st x × Chained (x .state) xs
 
--- After a reset that returned 0, whatever the state held, P holds of each work request, neither refused nor held, of any list of calls
--- of the exported functions.
+-- a reset that returned 0, whatever the state held
+pub record Opens (x : Returned) : Type 0 where
+  pub before : List ℕ
+  pub length : ℕ
+  pub reset : x .call ≡ Call.reset length
+  pub kept : Kept before x
+  pub zero : x .result ≡ 0
+
+-- P of each work request, neither refused nor held, of any list of calls of the exported functions after such a reset
 unfoldable pub OfExports : Sent → Type 0
-OfExports P =
-    (st : List ℕ) (n : ℕ) (x : Returned) → x .call ≡ Call.reset n → Kept st x → x .result ≡ 0 →
-    (xs : List Returned) → Chained (x .state) xs → EachSend P [] (map seen xs)
+OfExports P = (x : Returned) → Opens x → (xs : List Returned) → Chained (x .state) xs → EachSend P [] (map seen xs)

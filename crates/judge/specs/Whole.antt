@@ -3,8 +3,8 @@ use mathlib.Core.List.{List, map}
 use Prim.Native.Nat.{ℕ}
 use Rattle.tables.specs.Accept.{accepts}
 use Rattle.tables.specs.Image.{card}
-use Rattle.judge.specs.Demand3.{Correct, Bytewise, Linked, Demand3, Demand3Bytes, Resumed, Steady}
-use Rattle.judge.specs.Apart.{Apart, DomainsApart}
+use Rattle.judge.specs.Demand3.{Correct, Bytewise, Linked, EverySend, Demand3, Resumed, Steady}
+use Rattle.judge.specs.Apart.{Apart}
 use Rattle.judge.specs.Exported.{Returned, seen, Chained, OfExports}
 use Rattle.judge.specs.Count.{Puts, Counted}
 
@@ -12,10 +12,10 @@ pub record Whole : Type 0 where
   -- each work request is judged right
   pub judged : Demand3 card accepts
   -- one byte at a time
-  pub bytes : Demand3Bytes card accepts
+  pub bytes : EverySend card accepts Bytewise
   -- no byte outside the regions of the written side's domain changes, and a message that is not inline comes out of regions of the
   -- read side's domain
-  pub apart : DomainsApart card accepts
+  pub apart : EverySend card accepts Apart
   -- each work request is judged right from a state that means a card that a list left, too
   pub resumed : Resumed card accepts
   -- no call of the list finds its state unacceptable
