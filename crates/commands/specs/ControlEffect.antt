@@ -16,13 +16,13 @@ use Rattle.wire.specs.Scan.{all, lowest-passes, and-left, and-right}
 use Rattle.wire.specs.Slots.{upd-twice}
 use Rattle.wire.specs.Table.{rowAt, putRow, finish, elsewhere, row-stored}
 use Rattle.tables.specs.Accept.{regionOk, mrOk}
-use Rattle.tables.specs.Accepted.{Accepted, queueing, registered, registering}
+use Rattle.tables.specs.Accepted.{Accepted, memory-most, queueing, registered, registering}
 use Rattle.tables.specs.Card.{withMr}
 use Rattle.tables.specs.Image.{card, mrOf, cqOf, entriesAt}
 use Rattle.tables.specs.Kept.{memory-same, mr-stored, mr-flagged}
 use Rattle.tables.specs.KeptNamed.{pd-made, pd-dropped, cq-made, cq-dropped}
 use Rattle.tables.specs.Layout.{memoryT, pdT, mrLiveT, mrT, cqT}
-use Rattle.tables.specs.Limits.{pdCount, cqCount, mrCount, mostPlaces, mostMemory, mostAddress, mostAccess}
+use Rattle.tables.specs.Limits.{pdCount, cqCount, mrCount, mostPlaces, mostAddress, mostAccess}
 use Rattle.tables.specs.Objects.{memory-is, pd-below, cq-below, mr-below, mr-live, mr-variant}
 use Rattle.tables.specs.Records.{Command}
 use Rattle.tables.specs.Search.{freePdn, freeCqn, freeMrn}
@@ -134,9 +134,6 @@ module _ (l : List ℕ) (ok : Accepted l) where
             by true = omega arith
             by false = omega arith
 
-    memory-most : rowAt memoryT l 0 ≤ mostMemory
-    memory-most = leb-true (rowAt memoryT l 0) mostMemory (and-right (leb 1 (rowAt memoryT l 0)) (leb (rowAt memoryT l 0) mostMemory) (ok .memory))
-
     fits : Fits mrT row
     unfolding mrT Fit
     fits =
@@ -144,7 +141,7 @@ module _ (l : List ℕ) (ok : Accepted l) where
         let b = pd-below l (g .pd) domain in
         let c = variant .1 in
         let d = inside in
-        let f = memory-most in
+        let f = memory-most l ok in
         let s = space in
         (omega arith, (omega arith, (omega arith, (omega arith, (omega arith, (omega arith, tt))))))
 

@@ -9,7 +9,7 @@ use native.Mathlib.Omega.{arith}
 use lib.Dec.{eqb, ltb, leb}
 use borrow.Author.Tests.{leb-true, leb-false, ltb-false, le-leb, eqb-true, eqb-false, eq-eqb, ne-eqb, not-true, not-false}
 use Rattle.wire.specs.Checks.{_if_, refusal, Passed, passed, has, only}
-use Rattle.wire.specs.Fields.{Fit, fieldsAt, fieldsAt-fit}
+use Rattle.wire.specs.Fields.{Fit}
 use Rattle.wire.specs.Ring.{ringList}
 use Rattle.wire.specs.Scan.{all, lowest-passes, and-left, and-right, or-left, or-right}
 use Rattle.wire.specs.Slots.{upd-twice}

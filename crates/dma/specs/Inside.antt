@@ -1,18 +1,18 @@
 -- An accepted state's live regions lie in its memory and below address 2^64. Assumes nothing.
 use mathlib.Core.Path.{_≡_, sym, ap, _∙_}
-use mathlib.Core.Bool.{Bool, true, _&&_}
+use mathlib.Core.Bool.{true}
 use mathlib.Core.List.{List}
 use Prim.Native.Nat.{ℕ, _+_, _-_, _/_, _^_, _≤_, _<_}
 use native.Mathlib.Omega.{arith}
 use lib.ListN.{length}
-use lib.Dec.{eqb, leb}
-use borrow.Author.Tests.{eqb-true, leb-true}
-use Rattle.wire.specs.Scan.{allBelow, all-at, and-left, and-right}
+use borrow.Author.Tests.{eqb-true}
+use Rattle.wire.specs.Scan.{and-left, and-right}
 use Rattle.wire.specs.Table.{rowAt}
-use Rattle.tables.specs.Accept.{accepts, memoryOk, pdOk, cqOk, mrOk, qpOk, regionOk}
+use Rattle.tables.specs.Accept.{accepts, mrOk}
+use Rattle.tables.specs.Accepted.{accepted, memory-most, registered, ranged}
 use Rattle.tables.specs.Image.{card, registrationOf}
-use Rattle.tables.specs.Layout.{image, memoryT, mrLiveT, mrT}
-use Rattle.tables.specs.Limits.{pdCount, cqCount, mrCount, qpCount, mostMemory, mostAddress, mostAccess}
+use Rattle.tables.specs.Layout.{memoryT, mrLiveT, mrT}
+use Rattle.tables.specs.Limits.{mrCount, mostMemory, mostAddress}
 use Rattle.tables.specs.Objects.{memory-is, mr-live, mr-below, mr-row}
 use Rattle.tables.specs.declared.Region.{Region}
 use Rattle.tables.specs.declared.Registration.{Registration}
@@ -39,42 +39,14 @@ pub record Place (l : List ℕ) (b : Byte) (r : Region) : Type 0 where
   pub is : r .start + (b .address - r .virt) ≡ locate (card l) b
 
 module _ (l : List ℕ) (ok : accepts l ≡ true) where
-  module _ where
-    abbrev parts : Bool
-    parts = memoryOk (rowAt memoryT l 0) && allBelow pdCount (pdOk l) && allBelow cqCount (cqOk l) && allBelow mrCount (mrOk l)
-
-    tests : (parts && allBelow qpCount (qpOk l)) ≡ true
-    unfolding accepts
-    tests = and-right (eqb (length l) image) (parts && allBelow qpCount (qpOk l)) ok
-
-  pub accepted-length : length l ≡ image
-  unfolding accepts
-  accepted-length = eqb-true (length l) image (and-left (eqb (length l) image) (parts && allBelow qpCount (qpOk l)) ok)
-
-  pub memory-most : rowAt memoryT l 0 ≤ mostMemory
-  memory-most =
-      let three = and-left parts (allBelow qpCount (qpOk l)) tests in
-      let two = and-left _ (allBelow mrCount (mrOk l)) three in
-      let one = and-left _ (allBelow cqCount (cqOk l)) two in
-      let m = and-left (memoryOk (rowAt memoryT l 0)) (allBelow pdCount (pdOk l)) one in
-      leb-true (rowAt memoryT l 0) mostMemory (and-right (leb 1 (rowAt memoryT l 0)) (leb (rowAt memoryT l 0) mostMemory) m)
-
-  region-tests : (n : ℕ) → n < mrCount → mrOk l n ≡ true
-  region-tests n h =
-      let three = and-left parts (allBelow qpCount (qpOk l)) tests in
-      all-at mrCount (mrOk l) n h (and-right (memoryOk (rowAt memoryT l 0) && allBelow pdCount (pdOk l) && allBelow cqCount (cqOk l)) (allBelow mrCount (mrOk l)) three)
-
   lies-row : (n : ℕ) → n < mrCount → rowAt mrLiveT l n ≡ 1 → Lies (rowAt memoryT l 0) (registrationOf (rowAt mrT l n))
   unfolding mrOk
   lies-row n h e =
       let r : Region = rowAt mrT l n in
       let m : ℕ = rowAt memoryT l 0 in
-      let t : (card l .pd (r .pd) && regionOk m r) ≡ true = rw e at (region-tests n h) in
-      let k = and-right (card l .pd (r .pd)) (regionOk m r) t in
-      let five = and-right (leb (r .access) mostAccess && leb 1 (r .variant) && leb 1 (r .length) && leb (r .start + r .length) m) (leb (r .virt + r .length) mostAddress) k in
-      let four = and-right (leb (r .access) mostAccess && leb 1 (r .variant) && leb 1 (r .length)) (leb (r .start + r .length) m)
-      (and-left (leb (r .access) mostAccess && leb 1 (r .variant) && leb 1 (r .length) && leb (r .start + r .length) m) (leb (r .virt + r .length) mostAddress) k) in
-      record { room = leb-true (r .start + r .length) m four; word = leb-true (r .virt + r .length) mostAddress five }
+      let s = registered (card l .pd) m (rowAt mrLiveT l n) r (accepted l ok .mrs n h) (λ z. omega arith) in
+      let g = ranged m r (s .limits) in
+      record { room = g .inside; word = g .space }
 
   row-live : (n : ℕ) → card l .mr n .live ≡ true → rowAt mrLiveT l n ≡ 1
   row-live n e = eqb-true (rowAt mrLiveT l n) 1 (sym (mr-live l n (mr-below l n e)) ∙ e)
@@ -95,7 +67,7 @@ module _ (l : List ℕ) (ok : accepts l ≡ true) where
         covered = covers-facts (card l .mr n .reg) (b .address) (and-right (card l .mr n .live) (within (card l .mr n .reg) (b .address)) e);
       }
 
-  -- the place of a mapped byte, and so of a permitted one, is below the memory's length
+  -- the place of a mapped byte is below the memory's length
   pub mapped-below : (b : Byte) → mapped (card l) b ≡ true → locate (card l) b < rowAt memoryT l 0
   unfolding locate byteOf
   mapped-below b e =
@@ -104,9 +76,6 @@ module _ (l : List ℕ) (ok : accepts l ≡ true) where
       let y = p .covered .low in
       let z = p .covered .high in
       omega arith
-
-  pub permitted-below : (pd mask : ℕ) (b : Byte) → allows (card l) pd mask b ≡ true → locate (card l) b < rowAt memoryT l 0
-  permitted-below pd mask b e = mapped-below b (permitted-mapped (card l) pd mask b e)
 
   -- "An address at or past 2^64 is never permitted."
   pub permitted-word : (pd mask : ℕ) (b : Byte) → allows (card l) pd mask b ≡ true → b .address < 2 ^ 64
@@ -123,5 +92,5 @@ module _ (l : List ℕ) (ok : accepts l ≡ true) where
       let q : card l .mr (b .key / 256) .reg ≡ registrationOf r = p .row ∙ ap registrationOf (sym e) in
       let is : r .start + (b .address - r .virt) ≡ byteOf (card l .mr (b .key / 256) .reg) (b .address) = rw q in
       let x = mapped-below b h in
-      let y = memory-most in
+      let y = memory-most l (accepted l ok) in
       record { low = rw q at (p .covered .low); small = omega arith; is = is }

@@ -10,7 +10,7 @@ use lib.ListN.{length}
 use lib.Dec.{T, eqb, leb}
 use borrow.Author.Tests.{eq-eqb, ne-eqb, le-leb, lt-leb, lt-ltb, ltb-true}
 use Rattle.wire.specs.Checks.{refusal}
-use Rattle.wire.specs.Fields.{Fit, fieldsAt, fieldsAt-fit}
+use Rattle.wire.specs.Fields.{Fit}
 use Rattle.wire.specs.Slots.{upd}
 use Rattle.wire.specs.Table.{Table, rowAt, putRow, finish, elsewhere, table-other}
 use Rattle.tables.specs.Accept.{accepts, cqLive, completionOk}

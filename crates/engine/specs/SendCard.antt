@@ -7,7 +7,7 @@ use native.Mathlib.Omega.{arith}
 use lib.Dec.{eqb, leb}
 use lib.ListN.{length, length-map}
 use borrow.Author.Tests.{eq-eqb, eqb-true, lt-ltb}
-use Rattle.wire.specs.Fields.{Fit, fieldsAt, fieldsAt-fit}
+use Rattle.wire.specs.Fields.{Fit}
 use Rattle.wire.specs.Ring.{ring-length}
 use Rattle.wire.specs.Scan.{and-left, and-right}
 use Rattle.wire.specs.Slots.{upd}

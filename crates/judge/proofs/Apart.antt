@@ -15,7 +15,7 @@ use Rattle.tables.specs.Card.{Card}
 use Rattle.rules.specs.Touch.{Request, Byte, total, byteOf}
 use Rattle.rules.specs.Send.{sendStatus, sendMemory}
 use Rattle.judge.specs.Log.{Log}
-use Rattle.judge.specs.Judge.{Right, Standing, standing, domain, grants, passes, passesBy, placed, placeBy, judge}
+use Rattle.judge.specs.Judge.{Right, Standing, standing, domain, grants, passes, passesBy, placed, placeBy}
 use Rattle.judge.specs.Demand3.{Correct, Bytewise, target}
 use Rattle.judge.specs.Apart.{writtenSide, writeRight, targetByte, readSide, readRight, sourceByte, Covered, Reason, Apart}
 use Rattle.judge.proofs.Agree.{Agree, Sendable}

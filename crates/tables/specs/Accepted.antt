@@ -12,7 +12,7 @@ use Rattle.wire.specs.Table.{rowAt}
 use Rattle.tables.specs.Accept.{accepts, memoryOk, completionOk, receiveOk, regionOk, pairOk, pdOk, cqSound, cqOk, mrSound, mrOk, qpSound, qpOk}
 use Rattle.tables.specs.Image.{unread, posted}
 use Rattle.tables.specs.Layout.{image, memoryT}
-use Rattle.tables.specs.Limits.{pdCount, cqCount, mrCount, qpCount, mostPlaces, mostWaiting, mostAddress, mostAccess}
+use Rattle.tables.specs.Limits.{pdCount, cqCount, mrCount, qpCount, mostPlaces, mostWaiting, mostMemory, mostAddress, mostAccess}
 use Rattle.tables.specs.declared.Completion.{Completion}
 use Rattle.tables.specs.declared.QueueHead.{QueueHead}
 use Rattle.tables.specs.declared.QueuePair.{QueuePair}
@@ -49,6 +49,10 @@ module _ (l : List ℕ) where
         mrs = λ n h. all-at mrCount (mrOk l) n h (and-right (m && p && c) r e3);
         qps = λ n h. all-at qpCount (qpOk l) n h (and-right (m && p && c && r) q e4);
       }
+
+  pub memory-most : Accepted l → rowAt memoryT l 0 ≤ mostMemory
+  memory-most ok =
+      leb-true (rowAt memoryT l 0) mostMemory (and-right (leb 1 (rowAt memoryT l 0)) (leb (rowAt memoryT l 0) mostMemory) (ok .memory))
 
   pub accepting : Accepted l → accepts l ≡ true
   unfolding accepts

@@ -95,22 +95,6 @@ postBytes l q w =
 unfoldable pub takeBytes : List ℕ → ℕ → List ℕ
 takeBytes l q = putRow waitingT l q (shrunk (rowAt waitingT l q))
 
-pub push-length : (l : List ℕ) (n : ℕ) (e : Completion) → length (pushBytes l n e) ≡ length l
-unfolding pushBytes
-push-length l n e =
-    let h : QueueHead = rowAt cqT l n in
-    putRow-length cqT (putRow entryT l (mostPlaces * n + pushPlace h) e) n (longer h) ∙ putRow-length entryT l (mostPlaces * n + pushPlace h) e
-
-pub pop-length : (l : List ℕ) (n : ℕ) → length (popBytes l n) ≡ length l
-unfolding popBytes
-pop-length l n = putRow-length cqT l n (shorter (rowAt cqT l n))
-
-pub post-length : (l : List ℕ) (q : ℕ) (w : ReceiveRecord) → length (postBytes l q w) ≡ length l
-unfolding postBytes
-post-length l q w =
-    let h : WaitingHead = rowAt waitingT l q in
-    putRow-length waitingT (putRow receiveT l (mostWaiting * q + postPlace h) w) q (grown h) ∙ putRow-length receiveT l (mostWaiting * q + postPlace h) w
-
 pub take-length : (l : List ℕ) (q : ℕ) → length (takeBytes l q) ≡ length l
 unfolding takeBytes
 take-length l q = putRow-length waitingT l q (shrunk (rowAt waitingT l q))

@@ -9,7 +9,7 @@ use native.Mathlib.Omega.{arith}
 use lib.ListN.{length, getD, set}
 use lib.Dec.{ltb}
 use borrow.Author.Tests.{lt-ltb}
-use Rattle.wire.specs.Fields.{Fit, fieldsAt, fieldsAt-fit}
+use Rattle.wire.specs.Fields.{Fit}
 use Rattle.wire.specs.Ring.{ringList, ring-push, ring-pop, ring-rest}
 use Rattle.wire.specs.Rows.{length-rows}
 use Rattle.wire.specs.Scan.{all, all-append, all-cons, and-left}

@@ -7,7 +7,7 @@ use native.Mathlib.Nat.{mod-lt}
 use native.Mathlib.Omega.{arith}
 use lib.ListN.{length, getD, set}
 use borrow.Author.Tests.{eq-eqb}
-use Rattle.wire.specs.Fields.{Fit, fieldsAt, fieldsAt-fit}
+use Rattle.wire.specs.Fields.{Fit}
 use Rattle.wire.specs.Ring.{ring-push, ring-pop, ring-rest}
 use Rattle.wire.specs.Rows.{length-rows}
 use Rattle.wire.specs.Scan.{all, all-append}

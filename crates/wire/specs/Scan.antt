@@ -49,10 +49,6 @@ pub all-none : (p : ℕ → Bool) → allBelow 0 p ≡ true
 unfolding allBelow
 all-none p = refl
 
-pub all-step : (n : ℕ) (p : ℕ → Bool) → allBelow (n + 1) p ≡ allBelow n p && p n
-unfolding allBelow
-all-step n p = rw add-one
-
 pub all-more : (n : ℕ) (p : ℕ → Bool) → allBelow n p ≡ true → p n ≡ true → allBelow (n + 1) p ≡ true
 unfolding allBelow
 all-more n p a b = rw add-one (ap₂ _&&_ a b)

@@ -21,13 +21,6 @@ split i P here off j = go (eqb i j) refl
 pub same : (i : ℕ) → eqb i i ≡ true
 same i = eq-eqb i i refl
 
--- what an update leaves, and where it leaves all
-pub upd-here : {A : Type 0} (f : ℕ → A) (i : ℕ) (v : A) → upd f i v i ≡ v
-upd-here f i v = rw (same i)
-
-pub upd-off : {A : Type 0} (f : ℕ → A) (i : ℕ) (v : A) (j : ℕ) → eqb i j ≡ false → upd f i v j ≡ f j
-upd-off f i v j e = rw e
-
 module _ {B : Type 0} (count : ℕ) (d : B) where
   unfoldable pub slots : (ℕ → B) → ℕ → B
   slots f i = cond (ltb i count) (f i) d
