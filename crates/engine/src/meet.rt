@@ -1,5 +1,5 @@
-// The tests of a sender and its peer: document 01, "Posting and delivering", steps 1 and 2. Definitions and laws: specs/Send.antt and
-// specs/SendMeet.antt.
+// The tests of a sender and its peer: document 01, "QP 2; QP not in RTS 3", and steps 1 and 2. Definitions and laws: specs/Send.antt
+// and specs/SendMeet.antt.
 use rules::Answer;
 use rules::Cause;
 use tables::QueueHead;

@@ -39,7 +39,7 @@ fn carry_out(state: &mut [u8], memory: &mut [u8], e: Ends, s: SendRecord, sent: 
     st
 }
 
-// The tests after the lent bytes', and the request carried out.
+// The tests after those of the lent bytes, and then the request carried out.
 fn send_checked(state: &mut [u8], memory: &mut [u8], qpn: u32, s: SendRecord, sent: &[u8]) -> Answer
     requires { ⌜ Ready (now state) (now memory) ⌝ }
     requires { ⌜ Posted (now sent) s ⌝ }

@@ -1,5 +1,5 @@
 -- Document 01: "Since a QP's creation, accepted receives equal its receive completions put, plus those dropped (the ones waiting at
--- each move to 0), plus those waiting." A statement along the list of calls; no table counts. Assumes nothing.
+-- each move to 0), plus those waiting." A statement along the list of calls; no table keeps a count. Assumes nothing.
 use mathlib.Core.Path.{_≡_}
 use mathlib.Core.Bool.{Bool, true, cond, _&&_}
 use mathlib.Core.List.{List, [], _∷_}

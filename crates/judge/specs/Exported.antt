@@ -21,20 +21,20 @@ abbrev pub seen : Returned → Seen
 seen x = record { call = x .call; answer = answerIn (x .result); state = x .state; memory = x .memory; buffer = x .buffer }
 
 -- the contract of the exported function, on the state st
-abbrev pub Kept : (st : List ℕ) → Returned → Type 0
-Kept st x = Exports st (x .call) (x .result) (x .state) (x .memory) (x .buffer)
+abbrev pub MetFromC : (st : List ℕ) → Returned → Type 0
+MetFromC st x = Exports st (x .call) (x .result) (x .state) (x .memory) (x .buffer)
 
 -- "Each call gets the state the last one left"
 unfoldable pub Chained : (st : List ℕ) → List Returned → Type 0
 Chained st [] = Unit {0}
-Chained st (x ∷ xs) = Kept st x × Chained (x .state) xs
+Chained st (x ∷ xs) = MetFromC st x × Chained (x .state) xs
 
 -- a reset that returned 0, whatever the state held
 pub record Opens (x : Returned) : Type 0 where
   pub before : List ℕ
   pub length : ℕ
   pub reset : x .call ≡ Call.reset length
-  pub kept : Kept before x
+  pub met : MetFromC before x
   pub zero : x .result ≡ 0
 
 -- P of each work request, neither refused nor held, of any list of calls of the exported functions after such a reset

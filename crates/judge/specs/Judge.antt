@@ -107,13 +107,14 @@ waiting l q = drop (taken l q) (accepted l q)
 
 -- ---- one byte
 
--- access 1 is local write, 2 remote write, 4 remote read: the bit of that value is set
+-- the right that a use needs
 pub data Right : Type 0 where
   none-needed : Right
   local-write : Right
   remote-write : Right
   remote-read : Right
 
+-- access 1 is local write, 2 remote write, 4 remote read: the bit of that value is set
 abbrev pub grants : (access : ℕ) → Right → Bool
 grants a none-needed = true
 grants a local-write = eqb (a % 2) 1

@@ -34,7 +34,7 @@ abbrev pub answered : (status : ℕ) → Option ℕ → Answer
 answered s none = Done s
 answered s (some n) = cond (eqb n 5) (Held Peer) (cond (eqb n 6) (Held Place) (Refused n))
 
--- the answer that such a result tells
+-- the answer that a call's result, the number that codeOf gives, tells
 abbrev pub answerIn : ℕ → Answer
 answerIn r = answered (r / 256) (cond (eqb (r % 256) 0) none (some (r % 256)))
 

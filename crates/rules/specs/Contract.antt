@@ -25,12 +25,12 @@ bytesBy (some n) l k = l
 abbrev pub bytesAfter : List ℕ → Call → List ℕ
 bytesAfter l k = bytesBy (refusal (owedChecks card accepts l k)) l k
 
--- the same, and the state byte by byte
+-- Contract, and the state byte by byte
 pub record Owes (l : List ℕ) (k : Call) (r : Answer) (l′ m′ b′ : List ℕ) : Type 0 where
   pub meets : Contract l k r l′ m′ b′
   pub bytes : l′ ≡ bytesAfter l k
 
--- the same of a call from C, where r is the answer's number in bits 0 to 7 and its status in bits 8 to 15
+-- Owes of a call from C, where r is the answer's number in bits 0 to 7 and its status in bits 8 to 15
 pub record Exports (l : List ℕ) (k : Call) (r : ℕ) (l′ m′ b′ : List ℕ) : Type 0 where
   pub code : r ≡ codeOf (owed card accepts l k .answer)
   pub owes : Owes l k (owed card accepts l k .answer) l′ m′ b′

@@ -12,7 +12,7 @@ use Rattle.rules.specs.Call.{Call, memoryOf}
 use Rattle.rules.specs.Calls.{owed}
 use Rattle.rules.specs.Contract.{bytesAfter}
 
--- the answer buffer after a call answered n: as it was, but for the first ack byte, which "a control refusal other than 12 and 15" sets to 1
+-- the answer buffer after a call answered n, not 0: as it was, but for the first ack byte, which "a control refusal other than 12 and 15" sets to 1
 abbrev pub bufferLeft : (n : ℕ) → Call → List ℕ
 bufferLeft n (Call.reset k) = []
 bufferLeft n (Call.control k a) = cond (eqb n 12 || eqb n 15) a (set a 0 1)

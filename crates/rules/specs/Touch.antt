@@ -1,6 +1,7 @@
 -- What a work request touches, document 01, "Posting and delivering": the request and the receive that a record is, the bytes that
 -- they name, the memory byte that an address means, and what a delivery writes. Nothing here says what is permitted: the rules and
--- the judge each decide that for themselves, and share this file, the records' layouts, and the types of calls and answers. Assumes nothing.
+-- the judge each decide that for themselves, and share this file, the records' layouts, 01's limits, and the types of calls and
+-- answers. Assumes nothing.
 use mathlib.Core.Bool.{Bool, cond, _&&_}
 use mathlib.Core.List.{List, [], _∷_, _++_, map}
 use Prim.Native.Nat.{ℕ, zero, suc, _+_, _-_}

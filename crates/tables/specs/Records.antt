@@ -59,7 +59,7 @@ modifyQpCodec =
     (λ vs. record { qpn = getD vs 0 0; mask = getD vs 1 0; state = getD vs 2 0; pad0 = getD vs 3 0; pad1 = getD vs 4 0; pad2 = getD vs 5 0; dest = getD vs 6 0 })
     (λ r. r .qpn ∷ r .mask ∷ r .state ∷ r .pad0 ∷ r .pad1 ∷ r .pad2 ∷ r .dest ∷ []) (λ r. refl)
 
--- a control command, by its number in the table of commands
+-- a control command and its data, in the order of 01's table
 pub data Command : Type 0 where
   createCq : (places : ℕ) → Command
   destroyCq : (cqn : ℕ) → Command
