@@ -1,10 +1,5 @@
 pub mod SendCard
 pub mod SendLimits
-pub mod QueueFacts
-pub mod ResetLaws
-pub mod PollLaws
-pub mod ReceiveLaws
-pub mod FlushLaws
 pub mod SendDone
 pub mod Send
 pub mod SendMeet

@@ -1,4 +1,4 @@
-// The engine: the card's calls, each also for a caller in C.
+// The engine: post send, and all of the card's calls for a caller in C.
 use commands::control;
 ghost use mathlib.Core.List.{[]};
 ghost use Rattle.rules.specs.Call.{Call};
@@ -6,7 +6,6 @@ ghost use Rattle.rules.specs.Contract.{Exports};
 
 pub mod deliver;
 pub mod meet;
-pub mod queues;
 pub mod send;
 pub mod settle;
 

@@ -169,7 +169,7 @@ fn answer_receive(state: &mut [u8], number: u8, body: &[u8], out: &mut [u8]) -> 
     requires { ⌜ 30 ≤ length (now out) ⌝ }
     ensures { λ r. ⌜ Answers (Call.receive number (now (body .entry))) (now (state .entry)) (now (out .entry)) r (now (state .exit)) (now (out .exit)) ⌝ }
 {
-    let answer = engine::queues::post_receive(state, number as u32, body);
+    let answer = queues::post_receive(state, number as u32, body);
     put_bare(out, answer)
 }
 
@@ -178,7 +178,7 @@ fn answer_poll(state: &mut [u8], number: u8, out: &mut [u8]) -> usize
     ensures { λ r. ⌜ Answers (Call.poll number (zeros completionSize)) (now (state .entry)) (now (out .entry)) r (now (state .exit)) (now (out .exit)) ⌝ }
 {
     let mut buffer = [0u8; 24];
-    let answer = engine::queues::poll(state, number as u32, &mut buffer);
+    let answer = queues::poll(state, number as u32, &mut buffer);
     let n = completion_written(answer);
     put_answer(out, answer, &buffer, n)
 }
@@ -187,7 +187,7 @@ fn answer_flush(state: &mut [u8], number: u8, out: &mut [u8]) -> usize
     requires { ⌜ 30 ≤ length (now out) ⌝ }
     ensures { λ r. ⌜ Answers (Call.flush number) (now (state .entry)) (now (out .entry)) r (now (state .exit)) (now (out .exit)) ⌝ }
 {
-    let answer = engine::queues::flush(state, number as u32);
+    let answer = queues::flush(state, number as u32);
     put_bare(out, answer)
 }
 
@@ -218,7 +218,7 @@ pub fn start(state: &mut [u8])
     requires { ⌜ length (now state) ≡ image ⌝ }
     ensures { λ _. ⌜ now (state .exit) ≡ resetBytes tapeMemory ⌝ }
 {
-    engine::queues::reset(state, MEMORY);
+    queues::reset(state, MEMORY);
 }
 
 // Writes the answer record of a fault, which ends the tape.

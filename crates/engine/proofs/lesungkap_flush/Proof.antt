@@ -4,7 +4,7 @@ use Rattle.engine.proofs.lesungkap_flush.Statement.{statement}
 use Rattle.engine.proofs.lesungkap_flush.Tie as tie
 use Rattle.engine.proofs.lesungkap_flush.Reads as reads
 use Rattle.engine.proofs.lesungkap_flush.Lts as lts
-use Rattle.engine.proofs.queues.flush.Reads as flush-reads
+use Rattle.queues.proofs.flush.Reads as flush-reads
 use Rattle.rules.proofs.code.Reads as code-reads
 
 flush-requires : tie.Need-flush-requires

@@ -4,7 +4,7 @@ use Rattle.engine.proofs.lesungkap_poll.Statement.{statement}
 use Rattle.engine.proofs.lesungkap_poll.Tie as tie
 use Rattle.engine.proofs.lesungkap_poll.Reads as reads
 use Rattle.engine.proofs.lesungkap_poll.Lts as lts
-use Rattle.engine.proofs.queues.poll.Reads as poll-reads
+use Rattle.queues.proofs.poll.Reads as poll-reads
 use Rattle.rules.proofs.code.Reads as code-reads
 
 poll-requires : tie.Need-poll-requires

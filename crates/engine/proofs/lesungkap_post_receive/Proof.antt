@@ -4,7 +4,7 @@ use Rattle.engine.proofs.lesungkap_post_receive.Statement.{statement}
 use Rattle.engine.proofs.lesungkap_post_receive.Tie as tie
 use Rattle.engine.proofs.lesungkap_post_receive.Reads as reads
 use Rattle.engine.proofs.lesungkap_post_receive.Lts as lts
-use Rattle.engine.proofs.queues.post_receive.Reads as post-receive-reads
+use Rattle.queues.proofs.post_receive.Reads as post-receive-reads
 use Rattle.rules.proofs.code.Reads as code-reads
 
 post-receive-requires : tie.Need-post-receive-requires

@@ -4,7 +4,7 @@ use Rattle.engine.proofs.lesungkap_reset.Statement.{statement}
 use Rattle.engine.proofs.lesungkap_reset.Tie as tie
 use Rattle.engine.proofs.lesungkap_reset.Reads as reads
 use Rattle.engine.proofs.lesungkap_reset.Lts as lts
-use Rattle.engine.proofs.queues.reset.Reads as reset-reads
+use Rattle.queues.proofs.reset.Reads as reset-reads
 use Rattle.rules.proofs.code.Reads as code-reads
 
 reset-requires : tie.Need-reset-requires

@@ -4,13 +4,13 @@ use borrow.Author.Tests.{not-true, not-false}
 use mathlib.Core.Bool.{true}
 use Rattle.tables.specs.Accept.{accepts}
 use Rattle.tables.specs.Accepted.{accepted}
-use Rattle.engine.specs.ReceiveLaws.{receive-15, receive-bad}
+use Rattle.queues.specs.ReceiveLaws.{receive-15, receive-bad}
 use borrow.Author.Needs.{needs}
-use Rattle.engine.proofs.queues.post_receive.Statement.{statement}
-use Rattle.engine.proofs.queues.post_receive.Tie as tie
-use Rattle.engine.proofs.queues.post_receive.Reads as reads
-use Rattle.engine.proofs.queues.post_receive.Lts as lts
-use Rattle.engine.proofs.queues.join.Reads as join-reads
+use Rattle.queues.proofs.post_receive.Statement.{statement}
+use Rattle.queues.proofs.post_receive.Tie as tie
+use Rattle.queues.proofs.post_receive.Reads as reads
+use Rattle.queues.proofs.post_receive.Lts as lts
+use Rattle.queues.proofs.join.Reads as join-reads
 use Rattle.tables.proofs.accept.accepted.Reads as accepted-reads
 use Rattle.tables.proofs.records.read_receive.Reads as read-receive-reads
 

@@ -1,10 +1,10 @@
 use denote.Ref.{now}
-use Rattle.engine.specs.ResetLaws.{reset-15, reset-none, reset-long, reset-done}
+use Rattle.queues.specs.ResetLaws.{reset-15, reset-none, reset-long, reset-done}
 use borrow.Author.Needs.{needs}
-use Rattle.engine.proofs.queues.reset.Statement.{statement}
-use Rattle.engine.proofs.queues.reset.Tie as tie
-use Rattle.engine.proofs.queues.reset.Reads as reads
-use Rattle.engine.proofs.queues.reset.Lts as lts
+use Rattle.queues.proofs.reset.Statement.{statement}
+use Rattle.queues.proofs.reset.Tie as tie
+use Rattle.queues.proofs.reset.Reads as reads
+use Rattle.queues.proofs.reset.Lts as lts
 use Rattle.tables.proofs.reset.reset.Reads as reset-reads
 
 returns : tie.Need-returns

@@ -3,12 +3,12 @@ use mathlib.Core.Path.{_≡_}
 use Rattle.wire.specs.Table.{rowAt}
 use Rattle.tables.specs.Layout.{cqT}
 use native.Mathlib.Omega.{arith}
-use Rattle.engine.specs.PollLaws.{poll-past, poll-free, poll-first, poll-empty, poll-done}
+use Rattle.queues.specs.PollLaws.{poll-past, poll-free, poll-first, poll-empty, poll-done}
 use borrow.Author.Needs.{needs}
-use Rattle.engine.proofs.queues.poll_queue.Statement.{statement}
-use Rattle.engine.proofs.queues.poll_queue.Tie as tie
-use Rattle.engine.proofs.queues.poll_queue.Reads as reads
-use Rattle.engine.proofs.queues.poll_queue.Lts as lts
+use Rattle.queues.proofs.poll_queue.Statement.{statement}
+use Rattle.queues.proofs.poll_queue.Tie as tie
+use Rattle.queues.proofs.poll_queue.Reads as reads
+use Rattle.queues.proofs.poll_queue.Lts as lts
 use Rattle.tables.proofs.image.load_cq.Reads as load-cq-reads
 use Rattle.tables.proofs.queue.oldest_completion.Reads as oldest-completion-reads
 use Rattle.tables.proofs.queue.pop_completion.Reads as pop-completion-reads

@@ -38,7 +38,7 @@ use Rattle.rules.specs.declared.Answer.the-variants.{Done, Held, Refused}
 use Rattle.rules.specs.declared.Cause.the-variants.{Place}
 use Rattle.rules.specs.Bytes.{effectBytes, flushBytes}
 use Rattle.rules.specs.Contract.{Owes}
-use Rattle.engine.specs.QueueFacts.{pair-live, pair-state, pair-rcq, waiting-none, room-is}
+use Rattle.queues.specs.QueueFacts.{pair-live, pair-state, pair-rcq, waiting-none, room-is}
 use Rattle.rules.proofs.Exported.{refused-owes, done-owes}
 
 -- a row of a table that holds neither completions nor their queues stays when a completion is put

@@ -35,7 +35,7 @@ use Rattle.rules.specs.declared.Answer.the-variants.{Done, Refused}
 use Rattle.rules.proofs.Tests.{firstOf, refusal-append}
 use Rattle.rules.specs.Bytes.{effectBytes}
 use Rattle.rules.specs.Contract.{Owes}
-use Rattle.engine.specs.QueueFacts.{pair-live, pair-state, waiting-count}
+use Rattle.queues.specs.QueueFacts.{pair-live, pair-state, waiting-count}
 use Rattle.rules.proofs.Exported.{refused-owes, done-owes}
 
 -- ---- what reading the record gave

@@ -4,13 +4,13 @@ use borrow.Author.Tests.{not-true, not-false}
 use mathlib.Core.Bool.{true}
 use Rattle.tables.specs.Accept.{accepts}
 use Rattle.tables.specs.Accepted.{accepted}
-use Rattle.engine.specs.FlushLaws.{flush-15}
+use Rattle.queues.specs.FlushLaws.{flush-15}
 use borrow.Author.Needs.{needs}
-use Rattle.engine.proofs.queues.flush.Statement.{statement}
-use Rattle.engine.proofs.queues.flush.Tie as tie
-use Rattle.engine.proofs.queues.flush.Reads as reads
-use Rattle.engine.proofs.queues.flush.Lts as lts
-use Rattle.engine.proofs.queues.flush_one.Reads as flush-one-reads
+use Rattle.queues.proofs.flush.Statement.{statement}
+use Rattle.queues.proofs.flush.Tie as tie
+use Rattle.queues.proofs.flush.Reads as reads
+use Rattle.queues.proofs.flush.Lts as lts
+use Rattle.queues.proofs.flush_one.Reads as flush-one-reads
 use Rattle.tables.proofs.accept.accepted.Reads as accepted-reads
 
 accepted-requires : tie.Need-accepted-requires

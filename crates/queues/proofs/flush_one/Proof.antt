@@ -5,12 +5,12 @@ use Prim.Native.Nat.{_≤_, _<_}
 use native.Mathlib.Omega.{arith}
 use Rattle.wire.specs.Table.{rowAt}
 use Rattle.tables.specs.Layout.{cqT, qpT}
-use Rattle.engine.specs.FlushLaws.{flush-past, flush-dead, flush-state, flush-first, flush-cq, flush-most, flush-none, flush-held, flush-length, flush-some, flush-done}
+use Rattle.queues.specs.FlushLaws.{flush-past, flush-dead, flush-state, flush-first, flush-cq, flush-most, flush-none, flush-held, flush-length, flush-some, flush-done}
 use borrow.Author.Needs.{needs}
-use Rattle.engine.proofs.queues.flush_one.Statement.{statement}
-use Rattle.engine.proofs.queues.flush_one.Tie as tie
-use Rattle.engine.proofs.queues.flush_one.Reads as reads
-use Rattle.engine.proofs.queues.flush_one.Lts as lts
+use Rattle.queues.proofs.flush_one.Statement.{statement}
+use Rattle.queues.proofs.flush_one.Tie as tie
+use Rattle.queues.proofs.flush_one.Reads as reads
+use Rattle.queues.proofs.flush_one.Lts as lts
 use Rattle.tables.proofs.image.load_cq.Reads as load-cq-reads
 use Rattle.tables.proofs.image.load_qp.Reads as load-qp-reads
 use Rattle.tables.proofs.image.load_waiting.Reads as load-waiting-reads

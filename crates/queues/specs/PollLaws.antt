@@ -28,7 +28,7 @@ use Rattle.rules.specs.Queues.{pollChecks, polled}
 use Rattle.rules.specs.declared.Answer.the-variants.{Done, Refused}
 use Rattle.rules.specs.Bytes.{effectBytes}
 use Rattle.rules.specs.Contract.{Owes}
-use Rattle.engine.specs.QueueFacts.{unread-none}
+use Rattle.queues.specs.QueueFacts.{unread-none}
 use Rattle.rules.proofs.Exported.{refused-owes, done-owes}
 
 module _ (l : List ℕ) (n : ℕ) (b : List ℕ) where

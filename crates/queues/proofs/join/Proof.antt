@@ -2,12 +2,12 @@ use denote.Ref.{now}
 use mathlib.Core.Path.{_≡_}
 use Rattle.wire.specs.Table.{rowAt}
 use Rattle.tables.specs.Layout.{qpT}
-use Rattle.engine.specs.ReceiveLaws.{receive-past, receive-dead, receive-state, receive-full, receive-done}
+use Rattle.queues.specs.ReceiveLaws.{receive-past, receive-dead, receive-state, receive-full, receive-done}
 use borrow.Author.Needs.{needs}
-use Rattle.engine.proofs.queues.join.Statement.{statement}
-use Rattle.engine.proofs.queues.join.Tie as tie
-use Rattle.engine.proofs.queues.join.Reads as reads
-use Rattle.engine.proofs.queues.join.Lts as lts
+use Rattle.queues.proofs.join.Statement.{statement}
+use Rattle.queues.proofs.join.Tie as tie
+use Rattle.queues.proofs.join.Reads as reads
+use Rattle.queues.proofs.join.Lts as lts
 use Rattle.tables.proofs.image.load_qp.Reads as load-qp-reads
 use Rattle.tables.proofs.image.load_waiting.Reads as load-waiting-reads
 use Rattle.tables.proofs.queue.post_receive.Reads as post-receive-reads

@@ -4,13 +4,13 @@ use mathlib.Core.Path.{_≡_, sym, _∙_}
 use borrow.Author.Tests.{not-true, not-false}
 use Rattle.tables.specs.Accept.{accepts}
 use Rattle.tables.specs.Accepted.{accepted}
-use Rattle.engine.specs.PollLaws.{poll-15, poll-short}
+use Rattle.queues.specs.PollLaws.{poll-15, poll-short}
 use borrow.Author.Needs.{needs}
-use Rattle.engine.proofs.queues.poll.Statement.{statement}
-use Rattle.engine.proofs.queues.poll.Tie as tie
-use Rattle.engine.proofs.queues.poll.Reads as reads
-use Rattle.engine.proofs.queues.poll.Lts as lts
-use Rattle.engine.proofs.queues.poll_queue.Reads as poll-queue-reads
+use Rattle.queues.proofs.poll.Statement.{statement}
+use Rattle.queues.proofs.poll.Tie as tie
+use Rattle.queues.proofs.poll.Reads as reads
+use Rattle.queues.proofs.poll.Lts as lts
+use Rattle.queues.proofs.poll_queue.Reads as poll-queue-reads
 use Rattle.tables.proofs.accept.accepted.Reads as accepted-reads
 
 accepted-requires : tie.Need-accepted-requires

@@ -27,7 +27,7 @@ ghost use Rattle.tables.specs.Accept.{accepts};
 ghost use Rattle.tables.specs.Layout.{image};
 ghost use Rattle.rules.specs.Call.{Call};
 ghost use Rattle.rules.specs.Contract.{Owes};
-ghost use Rattle.engine.specs.ReceiveLaws.{Joins};
+ghost use Rattle.queues.specs.ReceiveLaws.{Joins};
 
 // ---- reset
 
