@@ -89,3 +89,14 @@ runs l m s ok whole h more =
     let high : s .address + (s .length - 1) < g .virt + g .length = q .covered .high in
     let room : g .start + g .length ≤ rowAt memoryT l 0 = p .lies .room in
     record { first = f; ends = omega arith; at = range-run (card l) (s .key) (s .length) (s .address) low }
+
+-- what a copy to or from an entry that is not empty asks: the place of its first byte, and room in memory from there on
+module _ (l m : List ℕ) (s : Sge) (r : Ready l m) (h : mappedAll (card l) (bytesOf s) ≡ true) (more : 0 < s .length) where
+  pub lies : Run (card l) (length m) s
+  lies = runs l (length m) s (r .accepted) (r .whole) h more
+
+  pub place-asks : (accepts l ≡ true) × (length l ≡ image) × (mapped (card l) (byte (s .address) (s .key)) ≡ true)
+  place-asks = (r .accepted, r .size, lies .first)
+
+  pub room : (b : ℕ) → b ≡ locate (card l) (byte (s .address) (s .key)) → b + s .length ≤ length m
+  room b e = rw e (lies .ends)

@@ -1,12 +1,8 @@
-use mathlib.Core.Path.{_≡_}
 use native.Mathlib.Omega.{arith}
 use denote.Ref.{now}
-use lib.ListN.{length}
 use Prim.Native.Nat.{_-_}
 use Rattle.tables.specs.Image.{card}
-use Rattle.dma.specs.Grants.{locate}
-use Rattle.dma.specs.Ranges.{byte}
-use Rattle.dma.specs.Places.{runs}
+use Rattle.dma.specs.Places.{lies, place-asks, room}
 use Rattle.dma.specs.Moves.{unwritten, inline-run}
 use borrow.Author.Needs.{needs}
 use Rattle.dma.proofs.transfer.inline_one.Statement.{statement}
@@ -24,14 +20,12 @@ returns c =
 place-of-requires : tie.Need-place-of-requires
 place-of-requires c κs =
     let s = c .before .before .before .before .before in
-    let l = runs (now (s .args .state)) (length (now (s .args .memory))) (s .args .to) (s .pre .0 .accepted) (s .pre .0 .whole) (s .pre .1 .0) (omega arith) in
-    (s .pre .0 .accepted, s .pre .0 .size, l .first)
+    place-asks (now (s .args .state)) (now (s .args .memory)) (s .args .to) (s .pre .0) (s .pre .1 .0) (omega arith)
 
 deliver-inline-requires : tie.Need-deliver-inline-requires
 deliver-inline-requires c κs =
     let s = c .before .before .before .before .before .before .before in
-    let l = runs (now (s .args .state)) (length (now (s .args .memory))) (s .args .to) (s .pre .0 .accepted) (s .pre .0 .whole) (s .pre .1 .0) (omega arith) in
-    let e : c .before .place-of .result ≡ locate (card (now (s .args .state))) (byte (s .args .to .address) (s .args .to .key)) = c .before .place-of .ensures in
+    let k = room (now (s .args .state)) (now (s .args .memory)) (s .args .to) (s .pre .0) (s .pre .1 .0) (omega arith) _ (c .before .place-of .ensures) in
     (s .pre .1 .2, omega (arith, s .pre .1 .1))
 
 same-length : tie.Need-same-length
@@ -40,7 +34,7 @@ same-length c = search needs
 returns-2 : tie.Need-returns-2
 returns-2 c =
     let s = c .before .before .before .before .before .before .before .before .before .before in
-    let l = runs (now (s .args .state)) (length (now (s .args .memory))) (s .args .to) (s .pre .0 .accepted) (s .pre .0 .whole) (s .pre .1 .0) (omega arith) in
+    let l = lies (now (s .args .state)) (now (s .args .memory)) (s .args .to) (s .pre .0) (s .pre .1 .0) (omega arith) in
     inline-run (card (now (s .args .state))) (now (s .args .memory)) _ (now (s .args .bytes)) (s .args .to) (c .before .before .before .before .place-of .result) l
     (c .before .before .before .before .place-of .ensures) (s .pre .1 .1) (c .before .before .deliver-inline .ensures)
 
