@@ -1,46 +1,33 @@
-/* A small monitor: two operators share one card. Each has its own domain, region, queue and queue pair; the monitor makes one call per
- * request and shows what came of it. It ends with status 1 if the card does anything else than this file expects. */
-#include "lesungkap.h"
+/* A small monitor: three operators share one card. Each has its own protection domain, completion queue, memory region and queue pair;
+ * the monitor makes one call per request and shows what came of it. It ends with status 1 if the card does anything else than this file
+ * expects. Its calls and their answers are recorded; with two arguments the tapes go to the files that they name.
+ *
+ * C11, and C++17 as it stands.
+ */
+#include <lesungkap.h>
+#include <lesungkap_tape.h>
 
 #include <inttypes.h>
 #include <stdio.h>
 #include <stdlib.h>
 #include <string.h>
 
-enum { MEMORY_BYTES = 4096, REGION_BYTES = 1024, MOST_RECORD = LESUNGKAP_SEND_BYTES + 4 * LESUNGKAP_PIECE_BYTES };
+enum { MEMORY_BYTES = 4096, REGION_BYTES = 1024, TEXT_BYTES = 24, TAPE_BYTES = 65536 };
 
-struct operator_account {
+struct account {
     const char *name;
-    uint64_t start; /* first memory byte of its region */
-    uint64_t virt;  /* address under which it knows that byte */
-    uint32_t domain, queue, region, key, pair;
-};
-
-/* One range under a key. */
-struct piece {
-    uint64_t address;
-    uint32_t length, key;
+    uint64_t start;  /* first memory byte of its region */
+    uint64_t virt;   /* address under which it knows that byte */
+    uint32_t access; /* what the region grants */
+    uint32_t pdn, cqn, mrn, key, qpn;
 };
 
 static uint8_t state[LESUNGKAP_STATE_BYTES];
 static uint8_t memory[MEMORY_BYTES];
-static uint64_t next_request = 1;
-
-static void put(uint8_t *bytes, size_t width, uint64_t number)
-{
-    for (size_t n = 0; n < width; n++) {
-        bytes[n] = (uint8_t)(number >> 8 * n);
-    }
-}
-
-static uint64_t get(const uint8_t *bytes, size_t width)
-{
-    uint64_t number = 0;
-    for (size_t n = 0; n < width; n++) {
-        number |= (uint64_t)bytes[n] << 8 * n;
-    }
-    return number;
-}
+static uint8_t command[LESUNGKAP_COMMAND_MOST_BYTES];
+static uint8_t ack[LESUNGKAP_ACK_BYTES];
+static struct lesungkap_recorder recorder;
+static uint64_t last_request = 0;
 
 static void expect(int holds, const char *what)
 {
@@ -50,203 +37,303 @@ static void expect(int holds, const char *what)
     }
 }
 
-/* ---- control commands: numbers of the given widths after class and command */
-
-static void control(uint8_t command, const uint64_t *numbers, const size_t *widths, size_t count, uint8_t *ack)
+/* A result in words. Answer 0 says that a work request is finished, and its status whether it went well. */
+static void show_result(uint32_t result)
 {
-    uint8_t record[64] = {LESUNGKAP_CONTROL_CLASS, command};
-    size_t length = 2;
-    for (size_t n = 0; n < count; n++) {
-        put(record + length, widths[n], numbers[n]);
-        length += widths[n];
+    const unsigned answer = lesungkap_answer(result), status = lesungkap_status(result);
+    if (answer == LESUNGKAP_HELD_PEER || answer == LESUNGKAP_HELD_PLACE) {
+        printf("answer %u, %s\n", answer, lesungkap_answer_text(answer));
+    } else if (answer != LESUNGKAP_DONE) {
+        printf("answer %u, refused: %s\n", answer, lesungkap_answer_text(answer));
+    } else if (status != LESUNGKAP_SUCCESS) {
+        printf("answer 0, finished, and it FAILED: status %u, %s\n", status, lesungkap_status_text(status));
+    } else {
+        printf("answer 0, done\n");
     }
-    uint32_t result = lesungkap_control(state, sizeof state, record, length, ack, LESUNGKAP_ACK_BYTES);
-    expect(lesungkap_answer(result) == LESUNGKAP_DONE, lesungkap_answer_text(lesungkap_answer(result)));
 }
 
-static void modify(const struct operator_account *who, uint32_t mask, uint8_t to, uint32_t destination)
+/* Whether a work request is finished with this status. */
+static int ended(uint32_t result, unsigned status)
 {
-    uint8_t ack[LESUNGKAP_ACK_BYTES];
-    const uint64_t numbers[] = {who->pair, mask, to, 0, destination};
-    const size_t widths[] = {4, 4, 1, 3, 4};
-    control(LESUNGKAP_MODIFY_QP, numbers, widths, 5, ack);
+    return lesungkap_answer(result) == LESUNGKAP_DONE && lesungkap_status(result) == status;
+}
+
+/* ---- control commands */
+
+/* Runs the command of this length, which must be done. */
+static void control(size_t length)
+{
+    const uint32_t result = lesungkap_recorded_control(&recorder, state, sizeof state, command, length, ack, sizeof ack);
+    expect(result == LESUNGKAP_DONE, lesungkap_answer_text(lesungkap_answer(result)));
+}
+
+static void modify(const struct account *who, uint32_t mask, uint8_t to, uint32_t destination)
+{
+    struct lesungkap_modify_qp data;
+    memset(&data, 0, sizeof data);
+    data.qpn = who->qpn;
+    data.mask = mask;
+    data.state = to;
+    data.destination = destination;
+    control(lesungkap_put_modify_qp(command, sizeof command, &data));
 }
 
 /* Brings a queue pair to ready to send, joined with the peer's. */
-static void make_ready(const struct operator_account *who, const struct operator_account *peer)
+static void make_ready(const struct account *who, const struct account *peer)
 {
     modify(who, LESUNGKAP_MASK_STATE, LESUNGKAP_QP_RESET, 0);
     modify(who, LESUNGKAP_MASK_STATE, LESUNGKAP_QP_INIT, 0);
-    modify(who, LESUNGKAP_MASK_STATE | LESUNGKAP_MASK_DESTINATION, LESUNGKAP_QP_RTR, peer->pair);
+    modify(who, LESUNGKAP_MASK_STATE | LESUNGKAP_MASK_DESTINATION, LESUNGKAP_QP_RTR, peer->qpn);
     modify(who, LESUNGKAP_MASK_STATE, LESUNGKAP_QP_RTS, 0);
+    printf("  control x4    %s: modify QP to reset, init, ready to receive from %s, ready to send: answer 0, done\n", who->name, peer->name);
 }
 
-static void open_account(struct operator_account *who)
+static void register_region(struct account *who)
 {
-    uint8_t ack[LESUNGKAP_ACK_BYTES];
-    control(LESUNGKAP_CREATE_PD, NULL, NULL, 0, ack);
-    who->domain = (uint32_t)get(ack + 1, 4);
-    control(LESUNGKAP_CREATE_CQ, (const uint64_t[]){8}, (const size_t[]){4}, 1, ack);
-    who->queue = (uint32_t)get(ack + 1, 4);
-    const uint64_t rights = LESUNGKAP_LOCAL_WRITE | LESUNGKAP_REMOTE_WRITE | LESUNGKAP_REMOTE_READ;
-    const uint64_t region[] = {who->domain, rights, who->start, REGION_BYTES, who->virt};
-    control(LESUNGKAP_REGISTER_MR, region, (const size_t[]){4, 4, 8, 8, 8}, 5, ack);
-    who->region = (uint32_t)get(ack + 1, 4);
-    who->key = (uint32_t)get(ack + 5, 4);
-    const uint64_t pair[] = {who->domain, LESUNGKAP_QP_TYPE_RC, LESUNGKAP_SIGNAL_ALL, 0, who->queue, who->queue};
-    control(LESUNGKAP_CREATE_QP, pair, (const size_t[]){4, 1, 1, 2, 4, 4}, 6, ack);
-    who->pair = (uint32_t)get(ack + 1, 4);
-    printf("%s: domain %" PRIu32 ", queue %" PRIu32 ", queue pair %" PRIu32 ", key %" PRIu32 ", memory bytes %" PRIu64 " to %" PRIu64 "\n",
-           who->name, who->domain, who->queue, who->pair, who->key, who->start, who->start + REGION_BYTES - 1);
+    const struct lesungkap_register_mr data = {who->pdn, who->access, who->start, REGION_BYTES, who->virt};
+    struct lesungkap_register_mr_ack made;
+    control(lesungkap_put_register_mr(command, sizeof command, &data));
+    expect(lesungkap_get_register_mr_ack(ack, sizeof ack, &made) == LESUNGKAP_DONE, "the ack of register MR");
+    who->mrn = made.mrn;
+    who->key = made.lkey;
+    printf("  control       %s: register MR over memory bytes %" PRIu64 " to %" PRIu64 ", granting local write%s%s: answer 0, done: key %" PRIu32 "\n",
+           who->name, who->start, who->start + REGION_BYTES - 1, who->access & LESUNGKAP_REMOTE_WRITE ? ", remote write" : "",
+           who->access & LESUNGKAP_REMOTE_READ ? ", remote read" : "", who->key);
+}
+
+static void open_account(struct account *who)
+{
+    struct lesungkap_create_pd_ack pd;
+    control(lesungkap_put_create_pd(command, sizeof command));
+    expect(lesungkap_get_create_pd_ack(ack, sizeof ack, &pd) == LESUNGKAP_DONE, "the ack of create PD");
+    who->pdn = pd.pdn;
+
+    const struct lesungkap_create_cq places = {8};
+    struct lesungkap_create_cq_ack cq;
+    control(lesungkap_put_create_cq(command, sizeof command, &places));
+    expect(lesungkap_get_create_cq_ack(ack, sizeof ack, &cq) == LESUNGKAP_DONE, "the ack of create CQ");
+    who->cqn = cq.cqn;
+
+    const struct lesungkap_create_qp pair = {who->pdn, LESUNGKAP_QP_TYPE_RC, LESUNGKAP_SIGNAL_ALL, who->cqn, who->cqn};
+    struct lesungkap_create_qp_ack qp;
+    control(lesungkap_put_create_qp(command, sizeof command, &pair));
+    expect(lesungkap_get_create_qp_ack(ack, sizeof ack, &qp) == LESUNGKAP_DONE, "the ack of create QP");
+    who->qpn = qp.qpn;
+
+    printf("  control x3    %s: create PD, CQ and QP: answer 0, done: PD %" PRIu32 ", CQ %" PRIu32 ", QP %" PRIu32 "\n", who->name, who->pdn,
+           who->cqn, who->qpn);
+    register_region(who);
 }
 
 /* ---- work requests */
 
-static size_t write_pieces(uint8_t *record, size_t at, const struct piece *pieces, size_t count)
+static struct lesungkap_sge entry(const struct account *who, uint64_t offset, uint32_t length)
 {
-    for (size_t n = 0; n < count; n++, at += LESUNGKAP_PIECE_BYTES) {
-        put(record + at, 8, pieces[n].address);
-        put(record + at + 8, 4, pieces[n].length);
-        put(record + at + 12, 4, pieces[n].key);
-    }
-    return at;
+    const struct lesungkap_sge sge = {who->virt + offset, length, who->key};
+    return sge;
 }
 
-/* Posts a request with one local piece; the remote side is not looked at by sends. */
-static uint32_t post(const struct operator_account *who, uint8_t opcode, struct piece local, uint64_t remote_address, uint32_t remote_key)
+/* Posts a request with one local entry; a send looks at no remote address. */
+static uint32_t post_send(const struct account *who, uint8_t opcode, struct lesungkap_sge local, struct lesungkap_sge remote)
 {
-    uint8_t record[MOST_RECORD] = {0};
-    put(record, 8, next_request++);
-    record[8] = opcode;
-    put(record + 16, 8, remote_address);
-    put(record + 24, 4, remote_key);
-    put(record + 560, 4, 1);
-    size_t length = write_pieces(record, LESUNGKAP_SEND_BYTES, &local, 1);
-    uint32_t result = lesungkap_post_send(state, sizeof state, memory, sizeof memory, who->pair, record, length);
-    if (lesungkap_answer(result) == LESUNGKAP_DONE) {
-        printf("  answer 0 (done), status %u (%s)\n", lesungkap_status(result), lesungkap_status_text(lesungkap_status(result)));
-    } else {
-        printf("  answer %u (%s)\n", lesungkap_answer(result), lesungkap_answer_text(lesungkap_answer(result)));
-    }
+    struct lesungkap_send send;
+    uint8_t record[LESUNGKAP_SEND_MOST_BYTES];
+    memset(&send, 0, sizeof send);
+    send.wr_id = ++last_request;
+    send.opcode = opcode;
+    send.remote_address = remote.address;
+    send.remote_key = remote.key;
+    send.count = 1;
+    send.sges[0] = local;
+    const size_t length = lesungkap_put_send(record, sizeof record, &send);
+    const uint32_t result =
+        lesungkap_recorded_post_send(&recorder, state, sizeof state, memory, sizeof memory, who->qpn, record, length);
+    printf("  post_send     %s: request %" PRIu64 ", %s of %" PRIu32 " bytes: ", who->name, send.wr_id,
+           opcode == LESUNGKAP_SEND ? "send" : opcode == LESUNGKAP_WRITE ? "write" : "read", local.length);
+    show_result(result);
     return result;
 }
 
-static void post_receive(const struct operator_account *who, struct piece piece)
+static uint32_t send_text(const struct account *who, struct lesungkap_sge text)
 {
-    uint8_t record[MOST_RECORD] = {0};
-    put(record, 8, next_request++);
-    put(record + 8, 4, 1);
-    size_t length = write_pieces(record, LESUNGKAP_RECEIVE_BYTES, &piece, 1);
-    uint32_t result = lesungkap_post_receive(state, sizeof state, who->pair, record, length);
-    expect(result == LESUNGKAP_DONE, lesungkap_answer_text(lesungkap_answer(result)));
+    const struct lesungkap_sge none = {0, 0, 0};
+    return post_send(who, LESUNGKAP_SEND, text, none);
 }
 
-/* Reads every completion of an operator's queue. */
-static void show_completions(const struct operator_account *who)
+static void post_receive(const struct account *who, struct lesungkap_sge sge)
 {
-    static const char *const kinds[] = {"send", "write", "read", "receive", "receive of a write"};
-    uint8_t completion[LESUNGKAP_COMPLETION_BYTES];
+    struct lesungkap_receive receive;
+    uint8_t record[LESUNGKAP_RECEIVE_MOST_BYTES];
+    memset(&receive, 0, sizeof receive);
+    receive.wr_id = ++last_request;
+    receive.count = 1;
+    receive.sges[0] = sge;
+    const size_t length = lesungkap_put_receive(record, sizeof record, &receive);
+    const uint32_t result = lesungkap_recorded_post_receive(&recorder, state, sizeof state, who->qpn, record, length);
+    printf("  post_receive  %s: request %" PRIu64 ", up to %" PRIu32 " bytes: ", who->name, receive.wr_id, sge.length);
+    show_result(result);
+    expect(result == LESUNGKAP_DONE, "a receive");
+}
+
+static uint32_t flush(const struct account *who)
+{
+    const uint32_t result = lesungkap_recorded_flush(&recorder, state, sizeof state, who->qpn);
+    printf("  flush         %s: ", who->name);
+    show_result(result);
+    return result;
+}
+
+/* Takes every completion out of an operator's queue. */
+static void poll_all(const struct account *who)
+{
+    uint8_t buffer[LESUNGKAP_COMPLETION_BYTES];
+    struct lesungkap_completion done;
     uint32_t result;
-    while ((result = lesungkap_poll(state, sizeof state, who->queue, completion, sizeof completion)) == LESUNGKAP_DONE) {
-        expect(completion[9] < 5, "a completion's opcode");
-        printf("  %s polls: request %" PRIu64 ", %s, %s, %" PRIu64 " bytes\n", who->name, get(completion, 8), kinds[completion[9]],
-               lesungkap_status_text(completion[8]), get(completion + 12, 4));
+    while ((result = lesungkap_recorded_poll(&recorder, state, sizeof state, who->cqn, buffer, sizeof buffer)) == LESUNGKAP_DONE) {
+        expect(lesungkap_get_completion(buffer, sizeof buffer, &done) == LESUNGKAP_DONE, "a completion");
+        printf("  poll          %s: request %" PRIu64 ", %s: status %u, %s, %" PRIu32 " bytes\n", who->name, done.wr_id,
+               lesungkap_completed_text(done.opcode), done.status, lesungkap_status_text(done.status), done.byte_length);
     }
-    expect(result == LESUNGKAP_NOTHING, "a poll of an empty queue");
+    expect(lesungkap_answer(result) == LESUNGKAP_NOTHING, "a poll of an empty queue");
+}
+
+/* ---- what is seen without a call */
+
+static void show_qp(const struct account *who)
+{
+    struct lesungkap_qp qp;
+    expect(lesungkap_peek_qp(state, sizeof state, who->qpn, &qp) == LESUNGKAP_DONE, "a live queue pair");
+    printf("  (state)       %s's queue pair is in state %u, %s; receives waiting on it: %u\n", who->name, qp.state,
+           lesungkap_qp_state_text(qp.state), qp.waiting);
 }
 
 /* The guest's own writing, outside the card. */
-static struct piece put_text(const struct operator_account *who, uint64_t offset, const char *text)
+static struct lesungkap_sge put_text(const struct account *who, uint64_t offset, const char *text)
 {
-    struct piece piece = {who->virt + offset, (uint32_t)strlen(text), who->key};
-    memcpy(memory + who->start + offset, text, piece.length);
-    return piece;
+    memcpy(memory + who->start + offset, text, TEXT_BYTES);
+    return entry(who, offset, TEXT_BYTES);
 }
 
-static void show_text(const struct operator_account *who, uint64_t offset, uint32_t length)
+static void show_text(const struct account *who, uint64_t offset)
 {
-    printf("  %s has \"%.*s\" in memory bytes %" PRIu64 " to %" PRIu64 "\n", who->name, (int)length,
-           (const char *)memory + who->start + offset, who->start + offset, who->start + offset + length - 1);
+    printf("  (memory)      %s has \"%.*s\" in memory bytes %" PRIu64 " to %" PRIu64 "\n", who->name, (int)TEXT_BYTES,
+           (const char *)memory + who->start + offset, who->start + offset, who->start + offset + TEXT_BYTES - 1);
 }
 
-/* ---- what the monitor shows */
+/* ---- the story */
 
-static void show_messages(const struct operator_account *north, const struct operator_account *coast)
+static void show_messages(const struct account *north, const struct account *coast)
 {
     printf("\n1. North sends a message before Coast waits for one, and again after.\n");
-    struct piece text = put_text(north, 0, "Train 17 leaves at 08:05");
-    expect(post(north, LESUNGKAP_SEND, text, 0, 0) == LESUNGKAP_HELD_PEER, "a send without a receive");
-    post_receive(coast, (struct piece){coast->virt + 100, 64, coast->key});
-    expect(post(north, LESUNGKAP_SEND, text, 0, 0) == LESUNGKAP_DONE, "a send");
-    show_completions(north);
-    show_completions(coast);
-    show_text(coast, 100, text.length);
+    struct lesungkap_sge text = put_text(north, 0, "Train 17 leaves at 08:05");
+    expect(lesungkap_answer(send_text(north, text)) == LESUNGKAP_HELD_PEER, "a send without a receive");
+    post_receive(coast, entry(coast, 100, 64));
+    expect(ended(send_text(north, text), LESUNGKAP_SUCCESS), "a send");
+    poll_all(north);
+    poll_all(coast);
+    show_text(coast, 100);
 
     printf("\n2. North writes into Coast's loop plan, and reads it back into its own region.\n");
     text = put_text(north, 200, "Loop 3 taken 08:20-08:40");
-    expect(post(north, LESUNGKAP_WRITE, text, coast->virt + 512, coast->key) == LESUNGKAP_DONE, "a write");
-    struct piece back = {north->virt + 600, text.length, north->key};
-    expect(post(north, LESUNGKAP_READ, back, coast->virt + 512, coast->key) == LESUNGKAP_DONE, "a read");
-    show_completions(north);
-    show_text(coast, 512, text.length);
-    show_text(north, 600, text.length);
+    const struct lesungkap_sge plan = entry(coast, 512, TEXT_BYTES);
+    expect(ended(post_send(north, LESUNGKAP_WRITE, text, plan), LESUNGKAP_SUCCESS), "a write");
+    expect(ended(post_send(north, LESUNGKAP_READ, entry(north, 600, TEXT_BYTES), plan), LESUNGKAP_SUCCESS), "a read");
+    poll_all(north);
+    show_text(coast, 512);
+    show_text(north, 600);
 }
 
 /* A write of 24 bytes that ends `past` bytes after the last byte of Coast's region. */
-static uint32_t write_to_the_end(const struct operator_account *north, const struct operator_account *coast, uint64_t past)
+static uint32_t write_to_the_end(const struct account *north, const struct account *coast, uint64_t past)
 {
-    struct piece text = {north->virt + 200, 24, north->key};
-    uint64_t first = REGION_BYTES - text.length + past;
-    printf("  24 bytes to memory bytes %" PRIu64 " to %" PRIu64 "; the last byte of the region is %" PRIu64 "\n", coast->start + first,
-           coast->start + first + text.length - 1, coast->start + REGION_BYTES - 1);
-    return post(north, LESUNGKAP_WRITE, text, coast->virt + first, coast->key);
+    const uint64_t first = REGION_BYTES - TEXT_BYTES + past;
+    printf("  (memory)      24 bytes to memory bytes %" PRIu64 " to %" PRIu64 "; Coast's last byte is %" PRIu64 "\n", coast->start + first,
+           coast->start + first + TEXT_BYTES - 1, coast->start + REGION_BYTES - 1);
+    return post_send(north, LESUNGKAP_WRITE, entry(north, 200, TEXT_BYTES), entry(coast, first, TEXT_BYTES));
 }
 
-static void show_overhang(const struct operator_account *north, const struct operator_account *coast)
+static void show_overhang(const struct account *north, const struct account *coast, const struct account *ridge)
 {
-    printf("\n3. Where does the last byte stand? A write that overhangs Coast's region by one byte, then one that fits.\n");
-    uint8_t before[MEMORY_BYTES];
+    printf("\n3. Where does the last byte stand? A write that overhangs Coast's region by one byte, into Ridge's plan, then one that fits.\n");
+    static uint8_t before[MEMORY_BYTES];
+    put_text(ridge, 0, "Ridge crossing 08:30 OK.");
     memcpy(before, memory, sizeof before);
-    uint32_t result = write_to_the_end(north, coast, 1);
-    expect(result == (LESUNGKAP_REMOTE_ACCESS << 8), "an overhang by one byte");
+    expect(ended(write_to_the_end(north, coast, 1), LESUNGKAP_REMOTE_ACCESS), "an overhang by one byte");
     size_t changed = 0;
     for (size_t n = 0; n < sizeof memory; n++) {
         changed += memory[n] != before[n];
     }
-    printf("  memory bytes changed: %zu of %zu\n", changed, sizeof memory);
-    expect(changed == 0, "a refused write that changes memory");
-    show_completions(north);
+    printf("  (memory)      byte %" PRIu64 " is Ridge's: '%c' before, '%c' after; bytes changed in the whole memory: %zu\n", ridge->start,
+           before[ridge->start], memory[ridge->start], changed);
+    expect(changed == 0, "a failed write that changes memory");
+    poll_all(north);
+    show_qp(north);
     make_ready(north, coast);
-    expect(write_to_the_end(north, coast, 0) == LESUNGKAP_DONE, "a write up to the last byte");
-    show_completions(north);
-    show_text(coast, REGION_BYTES - 24, 24);
+    expect(ended(write_to_the_end(north, coast, 0), LESUNGKAP_SUCCESS), "a write up to the last byte");
+    poll_all(north);
+    show_text(coast, REGION_BYTES - TEXT_BYTES);
+    show_text(ridge, 0);
 }
 
-static void show_dropped_region(const struct operator_account *north, const struct operator_account *coast)
+static void show_dropped_region(const struct account *north, const struct account *coast)
 {
-    printf("\n4. Coast drops its region while a receive still waits on it.\n");
-    uint8_t ack[LESUNGKAP_ACK_BYTES];
-    post_receive(coast, (struct piece){coast->virt, 64, coast->key});
-    control(LESUNGKAP_DEREGISTER_MR, (const uint64_t[]){coast->region}, (const size_t[]){4}, 1, ack);
-    struct piece text = {north->virt, 24, north->key};
-    expect(post(north, LESUNGKAP_SEND, text, 0, 0) == (LESUNGKAP_REMOTE_INVALID << 8), "a send into a dropped region");
-    show_completions(north);
-    show_completions(coast);
+    printf("\n4. Coast drops its region while two receives wait on it; what still waits after the failure is flushed.\n");
+    post_receive(coast, entry(coast, 0, 64));
+    post_receive(coast, entry(coast, 64, 64));
+    const struct lesungkap_deregister_mr data = {coast->mrn};
+    control(lesungkap_put_deregister_mr(command, sizeof command, &data));
+    printf("  control       Coast: deregister MR: answer 0, done\n");
+    expect(ended(send_text(north, entry(north, 0, TEXT_BYTES)), LESUNGKAP_REMOTE_INVALID), "a send into a dropped region");
+    poll_all(north);
+    poll_all(coast);
+    show_qp(coast);
+    expect(flush(coast) == LESUNGKAP_DONE, "a flush");
+    poll_all(coast);
+    expect(lesungkap_answer(flush(coast)) == LESUNGKAP_NOTHING, "a flush where nothing waits");
 }
 
-int main(void)
+static void play(void)
 {
-    struct operator_account north = {.name = "North", .start = 0, .virt = 0x10000};
-    struct operator_account coast = {.name = "Coast", .start = 2048, .virt = 0x20000};
+    const uint32_t all = LESUNGKAP_LOCAL_WRITE | LESUNGKAP_REMOTE_WRITE | LESUNGKAP_REMOTE_READ;
+    struct account north = {"North", 0, 0x10000, LESUNGKAP_LOCAL_WRITE, 0, 0, 0, 0, 0};
+    struct account coast = {"Coast", 2048, 0x20000, all, 0, 0, 0, 0, 0};
+    struct account ridge = {"Ridge", coast.start + REGION_BYTES, 0x30000, LESUNGKAP_LOCAL_WRITE, 0, 0, 0, 0, 0};
     expect(lesungkap_reset(state, sizeof state, sizeof memory) == LESUNGKAP_DONE, "a reset");
-    printf("One card over %d bytes of memory, state of %d bytes.\n", MEMORY_BYTES, LESUNGKAP_STATE_BYTES);
+    printf("Three operators share one card over %d bytes of memory. Each line names its call.\n\n", MEMORY_BYTES);
+    printf("  reset         answer 0, done\n");
     open_account(&north);
     open_account(&coast);
+    open_account(&ridge);
+    printf("Coast grants North remote write and remote read over its %d bytes, and gives it key %" PRIu32 " for them. Ridge grants nothing;\n"
+           "its first byte, %" PRIu64 ", stands right behind Coast's last.\n", REGION_BYTES, coast.key, ridge.start);
     make_ready(&north, &coast);
     make_ready(&coast, &north);
     show_messages(&north, &coast);
-    show_overhang(&north, &coast);
+    show_overhang(&north, &coast, &ridge);
     show_dropped_region(&north, &coast);
-    printf("\nAll as expected.\n");
+}
+
+/* Plays the story, recorded to the two files or, without names, to buffers that are not kept. */
+int main(int count, char **words)
+{
+    static uint8_t calls_tape[TAPE_BYTES], answers_tape[TAPE_BYTES];
+    FILE *calls = NULL, *answers = NULL;
+    recorder = lesungkap_record_to_buffers(calls_tape, sizeof calls_tape, answers_tape, sizeof answers_tape);
+    if (count == 3) {
+        calls = fopen(words[1], "wb");
+        answers = calls == NULL ? NULL : fopen(words[2], "wb");
+        if (answers == NULL) {
+            perror(words[calls == NULL ? 1 : 2]);
+            return 1;
+        }
+        recorder = lesungkap_record_to_files(calls, answers);
+    } else if (count != 1) {
+        fprintf(stderr, "usage: %s [CALLS ANSWERS]\n", words[0]);
+        return 1;
+    }
+    play();
+    expect((calls == NULL || fclose(calls) == 0) && (answers == NULL || fclose(answers) == 0), "a tape that could not be written");
+    expect(!recorder.failed && recorder.left_out == 0, "a call that was not recorded");
+    printf("\nAll as expected; %" PRIu64 " calls after the reset, with their answers, are on the tapes.\n", recorder.recorded);
     return 0;
 }

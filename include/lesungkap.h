@@ -1,207 +1,126 @@
-/* Lesungkap: a software RDMA card over one lent memory. C11 and C++.
+/* Lesungkap: a software RDMA card over one lent memory. For C11 and C++17.
  *
- * The card keeps nothing between calls. The caller lends it all: the card's state, the memory and the records.
+ * The card holds protection domains (PD), completion queues (CQ), memory regions (MR) and queue pairs (QP), each numbered from 0 in its
+ * table. Two queue pairs that name each other as destination are joined: a work request of the one moves bytes to or from regions of
+ * the other's domain, or fills a receive that waits there. How it ended stands in a completion, which a poll takes out of its queue.
  *
- *   state    LESUNGKAP_STATE_BYTES bytes, made by lesungkap_reset. Between calls nobody else writes them. A call
- *            answers LESUNGKAP_BAD_STATE where they break a limit of docs/STATE.md; any other change it cannot notice. A copy of them
- *            is a copy of the card's tables.
+ * The manual is this file (what is lent, the calls) and those that it includes: lesungkap_numbers.h (limits, answers, statuses, states
+ * and their moves), lesungkap_records.h (work requests, receives, completions, and which bytes are permitted), lesungkap_commands.h (control
+ * commands, how numbers and keys are given, what is dropped), lesungkap_state.h (what the state holds). lesungkap_tape.h records calls.
+ *
+ * What a caller lends. The card keeps nothing between calls and allocates nothing:
+ *
+ *   state    LESUNGKAP_STATE_BYTES bytes, made by lesungkap_reset. Between calls nobody else writes them. A call answers
+ *            LESUNGKAP_BAD_STATE where they break a limit of docs/STATE.md; any other change it cannot notice. A copy of them is a copy
+ *            of the card's tables. lesungkap_state.h looks into them.
  *   memory   the guest memory, of the length told to lesungkap_reset. The guest may write it between calls.
  *   command, record
- *            read only, and not looked at after the call.
+ *            read only, and not looked at after the call. lesungkap_commands.h and lesungkap_records.h write and read them.
  *   ack, buffer
  *            written by the call as far as each function says; all later bytes stay as they are.
  *
- * Buffers lent to one call must not overlap. A pointer is never NULL, also where its length is 0. Calls on one state come one after
- * another; two cards may be called at the same time if they share no byte.
+ * Buffers lent to one call must not overlap. A pointer whose length is 0 may be NULL. Calls on one state come one after another; two
+ * cards may be called at the same time if they share no byte.
  *
  * No length and no content is the caller's duty: every call with any bytes, numbers and lengths ends with an answer. Any answer but
  * LESUNGKAP_DONE leaves state, memory and buffers as they were, except that a refused control command writes 1 as the first ack byte
  * (but not with LESUNGKAP_BUFFER_TOO_SHORT and LESUNGKAP_BAD_STATE).
  *
- * Numbers in records are little-endian. Bytes of a record that no line below names are ignored.
+ *     uint8_t command[LESUNGKAP_COMMAND_MOST_BYTES], ack[LESUNGKAP_ACK_BYTES];
+ *     struct lesungkap_create_cq wanted = {8};
+ *     struct lesungkap_create_cq_ack made;
+ *     size_t length = lesungkap_put_create_cq(command, sizeof command, &wanted);
+ *     uint32_t result = lesungkap_control(state, sizeof state, command, length, ack, sizeof ack);
+ *     if (lesungkap_answer(result) == LESUNGKAP_DONE && lesungkap_get_create_cq_ack(ack, sizeof ack, &made) == LESUNGKAP_DONE) {
+ *         .. made.cqn ..
+ *     }
  */
 #ifndef LESUNGKAP_H
 #define LESUNGKAP_H
 
-#include <stddef.h>
-#include <stdint.h>
+#include "lesungkap_commands.h"
+#include "lesungkap_numbers.h"
+#include "lesungkap_records.h"
+#include "lesungkap_state.h"
 
 #ifdef __cplusplus
 extern "C" {
 #endif
 
-/* Sizes in bytes. */
-enum {
-    LESUNGKAP_STATE_BYTES = 6056,
-    LESUNGKAP_MOST_MEMORY = 1048576,
-    LESUNGKAP_MOST_MESSAGE = 4096,
-    LESUNGKAP_MOST_INLINE = 512,
-    LESUNGKAP_ACK_BYTES = 13,         /* least length of an ack buffer */
-    LESUNGKAP_COMPLETION_BYTES = 24,  /* least length of a poll's buffer */
-    LESUNGKAP_SEND_BYTES = 576,       /* a send record with inline bytes or no pieces */
-    LESUNGKAP_RECEIVE_BYTES = 24,     /* a receive record with no pieces */
-    LESUNGKAP_PIECE_BYTES = 16        /* each piece more: address 8, length 4, key 4 */
-};
+/* Each call returns its answer in bits 0 to 7 and, of a work request answered LESUNGKAP_DONE, its status in bits 8 to 15. The answers of
+ * each stand below in the order of their tests, without LESUNGKAP_: the first that is met is the answer. */
 
-/* Tables. */
-enum {
-    LESUNGKAP_DOMAINS = 8,
-    LESUNGKAP_QUEUES = 8,
-    LESUNGKAP_QUEUE_PLACES = 16,
-    LESUNGKAP_REGIONS = 32,
-    LESUNGKAP_PAIRS = 8,
-    LESUNGKAP_WAITING_RECEIVES = 4,
-    LESUNGKAP_SEND_PIECES = 4,
-    LESUNGKAP_RECEIVE_PIECES = 2
-};
-
-/* Answers. */
-enum {
-    LESUNGKAP_DONE = 0,
-    LESUNGKAP_RECORD_LENGTH = 1,
-    LESUNGKAP_NOT_LIVE = 2,
-    LESUNGKAP_WRONG_STATE = 3,
-    LESUNGKAP_BAD_FIELD = 4,
-    LESUNGKAP_HELD_PEER = 5,
-    LESUNGKAP_HELD_PLACE = 6,
-    LESUNGKAP_MEMORY_LENGTH = 7,
-    LESUNGKAP_FULL = 8,
-    LESUNGKAP_NOTHING = 9,
-    LESUNGKAP_IN_USE = 10,
-    LESUNGKAP_RANGE = 11,
-    LESUNGKAP_BUFFER_TOO_SHORT = 12,
-    LESUNGKAP_UNKNOWN = 13,
-    LESUNGKAP_BAD_TAPE_RECORD = 14, /* given by the replay program only */
-    LESUNGKAP_BAD_STATE = 15
-};
-
-/* Statuses of work requests and completions. */
-enum {
-    LESUNGKAP_SUCCESS = 0,
-    LESUNGKAP_LOCAL_LENGTH = 1,
-    LESUNGKAP_LOCAL_PROTECTION = 3,
-    LESUNGKAP_FLUSHED = 4,
-    LESUNGKAP_REMOTE_INVALID = 7,
-    LESUNGKAP_REMOTE_ACCESS = 8
-};
-
-/* Control commands: class byte LESUNGKAP_CONTROL_CLASS, command byte, data. Ack: 0 and its data, or 1. */
-enum {
-    LESUNGKAP_CONTROL_CLASS = 6,
-    LESUNGKAP_CREATE_CQ = 2,     /* places 4; ack cqn 4 */
-    LESUNGKAP_DESTROY_CQ = 3,    /* cqn 4 */
-    LESUNGKAP_CREATE_PD = 4,     /* no data; ack pdn 4 */
-    LESUNGKAP_DESTROY_PD = 5,    /* pdn 4 */
-    LESUNGKAP_REGISTER_MR = 7,   /* pdn 4, access 4, start 8, length 8, virt 8; ack mrn 4, lkey 4, rkey 4 */
-    LESUNGKAP_DEREGISTER_MR = 8, /* mrn 4 */
-    LESUNGKAP_CREATE_QP = 9,     /* pdn 4, type 1, signal 1, 2 ignored, send cqn 4, receive cqn 4; ack qpn 4 */
-    LESUNGKAP_MODIFY_QP = 10,    /* qpn 4, mask 4, state 1, zero 3, destination qpn 4 */
-    LESUNGKAP_DESTROY_QP = 12    /* qpn 4 */
-};
-
-/* Access bits of a region. Reading by its own side needs none. */
-enum { LESUNGKAP_LOCAL_WRITE = 1, LESUNGKAP_REMOTE_WRITE = 2, LESUNGKAP_REMOTE_READ = 4 };
-
-/* Queue pairs: their type, when a success completes, their states, and the bits of modify's mask. */
-enum {
-    LESUNGKAP_QP_TYPE_RC = 2,
-    LESUNGKAP_SIGNAL_ALL = 0,     /* every success puts a completion */
-    LESUNGKAP_SIGNAL_FLAGGED = 1, /* only one with LESUNGKAP_FLAG_SIGNALED; failures always do */
-    LESUNGKAP_QP_RESET = 0,
-    LESUNGKAP_QP_INIT = 1,
-    LESUNGKAP_QP_RTR = 2,
-    LESUNGKAP_QP_RTS = 3,
-    LESUNGKAP_QP_ERROR = 6,
-    LESUNGKAP_MASK_STATE = 1,
-    LESUNGKAP_MASK_DESTINATION = 32768 /* exactly with LESUNGKAP_QP_RTR */
-};
-
-/* Send record: wr_id at 0 (8), opcode 8, flags 9, immediate 12 (4), remote address 16 (8), remote key 24 (4), inline bytes 48 to 559,
- * piece count 560 (4; with inline the number of inline bytes, 2), pieces from 576. */
-enum {
-    LESUNGKAP_WRITE = 0,
-    LESUNGKAP_WRITE_IMMEDIATE = 1,
-    LESUNGKAP_SEND = 2,
-    LESUNGKAP_SEND_IMMEDIATE = 3,
-    LESUNGKAP_READ = 4,
-    LESUNGKAP_FLAG_FENCE = 1,     /* no effect */
-    LESUNGKAP_FLAG_SIGNALED = 2,
-    LESUNGKAP_FLAG_SOLICITED = 4, /* no effect */
-    LESUNGKAP_FLAG_INLINE = 8
-};
-
-/* Opcodes of completions. Completion: wr_id at 0 (8), status 8, opcode 9, zero 10 (2), byte length 12 (4), immediate 16 (4),
- * owner qpn 20 (4). */
-enum {
-    LESUNGKAP_COMPLETED_SEND = 0,
-    LESUNGKAP_COMPLETED_WRITE = 1,
-    LESUNGKAP_COMPLETED_READ = 2,
-    LESUNGKAP_COMPLETED_RECEIVE = 3,
-    LESUNGKAP_COMPLETED_RECEIVE_OF_WRITE = 4
-};
-
-/* Each call returns its answer in bits 0 to 7 and, for a work request answered LESUNGKAP_DONE, its status in bits 8 to 15. */
-
-/* Makes a fresh card over a memory of memory_len bytes, whatever the state held. */
+/* Makes a fresh card over a memory of memory_len bytes, whatever the state held.
+ *   BAD_STATE         state_len isn't LESUNGKAP_STATE_BYTES; the content is not looked at
+ *   RANGE             memory_len is 0 or over LESUNGKAP_MOST_MEMORY
+ *   DONE              every byte of the state is set: no object, no key handed out */
 uint32_t lesungkap_reset(uint8_t *state, size_t state_len, uint64_t memory_len);
 
-/* Runs a control command. On LESUNGKAP_DONE writes 0 and the ack data to the ack. */
+/* Runs a control command.
+ *   BAD_STATE         the state is not acceptable
+ *   BUFFER_TOO_SHORT  ack_len is under LESUNGKAP_ACK_BYTES, whatever the command
+ *   RECORD_LENGTH     the command has fewer than two bytes
+ *   UNKNOWN           class or command
+ *   RECORD_LENGTH     it hasn't the command's length
+ *   BAD_FIELD, NOT_LIVE, RANGE, WRONG_STATE, IN_USE, FULL, as lesungkap_commands.h says of each command
+ *   DONE              the one object that it names or makes has changed; the ack has 0 and its data */
 uint32_t lesungkap_control(uint8_t *state, size_t state_len, const uint8_t *command, size_t command_len, uint8_t *ack,
                            size_t ack_len);
 
-/* Runs a work request to its end. LESUNGKAP_HELD_PEER and LESUNGKAP_HELD_PLACE: nothing happened, try again later. A status other than
- * LESUNGKAP_SUCCESS leaves the queue pair in error. docs/CALLS.md has the order of answers and statuses. */
+/* Runs a work request to its end. A write moves the local bytes (the entries in order, or the inline bytes) to the remote range, a read the
+ * remote range to the local entries, a send the local bytes to the entries of the peer's oldest waiting receive. Sends and writes with
+ * immediate take that receive; a write touches none of its bytes.
+ *   BAD_STATE         the state is not acceptable
+ *   MEMORY_LENGTH     memory_len isn't that of the reset
+ *   RECORD_LENGTH     under LESUNGKAP_SEND_BYTES
+ *   BAD_FIELD         opcode, flag bit, inline with a read, too many inline bytes or entries
+ *   RECORD_LENGTH     not exactly what its entries ask for
+ *   NOT_LIVE, WRONG_STATE
+ *                     the queue pair; it is not in RTS
+ *   HELD_PEER         the destination isn't live, not in RTR or RTS, or names another; no receive waits where one is taken
+ *   HELD_PLACE        no place in the send CQ, or in the peer's receive CQ where a receive is taken (two if it is one CQ), signaled or not
+ *   DONE              it is finished, with the first status that is met:
+ *     LOCAL_LENGTH      over LESUNGKAP_MOST_MESSAGE bytes in all
+ *     LOCAL_PROTECTION  a byte of a local entry isn't permitted to the queue pair
+ *     REMOTE_ACCESS     a byte of the remote range isn't permitted to the peer
+ *     REMOTE_INVALID    the receive is too short (its own status LOCAL_LENGTH), or a byte that would be filled isn't permitted to the peer
+ *                       (LOCAL_PROTECTION); the receive is taken, and the peer goes to error too
+ *     SUCCESS           the bytes are written in turn, each with the value that its source had before the call
+ * Any status but SUCCESS moves no byte and leaves the queue pair in error. Completions: the sender's first, into its send CQ, unless it
+ * succeeded unsignaled on a queue pair with LESUNGKAP_SIGNAL_FLAGGED; then the receiver's, into its receive CQ, where a receive was taken. */
 uint32_t lesungkap_post_send(uint8_t *state, size_t state_len, uint8_t *memory, size_t memory_len, uint32_t qpn,
                              const uint8_t *record, size_t record_len);
 
-/* Lets a receive wait. Receive record: wr_id at 0 (8), piece count 8 (4), pieces from 24. Keys are looked at when a message comes. */
+/* Lets a receive wait behind the others. Its keys are looked at when a message comes, not before.
+ *   BAD_STATE         the state is not acceptable
+ *   RECORD_LENGTH     under LESUNGKAP_RECEIVE_BYTES
+ *   BAD_FIELD         over LESUNGKAP_RECEIVE_MOST_SGES entries
+ *   RECORD_LENGTH     not exactly what its entries ask for
+ *   NOT_LIVE, WRONG_STATE
+ *                     the queue pair; it is in RESET or ERROR
+ *   FULL              LESUNGKAP_QP_MOST_RECEIVES wait already
+ *   DONE              it waits */
 uint32_t lesungkap_post_receive(uint8_t *state, size_t state_len, uint32_t qpn, const uint8_t *record, size_t record_len);
 
-/* Completes the oldest receive of a queue pair in error with LESUNGKAP_FLUSHED. */
+/* Completes the oldest waiting receive of a queue pair in error. The call's own status is 0.
+ *   BAD_STATE         the state is not acceptable
+ *   NOT_LIVE, WRONG_STATE
+ *                     the queue pair; it is not in ERROR
+ *   NOTHING           no receive waits
+ *   HELD_PLACE        no place in its receive CQ
+ *   DONE              the receive has left; its completion has status FLUSHED, opcode COMPLETED_RECEIVE, length 0 */
 uint32_t lesungkap_flush(uint8_t *state, size_t state_len, uint32_t qpn);
 
-/* Takes the oldest completion of a queue into the first 24 bytes of the buffer. */
+/* Takes the oldest completion of a completion queue into the first LESUNGKAP_COMPLETION_BYTES of the buffer.
+ *   BAD_STATE         the state is not acceptable
+ *   BUFFER_TOO_SHORT  buffer_len is under LESUNGKAP_COMPLETION_BYTES
+ *   NOT_LIVE, NOTHING the completion queue; it is empty
+ *   DONE              the completion has left its queue */
 uint32_t lesungkap_poll(uint8_t *state, size_t state_len, uint32_t cqn, uint8_t *buffer, size_t buffer_len);
 
 static inline unsigned lesungkap_answer(uint32_t result) { return (unsigned)(result & 255u); }
 
 static inline unsigned lesungkap_status(uint32_t result) { return (unsigned)(result >> 8 & 255u); }
-
-static inline const char *lesungkap_answer_text(unsigned answer)
-{
-    switch (answer) {
-    case LESUNGKAP_DONE: return "done";
-    case LESUNGKAP_RECORD_LENGTH: return "record length wrong";
-    case LESUNGKAP_NOT_LIVE: return "number not live";
-    case LESUNGKAP_WRONG_STATE: return "wrong QP state or move";
-    case LESUNGKAP_BAD_FIELD: return "bad field";
-    case LESUNGKAP_HELD_PEER: return "held: peer not ready or no receive waiting";
-    case LESUNGKAP_HELD_PLACE: return "held: no completion place";
-    case LESUNGKAP_MEMORY_LENGTH: return "lent memory's length isn't the reset length";
-    case LESUNGKAP_FULL: return "table or receive queue full";
-    case LESUNGKAP_NOTHING: return "nothing there";
-    case LESUNGKAP_IN_USE: return "in use";
-    case LESUNGKAP_RANGE: return "range";
-    case LESUNGKAP_BUFFER_TOO_SHORT: return "answer buffer too short";
-    case LESUNGKAP_UNKNOWN: return "unknown class or command";
-    case LESUNGKAP_BAD_TAPE_RECORD: return "bad tape record";
-    case LESUNGKAP_BAD_STATE: return "lent card state not acceptable";
-    default: return "no answer of the table";
-    }
-}
-
-static inline const char *lesungkap_status_text(unsigned status)
-{
-    switch (status) {
-    case LESUNGKAP_SUCCESS: return "success";
-    case LESUNGKAP_LOCAL_LENGTH: return "local length";
-    case LESUNGKAP_LOCAL_PROTECTION: return "local protection";
-    case LESUNGKAP_FLUSHED: return "flushed";
-    case LESUNGKAP_REMOTE_INVALID: return "remote invalid request";
-    case LESUNGKAP_REMOTE_ACCESS: return "remote access";
-    default: return "no status of the table";
-    }
-}
 
 #ifdef __cplusplus
 }

@@ -3,6 +3,7 @@
 use cards::build::*;
 use cards::{Card, Reference};
 use reference::layout::*;
+use reference::ACK_BYTES;
 
 pub const MEMORY: usize = 1 << 16;
 pub const LOCAL_VIRT: u64 = 0x10_0000;
@@ -16,7 +17,7 @@ pub fn thin() -> Vec<u8> {
     assert_eq!(Reference.reset(&mut state, MEMORY as u64).answer, 0);
     for _ in 0..2 {
         run(&mut state, create_domain());
-        run(&mut state, create_queue(16));
+        run(&mut state, create_queue(MOST_PLACES as u32));
     }
     run(&mut state, register(0, 7, 0, 8192, LOCAL_VIRT));
     run(&mut state, register(1, 7, 32768, 8192, REMOTE_VIRT));
@@ -30,19 +31,19 @@ pub fn thin() -> Vec<u8> {
 /// Every domain, queue, region and pair is live, and four receives wait on each pair.
 pub fn full() -> Vec<u8> {
     let mut state = thin();
-    for n in 2..8 {
+    for n in 2..PAIRS as u32 {
         run(&mut state, create_domain());
-        run(&mut state, create_queue(16));
+        run(&mut state, create_queue(MOST_PLACES as u32));
         run(&mut state, create_pair(n, 2, 1, n, n));
     }
-    for n in 2..32 {
-        run(&mut state, register(n % 8, 7, u64::from(n) * 1024, 1024, u64::from(n) << 32));
+    for n in 2..REGIONS as u64 {
+        run(&mut state, register((n % DOMAINS as u64) as u32, 7, n * 1024 % MEMORY as u64, 1024, n << 32));
     }
-    for n in [2, 4, 6] {
+    for n in (2..PAIRS as u32).step_by(2) {
         join_pairs(&mut state, n, n + 1);
     }
-    for n in 0..8 {
-        for wr_id in 0..4 {
+    for n in 0..PAIRS as u32 {
+        for wr_id in 0..MOST_WAITING as u64 {
             assert_eq!(Reference.post_receive(&mut state, n, &receive(wr_id, &[piece(0, 64, 1), piece(64, 64, 1)])).answer, 0);
         }
     }
@@ -52,8 +53,8 @@ pub fn full() -> Vec<u8> {
 /// Puts unread completions into each live queue that has a joined pair, as many as fit.
 pub fn fill_queues(state: &mut [u8]) {
     let mut memory = vec![0; MEMORY];
-    for n in 0..8 {
-        for wr_id in 0..16 {
+    for n in 0..PAIRS as u32 {
+        for wr_id in 0..MOST_PLACES as u64 {
             Reference.post_send(state, &mut memory, n, &Send::new(wr_id, 0).flags(2).bytes());
         }
     }
@@ -75,13 +76,11 @@ pub fn inline_write(length: usize) -> Vec<u8> {
 }
 
 fn run(state: &mut [u8], command: Vec<u8>) {
-    assert_eq!(Reference.control(state, &command, &mut [0; 13]).answer, 0);
+    assert_eq!(Reference.control(state, &command, &mut [0; ACK_BYTES]).answer, 0);
 }
 
 fn join_pairs(state: &mut [u8], a: u32, b: u32) {
-    for (qpn, peer) in [(a, b), (b, a)] {
-        run(state, move_to(qpn, 1));
-        run(state, join(qpn, peer));
-        run(state, move_to(qpn, 3));
+    for command in ready_both(a, b) {
+        run(state, command);
     }
 }

@@ -24,15 +24,26 @@ impl Work<'_> {
 
     /// Nanoseconds per call over as many runs as it takes to reach `least` calls.
     fn sample(&mut self, least: u32) -> f64 {
-        let runs = least.div_ceil(self.calls);
+        let runs = (least + self.calls - 1) / self.calls;
         let spent: Duration = (0..runs).map(|_| self.time()).sum();
         spent.as_nanos() as f64 / f64::from(runs * self.calls)
     }
 }
 
+/// The value, by a way that the compiler does not see through.
+pub fn opaque<T>(value: T) -> T {
+    // SAFETY: the value is read once and forgotten, so it is moved.
+    unsafe {
+        let moved = std::ptr::read_volatile(&value);
+        std::mem::forget(value);
+        moved
+    }
+}
+
 /// Times both in turn and prints a line: nanoseconds per call, the median ratio and the middle half of the ratios.
 pub fn compare(name: &str, calls: u32, proved: &mut Work, reference: &mut Work) {
-    let per_round = calls.div_ceil(ROUNDS as u32);
+    let rounds = ROUNDS as u32;
+    let per_round = (calls + rounds - 1) / rounds;
     proved.sample(per_round);
     reference.sample(per_round);
     let (mut ours, mut theirs, mut ratios) = (Vec::new(), Vec::new(), Vec::new());

@@ -2,11 +2,11 @@
 //!
 //! usage: calls [CALLS]
 
-use bench::{compare, fixture, heading, Work};
+use bench::{compare, fixture, heading, opaque, Work};
 use cards::{proved, Card, Reference};
+use reference::layout::{COMPLETION_BYTES, MOST_PLACES, QUEUES};
 use reference::Outcome;
 use std::cell::RefCell;
-use std::hint::black_box;
 
 fn main() {
     let calls = std::env::args().nth(1).and_then(|word| word.parse().ok()).unwrap_or(1_000_000);
@@ -37,7 +37,7 @@ fn writes<'a>(card: &'a dyn Card, state: &[u8], record: &'a [u8]) -> Work<'a> {
     let mut memory: Vec<u8> = (0..fixture::MEMORY).map(|n| n as u8).collect();
     let run = move || {
         for _ in 0..calls {
-            let outcome = card.post_send(black_box(&mut state), black_box(&mut memory), 0, black_box(record));
+            let outcome = card.post_send(opaque(&mut state), opaque(&mut memory), 0, opaque(record));
             assert_eq!(outcome, Outcome::DONE);
         }
     };
@@ -47,17 +47,18 @@ fn writes<'a>(card: &'a dyn Card, state: &[u8], record: &'a [u8]) -> Work<'a> {
 /// Empties the queues of four cards; they are filled again before each run.
 fn polls<'a>(card: &'a dyn Card, full: &[u8]) -> Work<'a> {
     let full = full.to_vec();
-    let queues: Vec<u32> = (0..8).filter(|&n| reference::poll(&mut full.clone(), n, &mut [0; 24]).answer == 0).collect();
-    let calls = 4 * 16 * queues.len() as u32;
+    let queues: Vec<u32> =
+        (0..QUEUES as u32).filter(|&n| reference::poll(&mut full.clone(), n, &mut [0; COMPLETION_BYTES]).answer == 0).collect();
+    let calls = (4 * MOST_PLACES * queues.len()) as u32;
     let states = std::rc::Rc::new(RefCell::new(vec![full.clone(); 4]));
     let refilled = states.clone();
     let prepare = move || refilled.borrow_mut().iter_mut().for_each(|state| state.copy_from_slice(&full));
     let run = move || {
-        let mut buffer = [0; 24];
+        let mut buffer = [0; COMPLETION_BYTES];
         for state in states.borrow_mut().iter_mut() {
             for &cqn in &queues {
-                for _ in 0..16 {
-                    let outcome = card.poll(black_box(state), cqn, black_box(&mut buffer));
+                for _ in 0..MOST_PLACES {
+                    let outcome = card.poll(opaque(state), cqn, opaque(&mut buffer));
                     assert_eq!(outcome, Outcome::DONE);
                 }
             }

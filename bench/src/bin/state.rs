@@ -2,9 +2,8 @@
 //!
 //! usage: state [CALLS]
 
-use bench::{compare, fixture, heading, Work};
+use bench::{compare, fixture, heading, opaque, Work};
 use cards::{lower, Lower, ReferenceLower};
-use std::hint::black_box;
 
 fn main() {
     let calls = std::env::args().nth(1).and_then(|word| word.parse().ok()).unwrap_or(1_000_000);
@@ -26,7 +25,7 @@ fn work<'a>(lower: &'a dyn Lower, state: &'a [u8]) -> Work<'a> {
         calls,
         prepare: Box::new(|| {}),
         run: Box::new(move || {
-            let accepted = (0..calls).filter(|_| lower.accepts(black_box(state))).count();
+            let accepted = (0..calls).filter(|_| lower.accepts(opaque(state))).count();
             assert_eq!(accepted, calls as usize);
         }),
     }

@@ -8,12 +8,11 @@ use lib.Dec.{eqb, leb}
 use lib.ListN.{length}
 use Rattle.wire.specs.Checks.{Check, _if_, refusal, has, only}
 use Rattle.wire.specs.Le.{leAt}
-use Rattle.tables.specs.Accept.{cqLive, isState}
-use Rattle.tables.specs.Card.{Card}
-use Rattle.tables.specs.Image.{card}
+use Rattle.tables.specs.Card.{cqLive, Card}
+use Rattle.validate.specs.Accept.{isState}
+use Rattle.tables.specs.State.{card}
 use Rattle.tables.specs.Limits.{qpCount, mostAddress}
-use Rattle.tables.specs.Reading.{headChecks}
-use Rattle.tables.specs.Records.{Command, dataSize, commandOf}
+use Rattle.tables.specs.Commands.{headChecks, Command, dataSize, commandOf}
 use Rattle.tables.specs.declared.Ack.{Ack}
 use Rattle.tables.specs.declared.Ack.the-variants as ack
 use Rattle.tables.specs.declared.CreateQp.{CreateQp}

@@ -9,15 +9,15 @@ use lib.Dec.{eqb, ltb}
 use lib.ListN.{length}
 use borrow.Author.Tests.{lt-ltb, le-ltb, ne-eqb, not-true}
 use Rattle.wire.specs.Checks.{_if_, refusal}
-use Rattle.wire.specs.Fields.{putFields}
+use Rattle.wire.specs.Codec.{putFields}
 use Rattle.wire.specs.Le.{leAt}
-use Rattle.wire.specs.Scan.{all, and-left, and-right}
-use Rattle.tables.specs.Accept.{accepts}
-use Rattle.tables.specs.Accepted.{Accepted, accepted, accepting}
+use Rattle.wire.specs.Scan.{all}
+use Rattle.wire.proofs.ScanLaws.{and-left, and-right}
+use Rattle.validate.specs.Accept.{accepts}
+use Rattle.validate.proofs.AcceptedLaws.{Accepted, accepted, accepting}
 use Rattle.tables.specs.Card.{Card}
-use Rattle.tables.specs.Image.{card}
-use Rattle.tables.specs.Reading.{headChecks, numberRead, registerRead, createQpRead, modifyQpRead, ackValues}
-use Rattle.tables.specs.Records.{Command, controlClass, dataSize, commandOf, numberCodec, registerCodec, createQpCodec, modifyQpCodec, ackFields, ackLeast}
+use Rattle.tables.specs.State.{card}
+use Rattle.tables.specs.Commands.{headChecks, numberRead, registerRead, createQpRead, modifyQpRead, ackValues, Command, controlClass, numberCodec, registerCodec, createQpCodec, modifyQpCodec, ackFields, ackLeast, dataSize, commandOf}
 use Rattle.tables.specs.declared.Ack.{Ack}
 use Rattle.tables.specs.declared.CreateQpRead.{CreateQpRead}
 use Rattle.tables.specs.declared.CreateQpRead.the-variants as create
@@ -62,12 +62,12 @@ module _ (l k : List ℕ) where
       go false e y = record { outcome = rw (d, e) (y .outcome); bytes = rw (d, e) (y .bytes) }
 
   -- whose data is one number
-  by-number : (f : ℕ → Command) → dataSize (leAt 1 k 1) ≡ some 4 → commandOf k ≡ f (numberCodec .read k 2) → (x : NumberRead) → x ≡ numberRead k
+  by-number : (f : ℕ → Command) → dataSize (leAt 1 k 1) ≡ some 4 → commandOf k ≡ f (decode numberCodec k 2) → (x : NumberRead) → x ≡ numberRead k
       → (r : Outcome) (l′ : List ℕ) → Ran l (numbered f x) r l′ → Chosen r l′
   unfolding numberCodec
-  by-number f d c x is r l′ y = chosen 4 (f (numberCodec .read k 2)) d c (numbered f x) (rw is (go (eqb (length k) 6))) r l′ y
+  by-number f d c x is r l′ y = chosen 4 (f (decode numberCodec k 2)) d c (numbered f x) (rw is (go (eqb (length k) 6))) r l′ y
     where
-      go : (b : Bool) → numbered f (cond b (number.Value (numberCodec .read k 2)) number.Wrong) ≡ cond b (some (f (numberCodec .read k 2))) none
+      go : (b : Bool) → numbered f (cond b (number.Value (decode numberCodec k 2)) number.Wrong) ≡ cond b (some (f (decode numberCodec k 2))) none
       go true = refl
       go false = refl
 
@@ -89,9 +89,9 @@ module _ (l k : List ℕ) where
 
   pub run-register : leAt 1 k 1 ≡ 7 → (x : RegisterRead) → x ≡ registerRead k → (r : Outcome) (l′ : List ℕ) → Ran l (registering x) r l′ → Chosen r l′
   unfolding dataSize commandOf registerCodec
-  run-register e x is = chosen 32 (Command.register (registerCodec .read k 2)) (rw e) (rw e) (registering x) (rw is (go (eqb (length k) 34)))
+  run-register e x is = chosen 32 (Command.register (decode registerCodec k 2)) (rw e) (rw e) (registering x) (rw is (go (eqb (length k) 34)))
     where
-      go : (b : Bool) → registering (cond b (register.Value (registerCodec .read k 2)) register.Wrong) ≡ cond b (some (Command.register (registerCodec .read k 2))) none
+      go : (b : Bool) → registering (cond b (register.Value (decode registerCodec k 2)) register.Wrong) ≡ cond b (some (Command.register (decode registerCodec k 2))) none
       go true = refl
       go false = refl
 
@@ -101,17 +101,17 @@ module _ (l k : List ℕ) where
 
   pub run-create-qp : leAt 1 k 1 ≡ 9 → (x : CreateQpRead) → x ≡ createQpRead k → (r : Outcome) (l′ : List ℕ) → Ran l (creating x) r l′ → Chosen r l′
   unfolding dataSize commandOf createQpCodec
-  run-create-qp e x is = chosen 16 (Command.createQp (createQpCodec .read k 2)) (rw e) (rw e) (creating x) (rw is (go (eqb (length k) 18)))
+  run-create-qp e x is = chosen 16 (Command.createQp (decode createQpCodec k 2)) (rw e) (rw e) (creating x) (rw is (go (eqb (length k) 18)))
     where
-      go : (b : Bool) → creating (cond b (create.Value (createQpCodec .read k 2)) create.Wrong) ≡ cond b (some (Command.createQp (createQpCodec .read k 2))) none
+      go : (b : Bool) → creating (cond b (create.Value (decode createQpCodec k 2)) create.Wrong) ≡ cond b (some (Command.createQp (decode createQpCodec k 2))) none
       go true = refl
       go false = refl
 
   pub run-modify-qp : leAt 1 k 1 ≡ 10 → (x : ModifyQpRead) → x ≡ modifyQpRead k → (r : Outcome) (l′ : List ℕ) → Ran l (modifying x) r l′ → Chosen r l′
   unfolding dataSize commandOf modifyQpCodec
-  run-modify-qp e x is = chosen 16 (Command.modifyQp (modifyQpCodec .read k 2)) (rw e) (rw e) (modifying x) (rw is (go (eqb (length k) 18)))
+  run-modify-qp e x is = chosen 16 (Command.modifyQp (decode modifyQpCodec k 2)) (rw e) (rw e) (modifying x) (rw is (go (eqb (length k) 18)))
     where
-      go : (b : Bool) → modifying (cond b (modify.Value (modifyQpCodec .read k 2)) modify.Wrong) ≡ cond b (some (Command.modifyQp (modifyQpCodec .read k 2))) none
+      go : (b : Bool) → modifying (cond b (modify.Value (decode modifyQpCodec k 2)) modify.Wrong) ≡ cond b (some (Command.modifyQp (decode modifyQpCodec k 2))) none
       go true = refl
       go false = refl
 

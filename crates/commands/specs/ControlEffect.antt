@@ -9,24 +9,28 @@ use lib.Bits.{bitAnd, and-le-r}
 use lib.Dec.{eqb, ltb, leb}
 use lib.ListN.{length}
 use borrow.Author.Tests.{leb-true, leb-false, ltb-false, lt-ltb, le-leb, eqb-true, eq-eqb, not-true, not-false, eqb-false}
-use Rattle.wire.specs.Checks.{_if_, refusal, Passed, passed, only}
-use Rattle.wire.specs.Fields.{Fit}
+use Rattle.wire.specs.Checks.{_if_, refusal, Passed, only}
+use Rattle.wire.proofs.CheckLaws.{passed}
+use Rattle.wire.specs.Codec.{Fit, Fits}
 use Rattle.wire.specs.Ring.{ringList}
-use Rattle.wire.specs.Scan.{all, lowest-passes, and-left, and-right}
-use Rattle.wire.specs.Slots.{upd-twice}
-use Rattle.wire.specs.Table.{rowAt, putRow, finish, elsewhere, row-stored}
-use Rattle.tables.specs.Accept.{regionOk, mrOk}
-use Rattle.tables.specs.Accepted.{Accepted, memory-most, queueing, registered, registering}
+use Rattle.wire.specs.Scan.{all}
+use Rattle.wire.proofs.ScanLaws.{lowest-passes, and-left, and-right}
+use Rattle.wire.proofs.SlotLaws.{upd-twice}
+use Rattle.wire.specs.Table.{rowAt, putRow, finish}
+use Rattle.wire.proofs.TableLaws.{elsewhere, row-stored}
+use Rattle.validate.specs.Accept.{regionOk, mrOk}
+use Rattle.validate.proofs.AcceptedLaws.{Accepted, memory-most, queueing, registered, registering}
 use Rattle.tables.specs.Card.{withMr}
-use Rattle.tables.specs.Image.{card, mrOf, cqOf, entriesAt}
+use Rattle.tables.specs.State.{card, mrOf, cqOf, entriesAt}
 use Rattle.tables.specs.Kept.{memory-same, mr-stored, mr-flagged}
 use Rattle.tables.specs.KeptNamed.{pd-made, pd-dropped, cq-made, cq-dropped}
-use Rattle.tables.specs.Layout.{memoryT, pdT, mrLiveT, mrT, cqT}
+use Rattle.tables.specs.Layout.{memoryT, pdFlagT, mrFlagT, mrT, cqT}
 use Rattle.tables.specs.Limits.{pdCount, cqCount, mrCount, mostPlaces, mostAddress, mostAccess}
-use Rattle.tables.specs.Objects.{memory-is, pd-below, cq-below, mr-below, mr-live, mr-variant}
-use Rattle.tables.specs.Records.{Command}
-use Rattle.tables.specs.Search.{freePdn, freeCqn, freeMrn}
-use Rattle.tables.specs.Stores.{Fits, card-pd, card-mr-live, card-mr, card-cq, pd-kept}
+use Rattle.tables.proofs.ObjectLaws.{memory-is, pd-below, cq-below, mr-below, mr-live, mr-variant}
+use Rattle.tables.specs.Commands.{Command}
+use Rattle.validate.specs.Search.{freePdn, freeCqn, freeMrn}
+use Rattle.tables.specs.Stores.{card-pd, card-mr-live, card-mr, card-cq}
+use Rattle.tables.proofs.KindLaws.{pd-kept}
 use Rattle.tables.specs.declared.Region.{Region}
 use Rattle.tables.specs.declared.Registration.{Registration}
 use Rattle.rules.proofs.Variants.{next-small}
@@ -69,7 +73,7 @@ module _ (l : List ℕ) (ok : Accepted l) where
 
   -- ---- domains
   pub create-pd : refusal (commandChecks (card l) Command.createPd) ≡ none → Kept l Command.createPd
-  unfolding commandChecks commandBytes commandEffect pdT Fit
+  unfolding commandChecks commandBytes commandEffect pdFlagT Fit
   create-pd e =
       let p = passed (commandChecks (card l) Command.createPd) e in
       let f : ℕ = freePdn (card l) in
@@ -77,7 +81,7 @@ module _ (l : List ℕ) (ok : Accepted l) where
       record { meant = card-pd l f (ok .sized) 1 h (omega arith, tt); still = pd-made l ok f h }
 
   pub destroy-pd : (n : ℕ) → refusal (commandChecks (card l) (Command.destroyPd n)) ≡ none → Kept l (Command.destroyPd n)
-  unfolding commandChecks commandBytes commandEffect pdT Fit
+  unfolding commandChecks commandBytes commandEffect pdFlagT Fit
   destroy-pd n e =
       let p = passed (commandChecks (card l) (Command.destroyPd n)) e in
       let h : n < pdCount = pd-below l n (not-false _ (p .0)) in
@@ -146,17 +150,17 @@ module _ (l : List ℕ) (ok : Accepted l) where
         (omega arith, (omega arith, (omega arith, (omega arith, (omega arith, (omega arith, tt))))))
 
     -- the slot is free
-    unused : rowAt mrLiveT l n ≡ 0
+    unused : rowAt mrFlagT l n ≡ 0
     unfolding mrOk
     unused =
-        let a : eqb (rowAt mrLiveT l n) 1 ≡ false = sym (mr-live l n below) ∙ not-true (card l .mr n .live) (lowest-passes mrCount (λ i. not (card l .mr i .live)) below) in
-        by (eqb (rowAt mrLiveT l n) 0) refl a
+        let a : eqb (rowAt mrFlagT l n) 1 ≡ false = sym (mr-live l n below) ∙ not-true (card l .mr n .live) (lowest-passes mrCount (λ i. not (card l .mr i .live)) below) in
+        by (eqb (rowAt mrFlagT l n) 0) refl a
       where
-        by : (b : Bool) → eqb (rowAt mrLiveT l n) 0 ≡ b → eqb (rowAt mrLiveT l n) 1 ≡ false → rowAt mrLiveT l n ≡ 0
-        by true x y = eqb-true (rowAt mrLiveT l n) 0 x
+        by : (b : Bool) → eqb (rowAt mrFlagT l n) 0 ≡ b → eqb (rowAt mrFlagT l n) 1 ≡ false → rowAt mrFlagT l n ≡ 0
+        by true x y = eqb-true (rowAt mrFlagT l n) 0 x
         by false x y =
-            absurd (eqb-false (rowAt mrLiveT l n) 1 y
-            (registered (card l .pd) (rowAt memoryT l 0) (rowAt mrLiveT l n) (rowAt mrT l n) (ok .mrs n below) (eqb-false (rowAt mrLiveT l n) 0 x) .live))
+            absurd (eqb-false (rowAt mrFlagT l n) 1 y
+            (registered (card l .pd) (rowAt memoryT l 0) (rowAt mrFlagT l n) (rowAt mrT l n) (ok .mrs n below) (eqb-false (rowAt mrFlagT l n) 0 x) .live))
 
     abbrev m : List ℕ
     m = putRow mrT l n row
@@ -166,14 +170,14 @@ module _ (l : List ℕ) (ok : Accepted l) where
     stored = let z = ok .sized in row-stored mrT l n row below (omega arith) fits
 
     mid : Accepted m
-    mid = mr-stored l ok n row below fits (rw (eq-eqb (rowAt mrLiveT l n) 0 unused))
+    mid = mr-stored l ok n row below fits (rw (eq-eqb (rowAt mrFlagT l n) 0 unused))
 
     limits : regionOk (rowAt memoryT l 0) row ≡ true
     limits =
         rw (le-leb (g .access) mostAccess access, le-leb 1 v (variant .0), le-leb 1 (g .length) size, le-leb (g .start + g .length) (rowAt memoryT l 0) inside, le-leb (g .virt + g .length) mostAddress space)
 
     pub register : Kept l (Command.register g)
-    unfolding commandBytes commandEffect elsewhere finish memoryT pdT mrT mrLiveT Fit mrOf
+    unfolding commandBytes commandEffect elsewhere finish memoryT pdFlagT mrT mrFlagT Fit mrOf
     register =
         record {
           meant =
@@ -186,7 +190,7 @@ module _ (l : List ℕ) (ok : Accepted l) where
         }
 
   pub deregister : (n : ℕ) → refusal (commandChecks (card l) (Command.deregister n)) ≡ none → Kept l (Command.deregister n)
-  unfolding commandChecks commandBytes commandEffect mrLiveT Fit mrOf
+  unfolding commandChecks commandBytes commandEffect mrFlagT Fit mrOf
   deregister n e =
       let p = passed (commandChecks (card l) (Command.deregister n)) e in
       let h : n < mrCount = mr-below l n (not-false _ (p .0)) in

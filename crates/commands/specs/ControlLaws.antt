@@ -11,16 +11,16 @@ use lib.Dec.{eqb, ltb, leb}
 use lib.ListN.{length}
 use borrow.Author.Tests.{le-leb, lt-leb, leb-true, leb-false, lt-ltb, le-ltb, eqb-true, ne-eqb, eq-eqb}
 use Rattle.wire.specs.Checks.{Check, _if_, refusal, has, only}
-use Rattle.wire.specs.Scan.{and-left, and-right, or-left, or-right}
+use Rattle.wire.proofs.ScanLaws.{and-left, and-right, or-left, or-right}
 use Rattle.wire.specs.Table.{rowAt, putRow}
-use Rattle.tables.specs.Accept.{cqLive, isState}
-use Rattle.tables.specs.Card.{Qp}
-use Rattle.tables.specs.Image.{card}
-use Rattle.tables.specs.Layout.{memoryT, pdT, mrLiveT, mrT, cqT, qpT, waitingT}
+use Rattle.tables.specs.Card.{cqLive, Qp}
+use Rattle.validate.specs.Accept.{isState}
+use Rattle.tables.specs.State.{card}
+use Rattle.tables.specs.Layout.{memoryT, pdFlagT, mrFlagT, mrT, cqT, qpT, waitingT}
 use Rattle.tables.specs.Limits.{pdCount, cqCount, mrCount, qpCount, mostPlaces, mostAddress, mostAccess}
-use Rattle.tables.specs.Objects.{memory-is, pd-below, cq-below, mr-variant, qp-below, qp-live, qp-row}
-use Rattle.tables.specs.Records.{Command}
-use Rattle.tables.specs.Search.{freePdn, freeCqn, freeMrn, freeQpn, pdInUse, cqInUse}
+use Rattle.tables.proofs.ObjectLaws.{memory-is, pd-below, cq-below, mr-variant, qp-below, qp-live, qp-row}
+use Rattle.tables.specs.Commands.{Command}
+use Rattle.validate.specs.Search.{freePdn, freeCqn, freeMrn, freeQpn, pdInUse, cqInUse}
 use Rattle.tables.specs.declared.Ack.the-variants as ack
 use Rattle.tables.specs.declared.CreateQp.{CreateQp}
 use Rattle.tables.specs.declared.ModifyQp.{ModifyQp}
@@ -104,11 +104,11 @@ module _ (l : List ℕ) where
     unfolding commandChecks
     create-pd-full h = ran-refused l Command.createPd 8 (rw (le-leb pdCount (freePdn (card l)) (omega arith)))
 
-    pub create-pd-done : n < pdCount → (l′ : List ℕ) → l′ ≡ putRow pdT l n 1 → Ran l (some Command.createPd) (Done (ack.Number n)) l′
+    pub create-pd-done : n < pdCount → (l′ : List ℕ) → l′ ≡ putRow pdFlagT l n 1 → Ran l (some Command.createPd) (Done (ack.Number n)) l′
     unfolding commandChecks commandAck commandBytes
     create-pd-done h l′ s =
         ran-done l Command.createPd (rw (lt-leb pdCount (freePdn (card l)) (omega arith))) (Done (ack.Number n)) l′
-        (ap (λ (x : ℕ). Done (ack.Number x)) is) (s ∙ ap (λ (x : ℕ). putRow pdT l x 1) is)
+        (ap (λ (x : ℕ). Done (ack.Number x)) is) (s ∙ ap (λ (x : ℕ). putRow pdFlagT l x 1) is)
 
   -- ---- destroy PD
   module _ (n : ℕ) where
@@ -121,7 +121,7 @@ module _ (l : List ℕ) where
       unfolding commandChecks
       destroy-pd-used e = ran-refused l (Command.destroyPd n) 10 (rw (live, e))
 
-      pub destroy-pd-done : pdInUse (card l) n ≡ false → (l′ : List ℕ) → l′ ≡ putRow pdT l n 0
+      pub destroy-pd-done : pdInUse (card l) n ≡ false → (l′ : List ℕ) → l′ ≡ putRow pdFlagT l n 0
           → Ran l (some (Command.destroyPd n)) (Done ack.Done) l′
       unfolding commandChecks commandAck commandBytes
       destroy-pd-done e l′ s = ran-done l (Command.destroyPd n) (rw (live, e)) (Done ack.Done) l′ refl s
@@ -171,7 +171,7 @@ module _ (l : List ℕ) where
               rw (low (g .access) (omega arith), low (g .pd) (omega arith))
 
           pub register-done : n < mrCount → (v : ℕ) → v ≡ nextVariant (rowAt mrT l n .variant) → (l′ : List ℕ)
-              → l′ ≡ putRow mrLiveT (putRow mrT l n (regionRow (lowRegistration g) v)) n 1
+              → l′ ≡ putRow mrFlagT (putRow mrT l n (regionRow (lowRegistration g) v)) n 1
               → Ran l (some (Command.register g)) (Done (ack.Keys n (256 * n + v))) l′
           unfolding commandAck commandBytes
           register-done h v e l′ s =
@@ -179,8 +179,8 @@ module _ (l : List ℕ) where
               ran-done l (Command.register g) (register-tests ∙ rw (inside, lt-leb mrCount (freeMrn (card l)) (omega arith)))
               (Done (ack.Keys n (256 * n + v))) l′
               (ap₂ (λ (x z : ℕ). Done (ack.Keys x (256 * x + z))) is y)
-              (s ∙ ap (λ (x : Registration). putRow mrLiveT (putRow mrT l n (regionRow x v)) n 1) low-registration
-              ∙ ap₂ (λ (x z : ℕ). putRow mrLiveT (putRow mrT l x (regionRow g z)) x 1) is y)
+              (s ∙ ap (λ (x : Registration). putRow mrFlagT (putRow mrT l n (regionRow x v)) n 1) low-registration
+              ∙ ap₂ (λ (x z : ℕ). putRow mrFlagT (putRow mrT l x (regionRow g z)) x 1) is y)
 
   -- ---- deregister
   module _ (n : ℕ) where
@@ -188,7 +188,7 @@ module _ (l : List ℕ) where
     unfolding commandChecks
     deregister-dead e = ran-refused l (Command.deregister n) 2 (rw e)
 
-    pub deregister-done : card l .mr n .live ≡ true → (l′ : List ℕ) → l′ ≡ putRow mrLiveT l n 0 → Ran l (some (Command.deregister n)) (Done ack.Done) l′
+    pub deregister-done : card l .mr n .live ≡ true → (l′ : List ℕ) → l′ ≡ putRow mrFlagT l n 0 → Ran l (some (Command.deregister n)) (Done ack.Done) l′
     unfolding commandChecks commandAck commandBytes
     deregister-done e l′ s = ran-done l (Command.deregister n) (rw e) (Done ack.Done) l′ refl s
 

@@ -8,24 +8,29 @@ use Prim.Native.Nat.{ℕ, _+_, _≤_, _<_, _^_}
 use native.Mathlib.Omega.{arith}
 use lib.Dec.{eqb, ltb, leb}
 use borrow.Author.Tests.{leb-true, leb-false, ltb-false, le-leb, eqb-true, eqb-false, eq-eqb, ne-eqb, not-true, not-false}
-use Rattle.wire.specs.Checks.{_if_, refusal, Passed, passed, has, only}
-use Rattle.wire.specs.Fields.{Fit}
+use Rattle.wire.specs.Checks.{_if_, refusal, Passed, has, only}
+use Rattle.wire.proofs.CheckLaws.{passed}
+use Rattle.wire.specs.Codec.{Fit, Fits}
 use Rattle.wire.specs.Ring.{ringList}
-use Rattle.wire.specs.Scan.{all, lowest-passes, and-left, and-right, or-left, or-right}
-use Rattle.wire.specs.Slots.{upd-twice}
-use Rattle.wire.specs.Table.{rowAt, putRow, finish, elsewhere, row-stored}
-use Rattle.tables.specs.Accept.{cqLive, isState, receiveOk, pairOk, qpSound, qpOk}
-use Rattle.tables.specs.Accepted.{Accepted, paired, pairing}
-use Rattle.tables.specs.Card.{withQp}
-use Rattle.tables.specs.Image.{card, qpOf, liveQp, destOf, receivesAt, posted, receiveOf}
+use Rattle.wire.specs.Scan.{all}
+use Rattle.wire.proofs.ScanLaws.{lowest-passes, and-left, and-right, or-left, or-right}
+use Rattle.wire.proofs.SlotLaws.{upd-twice}
+use Rattle.wire.specs.Table.{rowAt, putRow, finish}
+use Rattle.wire.proofs.TableLaws.{elsewhere, row-stored}
+use Rattle.tables.specs.Card.{cqLive, withQp, receiveOf}
+use Rattle.validate.specs.Accept.{isState, receiveOk, pairOk, qpSound, qpOk}
+use Rattle.validate.proofs.AcceptedLaws.{Accepted, paired, pairing}
+use Rattle.tables.specs.State.{card, qpOf, liveQp, destOf, receivesAt, posted}
 use Rattle.tables.specs.Kept.{qp-stored, waiting-stored}
-use Rattle.tables.specs.Layout.{pdT, cqT, entryT, qpT, waitingT, receiveT}
+use Rattle.tables.specs.Layout.{pdFlagT, cqT, entryT, qpT, waitingT, receiveT}
 use Rattle.tables.specs.Limits.{qpCount, mostWaiting}
-use Rattle.tables.specs.Objects.{pd-below, cq-below, qp-below, qp-live, qp-row}
-use Rattle.tables.specs.Records.{Command}
-use Rattle.tables.specs.Search.{freeQpn}
-use Rattle.tables.specs.Stores.{Fits, card-qp, card-waiting, pd-kept, cq-kept, receives-kept, qp-fits, waiting-fits}
-use Rattle.tables.specs.WaitingLaws.{pair-sound}
+use Rattle.tables.proofs.ObjectLaws.{pd-below, cq-below, qp-below, qp-live, qp-row}
+use Rattle.tables.specs.Commands.{Command}
+use Rattle.validate.specs.Search.{freeQpn}
+use Rattle.tables.specs.Stores.{card-qp, card-waiting, qp-fits}
+use Rattle.tables.proofs.KindLaws.{pd-kept, cq-kept, receives-kept}
+use Rattle.tables.proofs.StoreLaws.{waiting-fits}
+use Rattle.validate.proofs.WaitingLaws.{pair-sound}
 use Rattle.tables.specs.declared.CreateQp.{CreateQp}
 use Rattle.tables.specs.declared.ModifyQp.{ModifyQp}
 use Rattle.tables.specs.declared.QueuePair.{QueuePair}
@@ -125,7 +130,7 @@ module _ (l : List ℕ) (ok : Accepted l) where
         })
 
     pub create-qp : Kept l (Command.createQp r)
-    unfolding commandBytes commandEffect elsewhere finish pdT cqT entryT qpT waitingT receiveT qpOf ringList
+    unfolding commandBytes commandEffect elsewhere finish pdFlagT cqT entryT qpT waitingT receiveT qpOf ringList
     create-qp =
         record {
           meant =
@@ -282,7 +287,7 @@ module _ (l : List ℕ) (ok : Accepted l) where
         by false x y z = sound h z x y
 
     pub modify-qp : Kept l (Command.modifyQp r)
-    unfolding commandBytes commandEffect elsewhere finish pdT cqT entryT qpT
+    unfolding commandBytes commandEffect elsewhere finish pdFlagT cqT entryT qpT
     modify-qp =
         record {
           meant =

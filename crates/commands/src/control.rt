@@ -8,9 +8,6 @@ use tables::QueueHead;
 use tables::Region;
 use tables::RegisterRead;
 use tables::Registration;
-use tables::accept;
-use tables::find;
-use tables::image;
 use tables::limits::CQ_COUNT;
 use tables::limits::MOST_ACCESS;
 use tables::limits::MOST_ADDRESS;
@@ -18,6 +15,9 @@ use tables::limits::MOST_PLACES;
 use tables::limits::MR_COUNT;
 use tables::limits::PD_COUNT;
 use tables::records;
+use tables::stateSize;
+use validate::accept;
+use validate::find;
 ghost use mathlib.Core.Path.{_≡_};
 ghost use mathlib.Core.Bool.{true, _&&_};
 ghost use mathlib.Core.List.{[]};
@@ -27,11 +27,11 @@ ghost use lib.ListN.{length};
 ghost use Rattle.wire.specs.Checks.{only};
 ghost use Rattle.wire.specs.Le.{leAt};
 ghost use Rattle.wire.specs.Table.{rowAt, putRow};
-ghost use Rattle.tables.specs.Accept.{accepts};
-ghost use Rattle.tables.specs.Image.{card};
-ghost use Rattle.tables.specs.Layout.{image, mrLiveT, mrT};
+ghost use Rattle.validate.specs.Accept.{accepts};
+ghost use Rattle.tables.specs.State.{card};
+ghost use Rattle.tables.specs.Layout.{stateSize, mrFlagT, mrT};
 ghost use Rattle.tables.specs.Limits.{mrCount, mostPlaces, mostAccess};
-ghost use Rattle.tables.specs.Records.{Command};
+ghost use Rattle.tables.specs.Commands.{Command};
 ghost use Rattle.rules.specs.Call.{Call};
 ghost use Rattle.rules.specs.Control.{nextVariant};
 ghost use Rattle.rules.specs.Bytes.{regionRow};
@@ -56,7 +56,7 @@ fn places_fine(n: u32) -> bool
 }
 
 pub fn create_cq(state: &mut [u8], read: NumberRead) -> Outcome
-    requires { ⌜ (accepts (now state) ≡ true) × (length (now state) ≡ image) ⌝ }
+    requires { ⌜ (accepts (now state) ≡ true) × (length (now state) ≡ stateSize) ⌝ }
     ensures { λ r. ⌜ Ran (now (state .entry)) (numbered Command.createCq read) r (now (state .exit)) ⌝ }
 {
     let NumberRead::Value(places) = read else {
@@ -74,12 +74,12 @@ pub fn create_cq(state: &mut [u8], read: NumberRead) -> Outcome
         first: 0,
         count: 0,
     };
-    image::store_cq(state, n, head);
+    rows::store_cq(state, n, head);
     Outcome::Done(Ack::Number(n as u32))
 }
 
 pub fn destroy_cq(state: &mut [u8], read: NumberRead) -> Outcome
-    requires { ⌜ (accepts (now state) ≡ true) × (length (now state) ≡ image) ⌝ }
+    requires { ⌜ (accepts (now state) ≡ true) × (length (now state) ≡ stateSize) ⌝ }
     ensures { λ r. ⌜ Ran (now (state .entry)) (numbered Command.destroyCq read) r (now (state .exit)) ⌝ }
 {
     let NumberRead::Value(n) = read else {
@@ -96,14 +96,14 @@ pub fn destroy_cq(state: &mut [u8], read: NumberRead) -> Outcome
         first: 0,
         count: 0,
     };
-    image::store_cq(state, n as usize, head);
+    rows::store_cq(state, n as usize, head);
     Outcome::Done(Ack::Done)
 }
 
 // ---- domains
 
 pub fn create_pd(state: &mut [u8], command: &[u8]) -> Outcome
-    requires { ⌜ (accepts (now state) ≡ true) × (length (now state) ≡ image) ⌝ }
+    requires { ⌜ (accepts (now state) ≡ true) × (length (now state) ≡ stateSize) ⌝ }
     ensures { λ r. ⌜ Ran (now (state .entry)) (bare Command.createPd (now (command .entry))) r (now (state .exit)) ⌝ }
 {
     if command.len() != 2 {
@@ -113,12 +113,12 @@ pub fn create_pd(state: &mut [u8], command: &[u8]) -> Outcome
     if PD_COUNT <= n {
         return Outcome::Refused(8);
     }
-    image::store_pd(state, n, 1);
+    rows::store_pd(state, n, 1);
     Outcome::Done(Ack::Number(n as u32))
 }
 
 pub fn destroy_pd(state: &mut [u8], read: NumberRead) -> Outcome
-    requires { ⌜ (accepts (now state) ≡ true) × (length (now state) ≡ image) ⌝ }
+    requires { ⌜ (accepts (now state) ≡ true) × (length (now state) ≡ stateSize) ⌝ }
     ensures { λ r. ⌜ Ran (now (state .entry)) (numbered Command.destroyPd read) r (now (state .exit)) ⌝ }
 {
     let NumberRead::Value(n) = read else {
@@ -130,7 +130,7 @@ pub fn destroy_pd(state: &mut [u8], read: NumberRead) -> Outcome
     if find::pd_in_use(state, n) {
         return Outcome::Refused(10);
     }
-    image::store_pd(state, n as usize, 0);
+    rows::store_pd(state, n as usize, 0);
     Outcome::Done(Ack::Done)
 }
 
@@ -146,8 +146,8 @@ fn known_access(access: u32) -> bool
 fn in_range(memory: u64, g: Registration) -> bool
     ensures { λ r. ⌜ r ≡ inRange memory g ⌝ }
 {
-    let in_memory = accept::sum_within(g.start, g.length, memory);
-    let in_space = accept::sum_within(g.virt, g.length, MOST_ADDRESS);
+    let in_memory = wire::sum_within(g.start, g.length, memory);
+    let in_space = wire::sum_within(g.virt, g.length, MOST_ADDRESS);
     !(g.length == 0) & in_memory & in_space
 }
 
@@ -162,10 +162,10 @@ fn next_variant(v: u8) -> u8
 
 // Slot n holds the region under the slot's next variant, which is returned.
 fn put_region(state: &mut [u8], n: usize, g: Registration) -> u8
-    requires { ⌜ (n < mrCount) × (length (now state) ≡ image) ⌝ }
-    ensures { λ r. ⌜ (r ≡ nextVariant (rowAt mrT (now (state .entry)) n .variant)) × (now (state .exit) ≡ putRow mrLiveT (putRow mrT (now (state .entry)) n (regionRow (lowRegistration g) r)) n 1) ⌝ }
+    requires { ⌜ (n < mrCount) × (length (now state) ≡ stateSize) ⌝ }
+    ensures { λ r. ⌜ (r ≡ nextVariant (rowAt mrT (now (state .entry)) n .variant)) × (now (state .exit) ≡ putRow mrFlagT (putRow mrT (now (state .entry)) n (regionRow (lowRegistration g) r)) n 1) ⌝ }
 {
-    let variant = next_variant(image::load_mr(state, n).variant);
+    let variant = next_variant(rows::load_mr(state, n).variant);
     let row = Region {
         access: (g.access % 256) as u8,
         variant: variant,
@@ -174,13 +174,13 @@ fn put_region(state: &mut [u8], n: usize, g: Registration) -> u8
         length: g.length,
         virt: g.virt,
     };
-    image::store_mr(state, n, row);
-    image::store_mr_live(state, n, 1);
+    rows::store_mr(state, n, row);
+    rows::store_mr_live(state, n, 1);
     variant
 }
 
 pub fn register(state: &mut [u8], read: RegisterRead) -> Outcome
-    requires { ⌜ (accepts (now state) ≡ true) × (length (now state) ≡ image) ⌝ }
+    requires { ⌜ (accepts (now state) ≡ true) × (length (now state) ≡ stateSize) ⌝ }
     ensures { λ r. ⌜ Ran (now (state .entry)) (registering read) r (now (state .exit)) ⌝ }
 {
     let RegisterRead::Value(g) = read else {
@@ -192,7 +192,7 @@ pub fn register(state: &mut [u8], read: RegisterRead) -> Outcome
     if !accept::pd_live(state, g.pd) {
         return Outcome::Refused(2);
     }
-    if !in_range(image::load_memory(state), g) {
+    if !in_range(rows::load_memory(state), g) {
         return Outcome::Refused(11);
     }
     let n = find::free_mrn(state);
@@ -205,18 +205,18 @@ pub fn register(state: &mut [u8], read: RegisterRead) -> Outcome
 
 // Whether region n is live.
 fn mr_live(state: &[u8], n: u32) -> bool
-    requires { ⌜ length (now state) ≡ image ⌝ }
+    requires { ⌜ length (now state) ≡ stateSize ⌝ }
     ensures { λ r. ⌜ r ≡ card (now (state .entry)) .mr n .live ⌝ }
 {
     let i = n as usize;
     if i < MR_COUNT {
-        return image::load_mr_live(state, i) == 1;
+        return rows::load_mr_live(state, i) == 1;
     }
     false
 }
 
 pub fn deregister(state: &mut [u8], read: NumberRead) -> Outcome
-    requires { ⌜ (accepts (now state) ≡ true) × (length (now state) ≡ image) ⌝ }
+    requires { ⌜ (accepts (now state) ≡ true) × (length (now state) ≡ stateSize) ⌝ }
     ensures { λ r. ⌜ Ran (now (state .entry)) (numbered Command.deregister read) r (now (state .exit)) ⌝ }
 {
     let NumberRead::Value(n) = read else {
@@ -225,7 +225,7 @@ pub fn deregister(state: &mut [u8], read: NumberRead) -> Outcome
     if !mr_live(state, n) {
         return Outcome::Refused(2);
     }
-    image::store_mr_live(state, n as usize, 0);
+    rows::store_mr_live(state, n as usize, 0);
     Outcome::Done(Ack::Done)
 }
 
@@ -233,7 +233,7 @@ pub fn deregister(state: &mut [u8], read: NumberRead) -> Outcome
 
 // The command number chooses the reader and the rules.
 fn run(state: &mut [u8], command: &[u8], number: u8) -> Outcome
-    requires { ⌜ (accepts (now state) ≡ true) × (length (now state) ≡ image) × (number ≡ leAt 1 (now command) 1) ⌝ }
+    requires { ⌜ (accepts (now state) ≡ true) × (length (now state) ≡ stateSize) × (number ≡ leAt 1 (now command) 1) ⌝ }
     ensures { λ r. ⌜ Dispatched (numberChecks (card (now (state .entry))) (now (command .entry))) (now (state .entry)) (now (command .entry)) r (now (state .exit)) ⌝ }
 {
     match number {
@@ -251,7 +251,7 @@ fn run(state: &mut [u8], command: &[u8], number: u8) -> Outcome
 }
 
 fn dispatch(state: &mut [u8], command: &[u8]) -> Outcome
-    requires { ⌜ (accepts (now state) ≡ true) × (length (now state) ≡ image) ⌝ }
+    requires { ⌜ (accepts (now state) ≡ true) × (length (now state) ≡ stateSize) ⌝ }
     ensures { λ r. ⌜ Dispatched (classChecks (card (now (state .entry))) (now (command .entry))) (now (state .entry)) (now (command .entry)) r (now (state .exit)) ⌝ }
 {
     match records::read_head(command) {

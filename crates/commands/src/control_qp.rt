@@ -8,24 +8,24 @@ use tables::ModifyQpRead;
 use tables::NumberRead;
 use tables::QueuePair;
 use tables::WaitingHead;
-use tables::accept;
-use tables::find;
-use tables::image;
 use tables::limits::ERROR;
 use tables::limits::QP_COUNT;
 use tables::limits::RESET;
 use tables::limits::RTR;
 use tables::limits::RTS;
+use tables::stateSize;
+use validate::accept;
+use validate::find;
 ghost use mathlib.Core.Path.{_≡_};
 ghost use mathlib.Core.Bool.{true};
 ghost use Prim.Native.Nat.{_<_};
 ghost use lib.ListN.{length};
 ghost use Rattle.wire.specs.Table.{rowAt, putRow};
-ghost use Rattle.tables.specs.Accept.{accepts};
-ghost use Rattle.tables.specs.Image.{card};
-ghost use Rattle.tables.specs.Layout.{image, qpT, waitingT};
+ghost use Rattle.validate.specs.Accept.{accepts};
+ghost use Rattle.tables.specs.State.{card};
+ghost use Rattle.tables.specs.Layout.{stateSize, qpT, waitingT};
 ghost use Rattle.tables.specs.Limits.{qpCount};
-ghost use Rattle.tables.specs.Records.{Command};
+ghost use Rattle.tables.specs.Commands.{Command};
 ghost use Rattle.rules.specs.Control.{isMove};
 ghost use Rattle.rules.specs.Bytes.{newPair, noneWait, movedPair, movedHead};
 ghost use Rattle.commands.specs.Control.{Ran, numbered, creating, modifying, createFine, createLive, modifyBad, lowPair};
@@ -47,7 +47,7 @@ fn create_fine(r: CreateQp) -> bool
 
 // Whether the objects that a new queue pair names are live.
 fn create_live(state: &[u8], r: CreateQp) -> bool
-    requires { ⌜ length (now state) ≡ image ⌝ }
+    requires { ⌜ length (now state) ≡ stateSize ⌝ }
     ensures { λ x. ⌜ x ≡ createLive (card (now (state .entry))) r ⌝ }
 {
     let pd = accept::pd_live(state, r.pd);
@@ -72,16 +72,16 @@ fn new_pair(r: CreateQp) -> QueuePair
 
 // Number n is a new queue pair, on which no receive waits.
 fn put_pair(state: &mut [u8], n: usize, r: CreateQp)
-    requires { ⌜ (n < qpCount) × (length (now state) ≡ image) ⌝ }
+    requires { ⌜ (n < qpCount) × (length (now state) ≡ stateSize) ⌝ }
     ensures { λ _. ⌜ now (state .exit) ≡ putRow qpT (putRow waitingT (now (state .entry)) n noneWait) n (newPair (lowPair r)) ⌝ }
 {
     let head = WaitingHead { first: 0, count: 0 };
-    image::store_waiting(state, n, head);
-    image::store_qp(state, n, new_pair(r));
+    rows::store_waiting(state, n, head);
+    rows::store_qp(state, n, new_pair(r));
 }
 
 pub fn create_qp(state: &mut [u8], read: CreateQpRead) -> Outcome
-    requires { ⌜ (accepts (now state) ≡ true) × (length (now state) ≡ image) ⌝ }
+    requires { ⌜ (accepts (now state) ≡ true) × (length (now state) ≡ stateSize) ⌝ }
     ensures { λ r. ⌜ Ran (now (state .entry)) (creating read) r (now (state .exit)) ⌝ }
 {
     let CreateQpRead::Value(r) = read else {
@@ -126,12 +126,12 @@ fn is_move(from: u8, to: u8) -> bool
 
 // Whether queue pair n is live.
 fn qp_live(state: &[u8], n: u32) -> bool
-    requires { ⌜ length (now state) ≡ image ⌝ }
+    requires { ⌜ length (now state) ≡ stateSize ⌝ }
     ensures { λ r. ⌜ r ≡ card (now (state .entry)) .qp n .live ⌝ }
 {
     let i = n as usize;
     if i < QP_COUNT {
-        return image::load_qp(state, i).live == 1;
+        return rows::load_qp(state, i).live == 1;
     }
     false
 }
@@ -163,17 +163,17 @@ fn moved_head(h: WaitingHead, to: u8) -> WaitingHead
 
 // Queue pair n in the state that it moves to; a move to 0 drops its receives and its destination.
 fn move_pair(state: &mut [u8], n: usize, to: u8, dest: u8)
-    requires { ⌜ (n < qpCount) × (length (now state) ≡ image) ⌝ }
+    requires { ⌜ (n < qpCount) × (length (now state) ≡ stateSize) ⌝ }
     ensures { λ _. ⌜ now (state .exit) ≡ putRow waitingT (putRow qpT (now (state .entry)) n (movedPair (rowAt qpT (now (state .entry)) n) to dest)) n (movedHead (rowAt waitingT (now (state .entry)) n) to) ⌝ }
 {
-    let p = image::load_qp(state, n);
-    let h = image::load_waiting(state, n);
-    image::store_qp(state, n, moved_pair(p, to, dest));
-    image::store_waiting(state, n, moved_head(h, to));
+    let p = rows::load_qp(state, n);
+    let h = rows::load_waiting(state, n);
+    rows::store_qp(state, n, moved_pair(p, to, dest));
+    rows::store_waiting(state, n, moved_head(h, to));
 }
 
 pub fn modify_qp(state: &mut [u8], read: ModifyQpRead) -> Outcome
-    requires { ⌜ (accepts (now state) ≡ true) × (length (now state) ≡ image) ⌝ }
+    requires { ⌜ (accepts (now state) ≡ true) × (length (now state) ≡ stateSize) ⌝ }
     ensures { λ r. ⌜ Ran (now (state .entry)) (modifying read) r (now (state .exit)) ⌝ }
 {
     let ModifyQpRead::Value(r) = read else {
@@ -186,7 +186,7 @@ pub fn modify_qp(state: &mut [u8], read: ModifyQpRead) -> Outcome
         return Outcome::Refused(2);
     }
     let n = r.qpn as usize;
-    let p = image::load_qp(state, n);
+    let p = rows::load_qp(state, n);
     if !is_move(p.state, r.state) {
         return Outcome::Refused(3);
     }
@@ -195,7 +195,7 @@ pub fn modify_qp(state: &mut [u8], read: ModifyQpRead) -> Outcome
 }
 
 pub fn destroy_qp(state: &mut [u8], read: NumberRead) -> Outcome
-    requires { ⌜ (accepts (now state) ≡ true) × (length (now state) ≡ image) ⌝ }
+    requires { ⌜ (accepts (now state) ≡ true) × (length (now state) ≡ stateSize) ⌝ }
     ensures { λ r. ⌜ Ran (now (state .entry)) (numbered Command.destroyQp read) r (now (state .exit)) ⌝ }
 {
     let NumberRead::Value(n) = read else {
@@ -213,6 +213,6 @@ pub fn destroy_qp(state: &mut [u8], read: NumberRead) -> Outcome
         state: RESET,
         dest: 0,
     };
-    image::store_qp(state, n as usize, none);
+    rows::store_qp(state, n as usize, none);
     Outcome::Done(Ack::Done)
 }

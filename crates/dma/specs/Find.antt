@@ -8,10 +8,10 @@ use lib.Dec.{eqb}
 use borrow.Author.Tests.{eq-eqb, ne-eqb}
 use Rattle.wire.specs.Table.{rowAt}
 use Rattle.tables.specs.Card.{Card, Mr}
-use Rattle.tables.specs.Image.{card, registrationOf}
-use Rattle.tables.specs.Layout.{mrLiveT, mrT}
+use Rattle.tables.specs.State.{card, registrationOf}
+use Rattle.tables.specs.Layout.{mrFlagT, mrT}
 use Rattle.tables.specs.Limits.{mrCount}
-use Rattle.tables.specs.Objects.{mr-live, mr-out, mr-row, mr-variant}
+use Rattle.tables.proofs.ObjectLaws.{mr-live, mr-out, mr-row, mr-variant}
 use Rattle.tables.specs.declared.Region.{Region}
 use Rattle.rules.specs.Touch.{range}
 use Rattle.dma.specs.Grants.{slotOf, matches, grants, serves, allowsAll}
@@ -40,23 +40,23 @@ module _ (l : List ℕ) (key : ℕ) where
   unfolding matches
   found-out h = nothing (rw (mr-out l n h))
 
-  pub found-free : n < mrCount → (rowAt mrLiveT l n ≡ 1 → ⊥) → found (card l .mr) key ≡ Nothing
+  pub found-free : n < mrCount → (rowAt mrFlagT l n ≡ 1 → ⊥) → found (card l .mr) key ≡ Nothing
   unfolding matches
-  found-free h f = nothing (rw (mr-live l n h, ne-eqb (rowAt mrLiveT l n) 1 f))
+  found-free h f = nothing (rw (mr-live l n h, ne-eqb (rowAt mrFlagT l n) 1 f))
 
-  pub found-other : n < mrCount → rowAt mrLiveT l n ≡ 1 → (rowAt mrT l n .variant ≡ key % 256 → ⊥) → found (card l .mr) key ≡ Nothing
+  pub found-other : n < mrCount → rowAt mrFlagT l n ≡ 1 → (rowAt mrT l n .variant ≡ key % 256 → ⊥) → found (card l .mr) key ≡ Nothing
   unfolding matches
   found-other h e f =
-      nothing (rw (mr-live l n h, mr-variant l n h, eq-eqb (rowAt mrLiveT l n) 1 e)
+      nothing (rw (mr-live l n h, mr-variant l n h, eq-eqb (rowAt mrFlagT l n) 1 e)
       (ne-eqb (256 * n + rowAt mrT l n .variant) key (λ q. f (omega arith))))
 
-  pub found-live : n < mrCount → rowAt mrLiveT l n ≡ 1 → rowAt mrT l n .variant ≡ key % 256 → found (card l .mr) key ≡ Live (rowAt mrT l n)
+  pub found-live : n < mrCount → rowAt mrFlagT l n ≡ 1 → rowAt mrT l n .variant ≡ key % 256 → found (card l .mr) key ≡ Live (rowAt mrT l n)
   unfolding found matches
   found-live h e f =
       rw (
         mr-live l n h,
         mr-variant l n h,
-        eq-eqb (rowAt mrLiveT l n) 1 e,
+        eq-eqb (rowAt mrFlagT l n) 1 e,
         mr-row l n h e,
         eq-eqb (256 * n + rowAt mrT l n .variant) key (omega arith),
       )

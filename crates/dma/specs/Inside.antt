@@ -6,14 +6,14 @@ use Prim.Native.Nat.{ℕ, _+_, _-_, _/_, _^_, _≤_, _<_}
 use native.Mathlib.Omega.{arith}
 use lib.ListN.{length}
 use borrow.Author.Tests.{eqb-true}
-use Rattle.wire.specs.Scan.{and-left, and-right}
+use Rattle.wire.proofs.ScanLaws.{and-left, and-right}
 use Rattle.wire.specs.Table.{rowAt}
-use Rattle.tables.specs.Accept.{accepts, mrOk}
-use Rattle.tables.specs.Accepted.{accepted, memory-most, registered, ranged}
-use Rattle.tables.specs.Image.{card, registrationOf}
-use Rattle.tables.specs.Layout.{memoryT, mrLiveT, mrT}
+use Rattle.validate.specs.Accept.{accepts, mrOk}
+use Rattle.validate.proofs.AcceptedLaws.{accepted, memory-most, registered, ranged}
+use Rattle.tables.specs.State.{card, registrationOf}
+use Rattle.tables.specs.Layout.{memoryT, mrFlagT, mrT}
 use Rattle.tables.specs.Limits.{mrCount, mostMemory, mostAddress}
-use Rattle.tables.specs.Objects.{memory-is, mr-live, mr-below, mr-row}
+use Rattle.tables.proofs.ObjectLaws.{memory-is, mr-live, mr-below, mr-row}
 use Rattle.tables.specs.declared.Region.{Region}
 use Rattle.tables.specs.declared.Registration.{Registration}
 use Rattle.rules.specs.Touch.{Byte, byteOf}
@@ -39,17 +39,17 @@ pub record Place (l : List ℕ) (b : Byte) (r : Region) : Type 0 where
   pub is : r .start + (b .address - r .virt) ≡ locate (card l) b
 
 module _ (l : List ℕ) (ok : accepts l ≡ true) where
-  lies-row : (n : ℕ) → n < mrCount → rowAt mrLiveT l n ≡ 1 → Lies (rowAt memoryT l 0) (registrationOf (rowAt mrT l n))
+  lies-row : (n : ℕ) → n < mrCount → rowAt mrFlagT l n ≡ 1 → Lies (rowAt memoryT l 0) (registrationOf (rowAt mrT l n))
   unfolding mrOk
   lies-row n h e =
       let r : Region = rowAt mrT l n in
       let m : ℕ = rowAt memoryT l 0 in
-      let s = registered (card l .pd) m (rowAt mrLiveT l n) r (accepted l ok .mrs n h) (λ z. omega arith) in
+      let s = registered (card l .pd) m (rowAt mrFlagT l n) r (accepted l ok .mrs n h) (λ z. omega arith) in
       let g = ranged m r (s .limits) in
       record { room = g .inside; word = g .space }
 
-  row-live : (n : ℕ) → card l .mr n .live ≡ true → rowAt mrLiveT l n ≡ 1
-  row-live n e = eqb-true (rowAt mrLiveT l n) 1 (sym (mr-live l n (mr-below l n e)) ∙ e)
+  row-live : (n : ℕ) → card l .mr n .live ≡ true → rowAt mrFlagT l n ≡ 1
+  row-live n e = eqb-true (rowAt mrFlagT l n) 1 (sym (mr-live l n (mr-below l n e)) ∙ e)
 
   -- a live region lies in the memory
   pub inside : (n : ℕ) → card l .mr n .live ≡ true → Lies (card l .memory) (card l .mr n .reg)

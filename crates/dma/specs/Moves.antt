@@ -7,7 +7,7 @@ use native.Mathlib.Nat.{add-zero, zero-add}
 use native.Mathlib.Omega.{arith}
 use lib.ListN.{length, getD, take, drop, length-drop}
 use lib.Seq.{paste, drop-drop, take-paste, take-length, take-take, length-take-le}
-use Rattle.wire.specs.Scan.{and-left, and-right}
+use Rattle.wire.proofs.ScanLaws.{and-left, and-right}
 use Rattle.tables.specs.Card.{Card}
 use Rattle.tables.specs.Limits.{mostMessage}
 use Rattle.tables.specs.declared.Sge.{Sge}

@@ -7,10 +7,10 @@ use native.Mathlib.Nat.{add-zero}
 use native.Mathlib.Omega.{arith}
 use lib.ListN.{length, getD, length-map}
 use Rattle.wire.specs.Table.{rowAt}
-use Rattle.tables.specs.Accept.{accepts}
+use Rattle.validate.specs.Accept.{accepts}
 use Rattle.tables.specs.Card.{Card}
-use Rattle.tables.specs.Image.{card}
-use Rattle.tables.specs.Layout.{image, memoryT}
+use Rattle.tables.specs.State.{card}
+use Rattle.tables.specs.Layout.{stateSize, memoryT}
 use Rattle.tables.specs.declared.Registration.{Registration}
 use Rattle.tables.specs.declared.Sge.{Sge}
 use Rattle.rules.specs.Touch.{Byte, range, sgeBytes, sgeTotal, byteOf}
@@ -24,7 +24,7 @@ use Rattle.rules.proofs.Stored.{range-length, sge-length}
 -- an accepted state, with the memory that it was made for
 pub record Ready (state memory : List ℕ) : Type 0 where
   pub accepted : accepts state ≡ true
-  pub size : length state ≡ image
+  pub size : length state ≡ stateSize
   pub whole : length memory ≡ rowAt memoryT state 0
 
 -- ---- bytes read, and moved
@@ -95,7 +95,7 @@ module _ (l m : List ℕ) (s : Sge) (r : Ready l m) (h : mappedAll (card l) (byt
   pub lies : Run (card l) (length m) s
   lies = runs l (length m) s (r .accepted) (r .whole) h more
 
-  pub place-asks : (accepts l ≡ true) × (length l ≡ image) × (mapped (card l) (byte (s .address) (s .key)) ≡ true)
+  pub place-asks : (accepts l ≡ true) × (length l ≡ stateSize) × (mapped (card l) (byte (s .address) (s .key)) ≡ true)
   place-asks = (r .accepted, r .size, lies .first)
 
   pub room : (b : ℕ) → b ≡ locate (card l) (byte (s .address) (s .key)) → b + s .length ≤ length m

@@ -8,7 +8,8 @@ use native.Mathlib.Decide.{decLe}
 use native.Mathlib.Omega.{arith}
 use lib.Dec.{leb, ltb}
 use borrow.Author.Tests.{lt-ltb, le-leb, lt-leb, ltb-true, leb-true}
-use Rattle.wire.specs.Scan.{all, and-left, and-right, both-true}
+use Rattle.wire.specs.Scan.{all}
+use Rattle.wire.proofs.ScanLaws.{and-left, and-right, both-true}
 use Rattle.tables.specs.Card.{Card}
 use Rattle.tables.specs.declared.Registration.{Registration}
 use Rattle.rules.specs.Touch.{Byte, range}

@@ -1,16 +1,16 @@
 // Who may touch a byte: document 01, "Permitted byte". Lists of scatter/gather entries: their total, and a list cut short.
 use tables::Region;
 use tables::Sge;
-use tables::accept;
-use tables::image;
 use tables::limits::MR_COUNT;
+use tables::stateSize;
+use validate::accept;
 ghost use mathlib.Core.Path.{_≡_};
 ghost use Prim.Native.Nat.{_≤_, min};
 ghost use mathlib.Core.Bool.{_&&_};
 ghost use lib.Dec.{eqb};
 ghost use lib.ListN.{length, take};
-ghost use Rattle.tables.specs.Image.{card, registrationOf};
-ghost use Rattle.tables.specs.Layout.{image};
+ghost use Rattle.tables.specs.State.{card, registrationOf};
+ghost use Rattle.tables.specs.Layout.{stateSize};
 ghost use Rattle.rules.specs.Touch.{range, sgeBytes, sgeTotal};
 ghost use Rattle.dma.specs.Grants.{grants, allowsAll};
 ghost use Rattle.dma.specs.Ranges.{spans};
@@ -24,17 +24,17 @@ pub enum Found {
 }
 
 pub fn region_of(state: &[u8], key: u32) -> Found
-    requires { ⌜ length (now state) ≡ image ⌝ }
+    requires { ⌜ length (now state) ≡ stateSize ⌝ }
     ensures { λ r. ⌜ r ≡ found (card (now (state .entry)) .mr) key ⌝ }
 {
     let slot = (key / 256) as usize;
     if MR_COUNT <= slot {
         return Found::Nothing;
     }
-    if image::load_mr_live(state, slot) != 1 {
+    if rows::load_mr_live(state, slot) != 1 {
         return Found::Nothing;
     }
-    let r = image::load_mr(state, slot);
+    let r = rows::load_mr(state, slot);
     if (r.variant as u32) != key % 256 {
         return Found::Nothing;
     }
@@ -55,12 +55,12 @@ fn holds_ends(r: Region, address: u64, n: u64) -> bool
     if address < r.virt {
         return false;
     }
-    accept::sum_within(address - r.virt, n, r.length)
+    wire::sum_within(address - r.virt, n, r.length)
 }
 
 // Whether each of the n bytes from an address on is permitted: it looks at the two ends only, and of an empty range at no key.
 pub fn range_permitted(state: &[u8], pd: u8, mask: u8, address: u64, n: u64, key: u32) -> bool
-    requires { ⌜ length (now state) ≡ image ⌝ }
+    requires { ⌜ length (now state) ≡ stateSize ⌝ }
     ensures { λ b. ⌜ b ≡ allowsAll (card (now (state .entry))) pd mask (range address key n) ⌝ }
 {
     if n == 0 {
@@ -74,7 +74,7 @@ pub fn range_permitted(state: &[u8], pd: u8, mask: u8, address: u64, n: u64, key
 
 // Whether each byte of the first count entries is permitted.
 pub fn sges_permitted(state: &[u8], pd: u8, mask: u8, sges: [Sge; 4], count: usize) -> bool
-    requires { ⌜ (count ≤ 4) × (length (now state) ≡ image) ⌝ }
+    requires { ⌜ (count ≤ 4) × (length (now state) ≡ stateSize) ⌝ }
     ensures { λ b. ⌜ b ≡ allowsAll (card (now (state .entry))) pd mask (sgeBytes (take count sges)) ⌝ }
 {
     let mut i = 0;

@@ -1,16 +1,16 @@
 // How a request's bytes are moved: all source bytes are read, into a staging array, before any is written. Who may move them is not asked
 // here, only that each byte lies in a live region.
 use tables::Sge;
-use tables::image;
+use tables::stateSize;
 ghost use mathlib.Core.Path.{_≡_};
 ghost use mathlib.Core.Bool.{true};
 ghost use mathlib.Core.List.{_∷_, [], _++_};
 ghost use Prim.Native.Nat.{_+_, _≤_};
 ghost use lib.ListN.{length, take, drop};
 ghost use lib.Seq.{paste};
-ghost use Rattle.tables.specs.Accept.{accepts};
-ghost use Rattle.tables.specs.Image.{card};
-ghost use Rattle.tables.specs.Layout.{image};
+ghost use Rattle.validate.specs.Accept.{accepts};
+ghost use Rattle.tables.specs.State.{card};
+ghost use Rattle.tables.specs.Layout.{stateSize};
 ghost use Rattle.tables.specs.Limits.{mostMessage, mostInline};
 ghost use Rattle.rules.specs.Touch.{sgeBytes, sgeTotal};
 ghost use Rattle.dma.specs.Places.{readBytes, moved, Ready, bytesOf, placesOf};
@@ -21,11 +21,11 @@ ghost use Rattle.dma.specs.Moves.{Message, Single};
 
 // The place in memory of a byte that lies in a live region.
 fn place_of(state: &[u8], address: u64, key: u32) -> usize
-    requires { ⌜ (accepts (now state) ≡ true) × (length (now state) ≡ image) × (mapped (card (now state)) (byte address key) ≡ true) ⌝ }
+    requires { ⌜ (accepts (now state) ≡ true) × (length (now state) ≡ stateSize) × (mapped (card (now state)) (byte address key) ≡ true) ⌝ }
     ensures { λ r. ⌜ r ≡ locate (card (now (state .entry))) (byte address key) ⌝ }
 {
     let slot = (key / 256) as usize;
-    let r = image::load_mr(state, slot);
+    let r = rows::load_mr(state, slot);
     (r.start + (address - r.virt)) as usize
 }
 

@@ -10,8 +10,8 @@ use lib.ListN.{length, take}
 use Rattle.wire.specs.Checks.{refusal}
 use Rattle.wire.specs.Table.{rowAt}
 use Rattle.tables.specs.Card.{Card}
-use Rattle.tables.specs.Image.{card, noRecord}
-use Rattle.tables.specs.Layout.{image, cqT, qpT, waitingT, receiveT}
+use Rattle.tables.specs.State.{card, noRecord}
+use Rattle.tables.specs.Layout.{stateSize, cqT, qpT, waitingT, receiveT}
 use Rattle.tables.specs.Limits.{cqCount, qpCount, mostPlaces, mostWaiting, mostMessage, mostInline}
 use Rattle.tables.specs.Reading.{inlinePart}
 use Rattle.tables.specs.Records.{isSignaled, isInline, receiveSges, sendCodec, sendChecks}
@@ -106,7 +106,7 @@ settled l e s w st n =
 
 -- what the stores ask
 pub record Settling (l : List ℕ) (e : Ends) (s : SendRecord) (w : ReceiveRecord) (st n : ℕ) : Type 0 where
-  pub size : length l ≡ image
+  pub size : length l ≡ stateSize
   pub own : e .q < qpCount
   pub far : e .own .dest < qpCount
   pub count : w .count ≤ 2
@@ -179,7 +179,7 @@ takenRow l d o = cond (takes o) (rowAt receiveT l (mostWaiting * d + rowAt waiti
 
 -- s begins the send record x, which passes its own tests
 pub record Posted (x : List ℕ) (s : SendRecord) : Type 0 where
-  pub head : s ≡ sendCodec .read x 0
+  pub head : s ≡ decode sendCodec x 0
   pub good : refusal (sendChecks x) ≡ none
 
 -- the pairs e passed the tests for the opcode o

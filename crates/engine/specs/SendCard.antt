@@ -7,23 +7,23 @@ use native.Mathlib.Omega.{arith}
 use lib.Dec.{eqb, leb}
 use lib.ListN.{length, length-map}
 use borrow.Author.Tests.{eq-eqb, eqb-true, lt-ltb}
-use Rattle.wire.specs.Fields.{Fit}
-use Rattle.wire.specs.Ring.{ring-length}
-use Rattle.wire.specs.Scan.{and-left, and-right}
+use Rattle.wire.specs.Codec.{Fit, Fits}
+use Rattle.wire.proofs.RingLaws.{ring-length}
+use Rattle.wire.proofs.ScanLaws.{and-left, and-right}
 use Rattle.wire.specs.Slots.{upd}
 use Rattle.wire.specs.Table.{rowAt}
-use Rattle.tables.specs.Accept.{cqLive, completionOk, isState, pairOk}
-use Rattle.tables.specs.Accepted.{Accepted, pairing}
-use Rattle.tables.specs.Card.{Card, Cq, Qp, Receive, withCq, withQp, tail, withWaiting}
-use Rattle.tables.specs.Image.{card, cqOf, qpOf, receiveOf, posted, noCompletion, noRecord, entriesAt, receivesAt}
+use Rattle.tables.specs.Card.{cqLive, Card, Cq, Qp, Receive, withCq, withQp, tail, withWaiting, receiveOf}
+use Rattle.validate.specs.Accept.{completionOk, isState, pairOk}
+use Rattle.validate.proofs.AcceptedLaws.{Accepted, pairing}
+use Rattle.tables.specs.State.{card, cqOf, qpOf, posted, noCompletion, noRecord, receivesAt, entriesAt}
 use Rattle.tables.specs.Kept.{qp-stored}
 use Rattle.tables.specs.Layout.{cqT, entryT, qpT, waitingT}
 use Rattle.tables.specs.Limits.{cqCount, qpCount, mostPlaces, mostWaiting}
-use Rattle.tables.specs.Objects.{cq-is, cq-below, qp-below, qp-live, qp-row}
+use Rattle.tables.proofs.ObjectLaws.{cq-is, cq-below, qp-below, qp-live, qp-row}
 use Rattle.tables.specs.Queue.{pushBytes}
-use Rattle.tables.specs.QueueLaws.{queue-is, push-card, push-accepted}
-use Rattle.tables.specs.Stores.{Fits, card-qp, qp-fits}
-use Rattle.tables.specs.WaitingLaws.{pair-sound, waiting-is, take-card, take-accepted}
+use Rattle.validate.proofs.QueueLaws.{queue-is, push-card, push-accepted}
+use Rattle.tables.specs.Stores.{card-qp, qp-fits}
+use Rattle.validate.proofs.WaitingLaws.{pair-sound, waiting-is, take-card, take-accepted}
 use Rattle.tables.specs.declared.QueuePair.{QueuePair}
 use Rattle.rules.specs.Lists.{isEmpty}
 use Rattle.rules.specs.Send.{Put, pushed, putAll, inError, errorIf, consumeIf}

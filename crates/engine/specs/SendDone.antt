@@ -8,20 +8,23 @@ use native.Mathlib.Omega.{arith}
 use lib.Dec.{eqb}
 use lib.ListN.{length}
 use borrow.Author.Tests.{eq-eqb, ne-eqb}
-use Rattle.wire.specs.Checks.{Check, refusal, Passed, passed}
-use Rattle.wire.specs.Fields.{Fit, fieldsAt, fieldsAt-fit}
-use Rattle.wire.specs.Scan.{and-left, and-right, all}
+use Rattle.wire.specs.Checks.{Check, refusal, Passed}
+use Rattle.wire.proofs.CheckLaws.{passed}
+use Rattle.wire.specs.Codec.{Fit, fieldsAt, Fits}
+use Rattle.wire.proofs.CodecLaws.{fieldsAt-fit}
+use Rattle.wire.proofs.ScanLaws.{and-left, and-right}
+use Rattle.wire.specs.Scan.{all}
 use Rattle.wire.specs.Table.{rowAt}
-use Rattle.tables.specs.Accept.{accepts}
-use Rattle.tables.specs.Accepted.{Accepted, accepted, accepting}
-use Rattle.tables.specs.Card.{Card, Qp, withCq, withQp}
-use Rattle.tables.specs.Image.{card, receiveOf}
+use Rattle.validate.specs.Accept.{accepts}
+use Rattle.validate.proofs.AcceptedLaws.{Accepted, accepted, accepting}
+use Rattle.tables.specs.Card.{Card, Qp, withCq, withQp, receiveOf}
+use Rattle.tables.specs.State.{card}
 use Rattle.tables.specs.Layout.{receiveT, waitingT}
 use Rattle.tables.specs.Limits.{mostWaiting}
-use Rattle.tables.specs.Objects.{qp-below}
+use Rattle.tables.proofs.ObjectLaws.{qp-below}
 use Rattle.tables.specs.Records.{sendCodec, sendChecks, sendRead, sendReadBy}
-use Rattle.tables.specs.Stores.{Fits, receive-fits}
-use Rattle.tables.specs.WaitingLaws.{first-is}
+use Rattle.tables.proofs.StoreLaws.{receive-fits}
+use Rattle.validate.proofs.WaitingLaws.{first-is}
 use Rattle.tables.specs.declared.SendRead.the-variants as send
 use Rattle.rules.specs.Answer.{answered}
 use Rattle.rules.specs.declared.Answer.{Answer}
@@ -40,7 +43,7 @@ use Rattle.engine.specs.SendLimits.{Going, going, sender-can, can-all}
 
 -- ---- the card
 
-pub send-fits : (x : List ℕ) → sendCodec .Fits (sendCodec .read x 0)
+pub send-fits : (x : List ℕ) → Fits sendCodec (decode sendCodec x 0)
 unfolding sendCodec fieldsAt
 send-fits x = fieldsAt-fit _ x 0
 
@@ -188,7 +191,7 @@ module _ (l : List ℕ) (q : ℕ) (x m : List ℕ) where
       unfolding sendRead
       bad-record n e = go (refusal (sendChecks x)) refl e
         where
-          go : (o : Option ℕ) → refusal (sendChecks x) ≡ o → send.Refused n ≡ sendReadBy o (sendCodec .read x 0) → Owes l k (Refused n) l m []
+          go : (o : Option ℕ) → refusal (sendChecks x) ≡ o → send.Refused n ≡ sendReadBy o (decode sendCodec x 0) → Owes l k (Refused n) l m []
           go none i e = let z : _≡_ {A = ℕ} 0 1 = cc in absurd (omega arith)
           go (some i′) i e =
               let z : n ≡ i′ = cc in

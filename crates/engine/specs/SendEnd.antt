@@ -9,8 +9,8 @@ use lib.Dec.{eqb}
 use Rattle.wire.specs.Checks.{refusal}
 use Rattle.wire.specs.Rows.{rows}
 use Rattle.wire.specs.Table.{rowAt}
-use Rattle.tables.specs.Accept.{accepts}
-use Rattle.tables.specs.Image.{card}
+use Rattle.validate.specs.Accept.{accepts}
+use Rattle.tables.specs.State.{card}
 use Rattle.tables.specs.Layout.{qpT, waitingT}
 use Rattle.tables.specs.Limits.{qpCount, mostWaiting, mostMessage, mostSges}
 use Rattle.tables.specs.Records.{sendCodec, sendChecks, sendSge, sendRead, sendReadBy}
@@ -154,7 +154,7 @@ pub posted : (x : List ℕ) (s : SendRecord) → send.Record s ≡ sendRead x �
 unfolding sendRead
 posted x s i = go (refusal (sendChecks x)) refl i
   where
-    go : (k : Option ℕ) → refusal (sendChecks x) ≡ k → send.Record s ≡ sendReadBy k (sendCodec .read x 0) → Posted x s
+    go : (k : Option ℕ) → refusal (sendChecks x) ≡ k → send.Record s ≡ sendReadBy k (decode sendCodec x 0) → Posted x s
     go none j i = record { head = cc; good = j }
     go (some n) j i = let z : _≡_ {A = ℕ} 0 1 = cc in absurd (omega arith)
 

@@ -10,13 +10,12 @@ use lib.Dec.{eqb, leb}
 use lib.ListN.{length, length-append}
 use borrow.Author.Tests.{leb-true, lt-ltb, not-false}
 use Rattle.wire.specs.Checks.{Passed}
-use Rattle.wire.specs.Fields.{Fit}
-use Rattle.wire.specs.Scan.{and-left, and-right, and-off}
-use Rattle.tables.specs.Accept.{completionOk, isStatus}
+use Rattle.wire.specs.Codec.{Fit, Fits}
+use Rattle.wire.proofs.ScanLaws.{and-left, and-right, and-off}
+use Rattle.validate.specs.Accept.{completionOk, isStatus}
 use Rattle.tables.specs.Card.{Card, Cq, withCq}
 use Rattle.tables.specs.Layout.{entryT}
 use Rattle.tables.specs.Limits.{qpCount, mostMessage}
-use Rattle.tables.specs.Stores.{Fits}
 use Rattle.tables.specs.declared.Completion.{Completion}
 use Rattle.rules.specs.Lists.{isEmpty, orElse, names}
 use Rattle.rules.specs.Send.{peerOf, takenBy, canReceive, ready, room, hasPlaces, deliveryChecks, statusBy, sendStatus, consumes, pushed, lengthBy, senderPut, receiverPut, sendPuts, ownUse, farUse}

@@ -8,18 +8,18 @@ use native.Mathlib.Omega.{arith}
 use lib.Dec.{eqb, leb}
 use lib.ListN.{length, length-map}
 use borrow.Author.Tests.{eq-eqb, ne-eqb, eqb-true, ltb-true, leb-true}
-use Rattle.wire.specs.Ring.{ring-length}
-use Rattle.wire.specs.Scan.{and-left, and-right}
+use Rattle.wire.proofs.RingLaws.{ring-length}
+use Rattle.wire.proofs.ScanLaws.{and-left, and-right}
 use Rattle.wire.specs.Table.{rowAt}
-use Rattle.tables.specs.Accept.{cqLive, isState}
-use Rattle.tables.specs.Accepted.{Accepted}
-use Rattle.tables.specs.Card.{Receive}
-use Rattle.tables.specs.Image.{card, receiveOf, posted, destOf, noCompletion, noRecord, entriesAt, receivesAt}
+use Rattle.tables.specs.Card.{cqLive, Receive, receiveOf}
+use Rattle.validate.specs.Accept.{isState}
+use Rattle.validate.proofs.AcceptedLaws.{Accepted}
+use Rattle.tables.specs.State.{card, posted, destOf, noCompletion, noRecord, receivesAt, entriesAt}
 use Rattle.tables.specs.Layout.{cqT, qpT, waitingT}
 use Rattle.tables.specs.Limits.{cqCount, qpCount, mostPlaces, mostWaiting}
-use Rattle.tables.specs.Objects.{cq-below, cq-live, qp-out, qp-live, qp-row}
-use Rattle.tables.specs.QueueLaws.{queue-is}
-use Rattle.tables.specs.WaitingLaws.{pair-sound, waiting-is}
+use Rattle.tables.proofs.ObjectLaws.{cq-below, cq-live, qp-out, qp-live, qp-row}
+use Rattle.validate.proofs.QueueLaws.{queue-is}
+use Rattle.validate.proofs.WaitingLaws.{pair-sound, waiting-is}
 use Rattle.tables.specs.declared.QueuePair.{QueuePair}
 use Rattle.tables.specs.declared.WaitingHead.{WaitingHead}
 use Rattle.rules.specs.Lists.{isEmpty, names, orElse}

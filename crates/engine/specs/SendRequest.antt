@@ -10,21 +10,26 @@ use lib.Dec.{eqb, ltb, leb}
 use lib.ListN.{length, getD, take, drop, length-drop}
 use lib.Seq.{length-take-le}
 use borrow.Author.Tests.{eqb-true, leb-true, le-leb, lt-leb, ltb-false, not-false}
-use Rattle.wire.specs.Checks.{refusal, Passed, passed}
-use Rattle.wire.specs.Ring.{ringList, ring-pop}
+use Rattle.wire.specs.Checks.{refusal, Passed}
+use Rattle.wire.proofs.CheckLaws.{passed}
+use Rattle.wire.specs.Ring.{ringList}
+use Rattle.wire.proofs.RingLaws.{ring-pop}
 use Rattle.wire.specs.Rows.{rowsFrom, rows}
-use Rattle.wire.specs.Scan.{all, and-left, and-right, and-off}
+use Rattle.wire.specs.Scan.{all}
+use Rattle.wire.proofs.ScanLaws.{and-left, and-right, and-off}
 use Rattle.wire.specs.Table.{rowAt}
-use Rattle.tables.specs.Accept.{accepts, receiveOk}
-use Rattle.tables.specs.Accepted.{Accepted, accepted}
-use Rattle.tables.specs.Card.{Card, Qp, Receive, noReceive}
-use Rattle.tables.specs.Image.{card, receiveOf, liveQp, noRecord, posted, receivesAt}
+use Rattle.validate.specs.Accept.{accepts, receiveOk}
+use Rattle.validate.proofs.AcceptedLaws.{Accepted, accepted}
+use Rattle.tables.specs.Card.{Card, Qp, Receive, noReceive, receiveOf}
+use Rattle.tables.specs.State.{card, liveQp, noRecord, posted, receivesAt}
 use Rattle.tables.specs.Layout.{qpT, waitingT, receiveT}
 use Rattle.tables.specs.Limits.{qpCount, mostWaiting, mostMessage, mostInline, mostSges, mostReceiveSges}
-use Rattle.tables.specs.Objects.{qp-below, qp-row, receive-at}
-use Rattle.tables.specs.Reading.{inlinePart, inline-length, inline-part}
+use Rattle.tables.proofs.ObjectLaws.{qp-below, qp-row}
+use Rattle.tables.proofs.StoreLaws.{receive-at}
+use Rattle.tables.specs.Reading.{inlinePart, inline-part}
+use Rattle.tables.proofs.ReadingLaws.{inline-length}
 use Rattle.tables.specs.Records.{isSignaled, isInline, inlineLength, inlineBytes, sendCodec, sendChecks, sendSge, receiveSges}
-use Rattle.tables.specs.WaitingLaws.{pair-sound, first-is}
+use Rattle.validate.proofs.WaitingLaws.{pair-sound, first-is}
 use Rattle.tables.specs.declared.QueuePair.{QueuePair}
 use Rattle.tables.specs.declared.ReceiveRecord.{ReceiveRecord}
 use Rattle.tables.specs.declared.SendRecord.{SendRecord}
@@ -71,10 +76,10 @@ exact : (x : List ℕ) (n : ℕ) (b : Bool) → not (eqb (length x) (cond b 576 
 exact x n true e i = eqb-true (length x) 576 (not-false (eqb (length x) 576) e)
 exact x n false e i = absurd (false≢true i)
 
-told-read : (x : List ℕ) → refusal (sendChecks x) ≡ none → Told x (sendCodec .read x 0)
+told-read : (x : List ℕ) → refusal (sendChecks x) ≡ none → Told x (decode sendCodec x 0)
 unfolding sendChecks requestOf inlineBytes
 told-read x g =
-    let s : SendRecord = sendCodec .read x 0 in
+    let s : SendRecord = decode sendCodec x 0 in
     let p = passed (sendChecks x) g in
     let w = inline-length x in
     let v : inlinePart x ≡ inlineBytes x = inline-part x (let l = ltb-false (length x) 576 (p .0) in omega arith) in

@@ -8,16 +8,16 @@ use native.Mathlib.Omega.{arith}
 use lib.Dec.{eqb}
 use lib.ListN.{length}
 use Rattle.wire.specs.Checks.{refusal}
-use Rattle.wire.specs.Scan.{and-left, and-right}
-use Rattle.wire.specs.Fields.{Fit}
+use Rattle.wire.proofs.ScanLaws.{and-left, and-right}
+use Rattle.wire.specs.Codec.{Fit}
 use Rattle.wire.specs.Table.{rowAt}
-use Rattle.tables.specs.Accept.{accepts}
-use Rattle.tables.specs.Accepted.{Accepted}
-use Rattle.tables.specs.Card.{Card, Qp, withCq}
-use Rattle.tables.specs.Image.{card, receiveOf}
+use Rattle.validate.specs.Accept.{accepts}
+use Rattle.validate.proofs.AcceptedLaws.{Accepted}
+use Rattle.tables.specs.Card.{Card, Qp, withCq, receiveOf}
+use Rattle.tables.specs.State.{card}
 use Rattle.tables.specs.Layout.{cqT, qpT, waitingT}
 use Rattle.tables.specs.Limits.{mostPlaces}
-use Rattle.tables.specs.QueueLaws.{queue-sound}
+use Rattle.validate.proofs.QueueLaws.{queue-sound}
 use Rattle.tables.specs.Records.{sendCodec}
 use Rattle.tables.specs.declared.ReceiveRecord.{ReceiveRecord}
 use Rattle.tables.specs.declared.SendRecord.{SendRecord}

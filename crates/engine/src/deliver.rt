@@ -25,8 +25,8 @@ ghost use Prim.Native.Nat.{_<_, _≤_};
 ghost use lib.Dec.{leb};
 ghost use lib.ListN.{length, take};
 ghost use Rattle.wire.specs.Table.{rowAt};
-ghost use Rattle.tables.specs.Image.{card};
-ghost use Rattle.tables.specs.Layout.{image, waitingT};
+ghost use Rattle.tables.specs.State.{card};
+ghost use Rattle.tables.specs.Layout.{stateSize, waitingT};
 ghost use Rattle.tables.specs.Limits.{qpCount, mostWaiting};
 ghost use Rattle.tables.specs.Records.{isInline, receiveSges};
 ghost use Rattle.rules.specs.Touch.{fills, sgeTotal};
@@ -53,7 +53,7 @@ pub fn total_of(s: SendRecord, sges: [Sge; 4]) -> u64
 
 // Step 3: whether each byte of the sender's own entries is permitted.
 fn own_permitted(state: &[u8], pd: u8, s: SendRecord, sges: [Sge; 4]) -> bool
-    requires { ⌜ (length (now state) ≡ image) × (isInline s ≡ false → s .count ≤ 4) ⌝ }
+    requires { ⌜ (length (now state) ≡ stateSize) × (isInline s ≡ false → s .count ≤ 4) ⌝ }
     ensures { λ r. ⌜ r ≡ allowsAll (card (now (state .entry))) pd (ownMask (s .opcode)) (ownBy s sges) ⌝ }
 {
     if is_inline(s) {
@@ -147,7 +147,7 @@ fn move_bytes(
 
 // The receive that a request takes; nothing where it takes none.
 pub fn taken_receive(state: &[u8], d: usize, opcode: u8) -> ReceiveRecord
-    requires { ⌜ (d < qpCount) × (length (now state) ≡ image) × (rowAt waitingT (now state) d .first < mostWaiting) ⌝ }
+    requires { ⌜ (d < qpCount) × (length (now state) ≡ stateSize) × (rowAt waitingT (now state) d .first < mostWaiting) ⌝ }
     ensures { λ r. ⌜ r ≡ takenRow (now (state .entry)) d opcode ⌝ }
 {
     if meet::takes_receive(opcode) {

@@ -4,21 +4,21 @@ use rules::Answer;
 use rules::Cause;
 use tables::QueueHead;
 use tables::QueuePair;
-use tables::image;
 use tables::limits::QP_COUNT;
 use tables::limits::RTR;
 use tables::limits::RTS;
 use tables::limits::SEND;
 use tables::limits::SEND_IMM;
 use tables::limits::WRITE_IMM;
+use tables::stateSize;
 ghost use mathlib.Core.Path.{_≡_};
 ghost use mathlib.Core.Bool.{true, cond};
 ghost use Prim.Native.Nat.{_<_, _≤_, _+_};
 ghost use lib.Dec.{eqb, leb};
 ghost use lib.ListN.{length};
 ghost use Rattle.wire.specs.Table.{rowAt};
-ghost use Rattle.tables.specs.Accept.{accepts};
-ghost use Rattle.tables.specs.Layout.{image, cqT};
+ghost use Rattle.validate.specs.Accept.{accepts};
+ghost use Rattle.tables.specs.Layout.{stateSize, cqT};
 ghost use Rattle.tables.specs.Limits.{cqCount, qpCount};
 ghost use Rattle.rules.specs.Touch.{takes, fills};
 ghost use Rattle.engine.specs.Send.{answers, placesBy, peerMeeting, meeting};
@@ -77,11 +77,11 @@ fn places_needed(both: bool) -> u32
 
 // A place for each completion: in the send queue s, and where a receive is taken in the receive queue r, which may be the same.
 fn has_places(state: &[u8], s: u8, r: u8, opcode: u8) -> bool
-    requires { ⌜ (s < cqCount) × (r < cqCount) × (length (now state) ≡ image) ⌝ }
+    requires { ⌜ (s < cqCount) × (r < cqCount) × (length (now state) ≡ stateSize) ⌝ }
     ensures { λ b. ⌜ b ≡ placesBy (rowAt cqT (now (state .entry)) s) (rowAt cqT (now (state .entry)) r) (eqb s r) opcode ⌝ }
 {
-    let first = image::load_cq(state, s as usize);
-    let second = image::load_cq(state, r as usize);
+    let first = rows::load_cq(state, s as usize);
+    let second = rows::load_cq(state, r as usize);
     let taken = takes_receive(opcode);
     let n = places_needed(taken & (s == r));
     let own = has_room(first, n);
@@ -91,10 +91,10 @@ fn has_places(state: &[u8], s: u8, r: u8, opcode: u8) -> bool
 
 // The tests of a peer that is ready: a receive that waits, and places for the completions.
 fn meet_peer(state: &[u8], e: Ends, opcode: u8) -> Meeting
-    requires { ⌜ (e .own .scq < cqCount) × (e .far .rcq < cqCount) × (e .own .dest < qpCount) × (length (now state) ≡ image) ⌝ }
+    requires { ⌜ (e .own .scq < cqCount) × (e .far .rcq < cqCount) × (e .own .dest < qpCount) × (length (now state) ≡ stateSize) ⌝ }
     ensures { λ r. ⌜ r ≡ peerMeeting (now (state .entry)) e opcode ⌝ }
 {
-    let h = image::load_waiting(state, e.own.dest as usize);
+    let h = rows::load_waiting(state, e.own.dest as usize);
     if takes_receive(opcode) & (h.count == 0) {
         return Meeting::Stopped(Answer::Held(Cause::Peer));
     }
@@ -106,14 +106,14 @@ fn meet_peer(state: &[u8], e: Ends, opcode: u8) -> Meeting
 
 // The tests of the two queue pairs.
 pub fn meet(state: &[u8], qpn: u32, opcode: u8) -> Meeting
-    requires { ⌜ (accepts (now state) ≡ true) × (length (now state) ≡ image) ⌝ }
+    requires { ⌜ (accepts (now state) ≡ true) × (length (now state) ≡ stateSize) ⌝ }
     ensures { λ r. ⌜ r ≡ meeting (now (state .entry)) qpn opcode ⌝ }
 {
     let q = qpn as usize;
     if QP_COUNT <= q {
         return Meeting::Stopped(Answer::Refused(2));
     }
-    let own = image::load_qp(state, q);
+    let own = rows::load_qp(state, q);
     if own.live != 1 {
         return Meeting::Stopped(Answer::Refused(2));
     }
@@ -124,7 +124,7 @@ pub fn meet(state: &[u8], qpn: u32, opcode: u8) -> Meeting
     if QP_COUNT <= d {
         return Meeting::Stopped(Answer::Held(Cause::Peer));
     }
-    let far = image::load_qp(state, d);
+    let far = rows::load_qp(state, d);
     if !answers_to(far, q) {
         return Meeting::Stopped(Answer::Held(Cause::Peer));
     }

@@ -7,11 +7,11 @@ use crate::settle;
 use rules::Answer;
 use tables::SendRead;
 use tables::SendRecord;
-use tables::accept;
-use tables::image;
 use tables::limits::LOCAL_LENGTH;
 use tables::limits::MOST_MESSAGE;
 use tables::records;
+use tables::stateSize;
+use validate::accept;
 ghost use mathlib.Core.List.{[]};
 ghost use Rattle.rules.specs.Call.{Call};
 ghost use Rattle.rules.specs.Touch.{requestOf};
@@ -61,7 +61,7 @@ pub fn post_send(state: &mut [u8], memory: &mut [u8], qpn: u32, sent: &[u8]) -> 
     if !accept::accepted(state) {
         return Answer::Refused(15);
     }
-    if memory.len() as u64 != image::load_memory(state) {
+    if memory.len() as u64 != rows::load_memory(state) {
         return Answer::Refused(7);
     }
     match records::read_send(sent) {

@@ -8,7 +8,6 @@ use tables::QueuePair;
 use tables::ReceiveRecord;
 use tables::SendRecord;
 use tables::Sge;
-use tables::image;
 use tables::limits::ERROR;
 use tables::limits::LOCAL_LENGTH;
 use tables::limits::LOCAL_PROTECTION;
@@ -24,12 +23,13 @@ use tables::limits::SUCCESS;
 use tables::limits::WRITE_IMM;
 use tables::limits::WRITTEN;
 use tables::queue;
+use tables::stateSize;
 ghost use mathlib.Core.Path.{_≡_};
 ghost use mathlib.Core.Bool.{true, cond};
 ghost use Prim.Native.Nat.{_<_, _≤_};
 ghost use lib.ListN.{length, take};
 ghost use Rattle.wire.specs.Table.{rowAt};
-ghost use Rattle.tables.specs.Layout.{image, cqT, waitingT};
+ghost use Rattle.tables.specs.Layout.{stateSize, cqT, waitingT};
 ghost use Rattle.tables.specs.Limits.{cqCount, qpCount, mostPlaces};
 ghost use Rattle.tables.specs.Records.{receiveSges};
 ghost use Rattle.rules.specs.Send.{senderOpcode, receiverOpcode, consumes};
@@ -114,7 +114,7 @@ fn receiver_status(st: u8, n: u32, w: ReceiveRecord) -> u8
 
 // The sender's completion, where one is put.
 fn put_sender(state: &mut [u8], e: Ends, s: SendRecord, st: u8, n: u32)
-    requires { ⌜ (e .q < qpCount) × (e .own .scq < cqCount) × (length (now state) ≡ image) × (rowAt cqT (now state) (e .own .scq) .count < mostPlaces) ⌝ }
+    requires { ⌜ (e .q < qpCount) × (e .own .scq < cqCount) × (length (now state) ≡ stateSize) × (rowAt cqT (now state) (e .own .scq) .count < mostPlaces) ⌝ }
     ensures { λ _. ⌜ now (state .exit) ≡ pushAll (now (state .entry)) (putFirst e s st n) ⌝ }
 {
     let silent = (st == SUCCESS) & (e.own.signal != 0) & (s.flags & SIGNALED_FLAG == 0);
@@ -136,7 +136,7 @@ fn put_sender(state: &mut [u8], e: Ends, s: SendRecord, st: u8, n: u32)
 
 // The receiver's completion, where the receive is consumed.
 fn put_receiver(state: &mut [u8], e: Ends, s: SendRecord, w: ReceiveRecord, st: u8, n: u32)
-    requires { ⌜ (w .count ≤ 2) × (length (now state) ≡ image) ⌝ }
+    requires { ⌜ (w .count ≤ 2) × (length (now state) ≡ stateSize) ⌝ }
     requires { ⌜ (consumes (s .opcode) st ≡ true → (e .far .rcq < cqCount) × (rowAt cqT (now state) (e .far .rcq) .count < mostPlaces)) ⌝ }
     ensures { λ _. ⌜ now (state .exit) ≡ pushAll (now (state .entry)) (putSecond e s w st n) ⌝ }
 {
@@ -166,13 +166,13 @@ fn is_consumed(opcode: u8, st: u8) -> bool
 
 // Queue pair q goes to error, where b holds.
 fn fail_if(state: &mut [u8], b: bool, q: usize)
-    requires { ⌜ (q < qpCount) × (length (now state) ≡ image) ⌝ }
+    requires { ⌜ (q < qpCount) × (length (now state) ≡ stateSize) ⌝ }
     ensures { λ _. ⌜ now (state .exit) ≡ errorBytes b (now (state .entry)) q ⌝ }
 {
     if !b {
         return;
     }
-    let p = image::load_qp(state, q);
+    let p = rows::load_qp(state, q);
     let failed = QueuePair {
         live: p.live,
         pd: p.pd,
@@ -182,12 +182,12 @@ fn fail_if(state: &mut [u8], b: bool, q: usize)
         state: ERROR,
         dest: p.dest,
     };
-    image::store_qp(state, q, failed);
+    rows::store_qp(state, q, failed);
 }
 
 // The oldest receive of queue pair q is consumed, where b holds.
 fn consume_if(state: &mut [u8], b: bool, q: usize)
-    requires { ⌜ (q < qpCount) × (length (now state) ≡ image) × (b ≡ true → 0 < rowAt waitingT (now state) q .count) ⌝ }
+    requires { ⌜ (q < qpCount) × (length (now state) ≡ stateSize) × (b ≡ true → 0 < rowAt waitingT (now state) q .count) ⌝ }
     ensures { λ _. ⌜ now (state .exit) ≡ consumeBytes b (now (state .entry)) q ⌝ }
 {
     if !b {

@@ -1,58 +1,111 @@
--- The receives of a queue pair add up. Assumes nothing.
+-- Completions put, and the receives of a queue pair, add up. Assumes nothing.
 use mathlib.Core.Path.{_≡_, refl, sym, ap, _∙_}
 use mathlib.Core.Bool.{Bool, true, false, cond, not, _&&_, _||_, true≢false, false≢true}
-use mathlib.Core.List.{List, [], _∷_, _++_}
+use mathlib.Core.List.{List, [], _∷_, _++_, append-nil, append-assoc}
 use mathlib.Core.Option.{Option, none, some}
-use Prim.Native.Nat.{ℕ, _+_, _≤_, _<_}
+use Prim.Native.Nat.{ℕ, _+_, _≤_}
 use native.Mathlib.Omega.{arith}
 use lib.Dec.{eqb, leb}
 use lib.ListN.{length, length-append}
-use borrow.Author.Tests.{leb-false, ltb-false}
-use Rattle.wire.specs.Checks.{refusal, Passed, passed}
-use Rattle.wire.specs.Fields.{putFields}
-use Rattle.wire.specs.Scan.{and-left}
-use Rattle.wire.specs.Slots.{split, same}
-use Rattle.tables.specs.Limits.{qpCount}
-use Rattle.tables.specs.Card.{Card, Qp, Receive, tail}
-use Rattle.tables.specs.Records.{Command, commandOf, ackFields, ackLeast}
-use Rattle.rules.specs.Lists.{isEmpty}
+use borrow.Author.Tests.{eqb-true, ltb-false}
+use Rattle.wire.specs.Checks.{Passed}
+use Rattle.wire.proofs.ScanLaws.{and-left}
+use Rattle.wire.proofs.SlotLaws.{split, same}
+use Rattle.tables.specs.Card.{Card, Cq, Qp, Receive, freeCq, tail}
+use Rattle.tables.specs.Commands.{Command, commandOf, ackLeast, ackFields}
+use Rattle.validate.specs.Search.{freeCqn, freeQpn}
+use Rattle.tables.specs.declared.Completion.{Completion}
+use Rattle.rules.specs.Lists.{isEmpty, when, maybe}
 use Rattle.rules.specs.Touch.{Request, requestOf, receiveIn, fills, reads}
 use Rattle.rules.specs.Control.{commandChecks, commandAck, commandEffect}
-use Rattle.tables.specs.Search.{freeQpn}
-use Rattle.rules.specs.Send.{peerOf, consumes, senderOpcode, receiverOpcode, senderPut, receiverPut, errorIf, consumeIf, sendStatus, sendPuts, putAll, sendQps, sendEffect}
-use Rattle.rules.specs.Queues.{flushChecks, flushed, joined, polled}
-use Rattle.rules.specs.Call.{Call, memoryOf}
-use Rattle.rules.specs.Calls.{checks, controlChecks, effect, statusOf, bufferAfter, settled, step, owed, usable, bufferRefused, Result}
-use Rattle.rules.specs.declared.Cause.the-variants.{Peer, Place}
-use Rattle.rules.specs.declared.Answer.the-variants.{Done, Held, Refused}
-use Rattle.rules.proofs.Answers.{owed-is}
+use Rattle.rules.specs.Send.{Put, peerOf, consumes, senderOpcode, receiverOpcode, senderPut, receiverPut, errorIf, consumeIf, sendStatus, sendPuts, pushed, putAll, sendQps, sendEffect}
+use Rattle.rules.specs.Queues.{flushChecks, flushPut, flushed, joined, polled}
+use Rattle.rules.specs.Call.{Call}
+use Rattle.rules.specs.Calls.{checks, controlChecks, effect, statusOf, bufferAfter, bufferRefused, owed}
+use Rattle.rules.specs.declared.Answer.the-variants.{Done}
 use Rattle.rules.proofs.Tests.{passed-before, passed-after}
-use Rattle.judge.specs.Log.{noteCommand, ackData}
-use Rattle.judge.specs.Demand3.{Seen, stateAfter, Linked}
-use Rattle.judge.specs.Count.{puts, Puts, receivePuts, Tally, none-yet, tallyBy, tallied, tallyAfter, Counted}
-use Rattle.judge.proofs.Acks.{one-number}
+use Rattle.judge.specs.Log.{Log, PairNote, noteCommand, ackData, Note}
+use Rattle.judge.specs.Whole.{Met}
+use Rattle.judge.specs.Demand3.{Seen, heard, stateAfter, Linked}
+use Rattle.judge.specs.Count.{puts, putInto, staysBy, stays, PutsBy, Puts, receivePuts, Tally, none-yet, countedBy, noted, completed, tallied, tallyAfter, Counted}
+use Rattle.judge.proofs.Acks.{ack-back}
 use Rattle.judge.proofs.Pairs.{error-waiting}
 use Rattle.judge.proofs.Agree.{sendable}
-use Rattle.judge.proofs.Run.{fresh-card}
+use Rattle.judge.proofs.Run.{of-owed, of-refused, fresh-card}
+use Rattle.wire.specs.Codec.{putFields}
 
-pub puts-are : Puts
-unfolding effect sendEffect flushed joined puts putAll
-puts-are = record { send = λ c q x m. refl; flush = λ c q. refl; receive = λ c q x. refl }
+-- ---- completions put
 
--- a live queue pair's tally adds up
+put-all : (ps : List Put) (f : ℕ → Cq) (n : ℕ) → putAll ps f n .entries ≡ f n .entries ++ putInto n ps
+unfolding putAll putInto
+put-all [] f n = sym (append-nil (f n .entries))
+put-all (p ∷ ps) f n = put-all ps (pushed p f) n ∙ go (eqb (p .cqn) n) refl
+  where
+    rest : List Completion
+    rest = putInto n ps
+
+    go : (b : Bool) → eqb (p .cqn) n ≡ b → pushed p f n .entries ++ rest ≡ f n .entries ++ cond b (p .entry ∷ rest) rest
+    go true e = rw e (ap (λ (x : ℕ). (f x .entries ++ (p .entry ∷ [])) ++ rest) (eqb-true (p .cqn) n e) ∙ append-assoc (f n .entries) (p .entry ∷ []) rest)
+    go false e = rw e
+
+-- a slot that is set to an empty queue
+emptied : (b : Bool) (s t : Cq) → s .entries ≡ [] → cond b s t .entries ≡ cond b [] (t .entries)
+emptied true s t e = e
+emptied false s t e = refl
+
+command-puts : (c : Card) (k : Command) (n : ℕ) → commandEffect c k .cq n .entries ≡ staysBy c k n (c .cq n .entries)
+unfolding commandEffect
+command-puts c (Command.createCq p) n = emptied (eqb (freeCqn c) n) (record { live = true; places = p; entries = [] }) (c .cq n) refl
+command-puts c (Command.destroyCq i) n = emptied (eqb i n) freeCq (c .cq n) refl
+command-puts c Command.createPd n = refl
+command-puts c (Command.destroyPd i) n = refl
+command-puts c (Command.register g) n = refl
+command-puts c (Command.deregister i) n = refl
+command-puts c (Command.createQp r) n = refl
+command-puts c (Command.modifyQp r) n = refl
+command-puts c (Command.destroyQp q) n = refl
+
+known-puts : (c : Card) (o : Option Command) (n : ℕ)
+    → maybe c (commandEffect c) o .cq n .entries ≡ maybe (c .cq n .entries) (λ k. staysBy c k n (c .cq n .entries)) o
+known-puts c none n = refl
+known-puts c (some k) n = command-puts c k n
+
+polled-puts : (c : Card) (i n : ℕ) → polled c i .cq n .entries ≡ cond (eqb i n) (tail (c .cq n .entries)) (c .cq n .entries)
+unfolding polled
+polled-puts c i = split i _ (rw (same i)) (λ j e. rw e)
+
+call-puts : (c : Card) (k : Call) (n : ℕ) → effect c k .cq n .entries ≡ stays c k n ++ putInto n (puts c k)
+unfolding effect sendEffect flushed joined polled stays puts putInto
+call-puts c (Call.reset m) n = refl
+call-puts c (Call.control k a) n = known-puts c (commandOf k) n ∙ sym (append-nil (maybe (c .cq n .entries) (λ x. staysBy c x n (c .cq n .entries)) (commandOf k)))
+call-puts c (Call.send q x m) n = put-all (sendPuts c q (requestOf x) (sendStatus c q (requestOf x))) (c .cq) n
+call-puts c (Call.receive q x) n = sym (append-nil (c .cq n .entries))
+call-puts c (Call.flush q) n = put-all (flushPut c q ∷ []) (c .cq) n
+call-puts c (Call.poll i b) n = polled-puts c i n ∙ sym (append-nil (cond (eqb i n) (tail (c .cq n .entries)) (c .cq n .entries)))
+
+pub call-puts-by : (st : List ℕ) (l : Log) (cardOf : List ℕ → Card) (accepts : List ℕ → Bool) (x : Seen) → Met cardOf accepts st x → Puts cardOf st l x
+call-puts-by st l cardOf accepts x h =
+    rw (h .answer, h .card)
+    (of-owed (λ c k r. PutsBy (r .answer) c (r .card) k) (λ c k n. of-refused (λ r. PutsBy r c c k) (λ e. refl) (λ e. refl) n)
+    (λ c k p. call-puts c k) cardOf accepts st (x .call))
+
+-- ---- a live queue pair's tally adds up
+
 abbrev Sums : Qp → Tally → Type 0
 Sums s t = s .live ≡ true → t .accepted ≡ t .put + t .dropped + length (s .waiting)
 
 abbrev Counts : (ℕ → Qp) → (ℕ → Tally) → Type 0
 Counts qp t = (q : ℕ) → Sums (qp q) (t q)
 
+-- no completion more
+same-sums : (s : Qp) (t : Tally) → Sums s t → Sums s (completed 0 t)
+same-sums s t h e = let k = h e in omega arith
+
 -- ---- control commands
 
-module _ (c : Card) (t : ℕ → Tally) (a : Counts (c .qp) t) (b : List ℕ) (wide : ackLeast ≤ length b) where
+module _ (c : Card) (t : ℕ → Tally) (a : Counts (c .qp) t) where
   abbrev Command-counts : Command → Type 0
-  Command-counts k =
-      (q : ℕ) → Sums (commandEffect c k .qp q)
-      (tallyBy (noteCommand k (ackData (putFields ackFields b 0 (0 ∷ commandAck c k)))) q (length (c .qp q .waiting)) 0 (t q))
+  Command-counts k = (q : ℕ) → Sums (commandEffect c k .qp q) (noted (noteCommand k (commandAck c k)) q (length (c .qp q .waiting)) (t q))
 
   moved-sums : (s : Qp) (v : Tally) (z : Bool) → v .accepted ≡ v .put + v .dropped + length (s .waiting) →
       let v′ = cond z (record { accepted = v .accepted; put = v .put; dropped = v .dropped + length (s .waiting) }) v in
@@ -60,20 +113,18 @@ module _ (c : Card) (t : ℕ → Tally) (a : Counts (c .qp) t) (b : List ℕ) (w
   moved-sums s v true e = omega arith
   moved-sums s v false e = e
 
-  command : (k : Command) → Passed (commandChecks c k) → Command-counts k
-  unfolding commandChecks commandEffect commandAck
-  command (Command.createCq n) p = a
-  command (Command.destroyCq n) p = a
-  command Command.createPd p = a
-  command (Command.destroyPd n) p = a
-  command (Command.register g) p = a
-  command (Command.deregister n) p = a
-  command (Command.createQp r) p =
-      let i : freeQpn c < qpCount = leb-false qpCount (freeQpn c) (p .1 .1 .1 .1 .1 .0) in
-      rw (one-number b wide (freeQpn c) (omega arith)) (split (freeQpn c) _ (rw same (λ e. refl)) (λ j e. rw e (a j)))
-  command (Command.modifyQp r) p =
+  command : (k : Command) → Command-counts k
+  unfolding commandEffect commandAck
+  command (Command.createCq n) = a
+  command (Command.destroyCq n) = a
+  command Command.createPd = a
+  command (Command.destroyPd n) = a
+  command (Command.register g) = a
+  command (Command.deregister n) = a
+  command (Command.createQp r) = split (freeQpn c) _ (rw same (λ e. refl)) (λ j e. rw e (a j))
+  command (Command.modifyQp r) =
       split (r .qpn) _ (rw same (λ e. moved-sums (c .qp (r .qpn)) (t (r .qpn)) (eqb (r .state) 0) (a (r .qpn) e))) (λ j e. rw e (a j))
-  command (Command.destroyQp q) p = split q _ (rw same (λ e. absurd (false≢true e))) (λ j e. rw e (a j))
+  command (Command.destroyQp q) = split q _ (rw same (λ e. absurd (false≢true e))) (λ j e. rw e (a j))
 
 -- ---- a receive leaves
 
@@ -81,12 +132,13 @@ rest-length : (ws : List Receive) → isEmpty ws ≡ false → 1 + length (tail 
 rest-length [] e = absurd (true≢false e)
 rest-length (w ∷ ws) e = omega arith
 
-takes-one : (s : Qp) (v : Tally) (n : ℕ) (ws : List Receive) → n + length ws ≡ length (s .waiting) → Sums s v →
+-- n of the receives that waited are completed, and ws wait on
+takes-some : (s : Qp) (v : Tally) (n : ℕ) (ws : List Receive) → n + length ws ≡ length (s .waiting) → Sums s v →
     s .live ≡ true → v .accepted ≡ (v .put + n) + v .dropped + length ws
-takes-one s v n ws e h l = let k = h l in omega arith
+takes-some s v n ws e h l = let k = h l in omega arith
 
 joins-one : (s : Qp) (v : Tally) (w : Receive) → Sums s v → s .live ≡ true →
-    v .accepted + 1 ≡ v .put + v .dropped + length (s .waiting ++ (w ∷ []))
+    v .accepted + 1 ≡ (v .put + 0) + v .dropped + length (s .waiting ++ (w ∷ []))
 joins-one s v w h l = let k = h l in let n = length-append (s .waiting) (w ∷ []) in omega arith
 
 -- ---- a send
@@ -159,71 +211,70 @@ module _ (c : Card) (q : ℕ) (r : Request) (s : ℕ) where
           (rw (same d, same-waiting d) (rest-length (c .qp d .waiting) (h e)))
           (λ i x. rw x (let k = ap length (same-waiting i) in omega arith)) j
 
+-- a note of a work request counts nothing by itself
+sent-noted : (b : Bool) (r : Request) (s w : ℕ) (v : Tally) → when b (countedBy (PairNote.sent r s) w) v ≡ v
+sent-noted true r s w v = refl
+sent-noted false r s w v = refl
+
 -- ---- every accepted call
 
-counts-call : (c : Card) (k : Call) (t : ℕ → Tally) → Passed (checks c k) → Counts (c .qp) t →
-    Counts (effect c k .qp) (tallied c k (Done (statusOf c k)) (bufferAfter c k) t)
+counts-call : (c : Card) (k : Call) (l : Log) (t : ℕ → Tally) → Passed (checks c k) → Counts (c .qp) t →
+    Counts (effect c k .qp) (tallied c l k (Done (statusOf c k)) (bufferAfter c k) t)
 unfolding checks controlChecks flushChecks effect sendEffect joined flushed polled statusOf bufferAfter tallied puts receivePuts
-counts-call c (Call.reset n) t p a = λ q e. absurd (false≢true e)
-counts-call c (Call.control k b) t p a =
-    command c t a b (ltb-false (length b) ackLeast (passed-before (controlChecks k b) (commandChecks c (commandOf k)) p .0))
-    (commandOf k) (passed-after (controlChecks k b) (commandChecks c (commandOf k)) p)
-counts-call c (Call.send q x m) t p a =
+counts-call c (Call.reset n) l t p a = λ q e. absurd (false≢true e)
+counts-call c (Call.control k b) l t p a =
+    known (commandOf k) (passed-after (controlChecks k b) (maybe [] (commandChecks c) (commandOf k)) p)
+  where
+    wide : ackLeast ≤ length b
+    wide = ltb-false (length b) ackLeast (passed-before (controlChecks k b) (maybe [] (commandChecks c) (commandOf k)) p .0)
+
+    known : (o : Option Command) → Passed (maybe [] (commandChecks c) o) →
+        Counts (maybe c (commandEffect c) o .qp)
+        (λ q. completed 0 (noted (maybe Note.other (λ x. noteCommand x (maybe [] (λ y. ackData y (putFields ackFields b 0 (0 ∷ maybe [] (commandAck c) o))) o)) o)
+        q (length (c .qp q .waiting)) (t q)))
+    known none s = λ q. same-sums (c .qp q) (t q) (a q)
+    known (some x) s =
+        rw (ack-back b wide c x s)
+        (λ q. same-sums (commandEffect c x .qp q) (noted (noteCommand x (commandAck c x)) q (length (c .qp q .waiting)) (t q)) (command c t a x q))
+counts-call c (Call.send q x m) l t p a =
     let o = sendable c q x m p in
     let r : Request = requestOf x in
     let s : ℕ = sendStatus c q (requestOf x) in
-    λ j e. rw (sent-count c q r s j)
-    (takes-one (c .qp j) (t j) (cond (consumes (r .opcode) s && eqb (peerOf c q) j) 1 0) (sendQps c q r s j .waiting)
+    λ j e. rw (sent-noted (eqb q j) r s (length (c .qp j .waiting)) (t j), sent-count c q r s j)
+    (takes-some (c .qp j) (t j) (cond (consumes (r .opcode) s && eqb (peerOf c q) j) 1 0) (sendQps c q r s j .waiting)
     (sent-waiting c q r s (λ y. o .has-receive (and-left _ _ y)) j) (a j) (sym (sent-live c q r s j) ∙ e))
-counts-call c (Call.receive q x) t p a =
+counts-call c (Call.receive q x) l t p a =
     split q _
     (rw same (joins-one (c .qp q) (t q) (receiveIn x) (a q)))
-    (λ j e. rw e (a j))
-counts-call c (Call.flush q) t p a =
+    (λ j e. rw e (same-sums (c .qp j) (t j) (a j)))
+counts-call c (Call.flush q) l t p a =
     split q _
-    (rw same (λ e. takes-one (c .qp q) (t q) 1 (tail (c .qp q .waiting)) (rest-length (c .qp q .waiting) (p .1 .1 .0)) (a q) e))
-    (λ j e. rw e (λ h. let k = a j h in omega arith))
-counts-call c (Call.poll n b) t p a = a
+    (rw same (λ e. takes-some (c .qp q) (t q) 1 (tail (c .qp q .waiting)) (rest-length (c .qp q .waiting) (p .1 .1 .0)) (a q) e))
+    (λ j e. rw e (same-sums (c .qp j) (t j) (a j)))
+counts-call c (Call.poll n b) l t p a = λ q. same-sums (c .qp q) (t q) (a q)
 
 -- ---- the list
 
-abbrev After : Call → Card → (ℕ → Tally) → Result → Type 0
-After k c t r = Counts (r .card .qp) (tallied c k (r .answer) (r .buffer) t)
+module _ (Made : (st : List ℕ) → Seen → Type 0) (cardOf : List ℕ → Card) (accepts : List ℕ → Bool)
+    (met : (st : List ℕ) (x : Seen) → Made st x → Met cardOf accepts st x) where
+  counts-on : (st : List ℕ) (l : Log) (k : Call) (t : ℕ → Tally) → Counts (cardOf st .qp) t →
+      let r = owed cardOf accepts st k in Counts (r .card .qp) (tallied (cardOf st) l k (r .answer) (r .buffer) t)
+  unfolding tallied
+  counts-on st l k t a =
+      of-owed (λ c k r. Counts (c .qp) t → Counts (r .card .qp) (tallied c l k (r .answer) (r .buffer) t))
+      (λ c k n h. of-refused (λ r. Counts (c .qp) (tallied c l k r (bufferRefused n k) t)) (λ e. h) (λ e. h) n)
+      (λ c k p h. counts-call c k l t p h) cardOf accepts st k a
 
-counts-refused : (c : Card) (k : Call) (t : ℕ → Tally) (n : ℕ) → Counts (c .qp) t → After k c t (settled (some n) c k)
-unfolding tallied
-counts-refused c k t n a = go (eqb n 5) (eqb n 6) (memoryOf k) (bufferRefused n k)
-  where
-    go : (x y : Bool) (m b : List ℕ) → After k c t (record { answer = cond x (Held Peer) (cond y (Held Place) (Refused n)); card = c; memory = m; buffer = b })
-    go true y m b = a
-    go false true m b = a
-    go false false m b = a
-
-counts-step : (c : Card) (k : Call) (t : ℕ → Tally) → Counts (c .qp) t → After k c t (step c k)
-unfolding step
-counts-step c k t a = go (refusal (checks c k)) refl
-  where
-    go : (o : Option ℕ) → refusal (checks c k) ≡ o → After k c t (settled o c k)
-    go none e = counts-call c k t (passed (checks c k) e) a
-    go (some n) e = counts-refused c k t n a
-
-module _ (cardOf : List ℕ → Card) (accepts : List ℕ → Bool) where
-  counts-on : (st : List ℕ) (k : Call) (t : ℕ → Tally) → Counts (cardOf st .qp) t → After k (cardOf st) t (owed cardOf accepts st k)
-  counts-on st k t a = rw (owed-is cardOf accepts st k) (go (usable cardOf accepts st k))
-    where
-      go : (b : Bool) → After k (cardOf st) t (cond b (step (cardOf st) k) (settled (some 15) (cardOf st) k))
-      go true = counts-step (cardOf st) k t a
-      go false = counts-refused (cardOf st) k t 15 a
-
-  counts-list : (st : List ℕ) (t : ℕ → Tally) (xs : List Seen) → Counts (cardOf st .qp) t → Linked cardOf accepts st xs →
-      Counts (cardOf (stateAfter st xs) .qp) (tallyAfter cardOf accepts t st xs)
+  counts-list : (st : List ℕ) (l : Log) (t : ℕ → Tally) (xs : List Seen) → Counts (cardOf st .qp) t → Linked Made st xs →
+      Counts (cardOf (stateAfter st xs) .qp) (tallyAfter cardOf t st l xs)
   unfolding Linked stateAfter tallyAfter
-  counts-list st t [] a h = a
-  counts-list st t (x ∷ xs) a h =
-      counts-list (x .state) (tallied (cardOf st) (x .call) (x .answer) (x .buffer) t) xs
-      (rw (h .0 .card, h .0 .answer, h .0 .buffer) (counts-on st (x .call) t a)) (h .1)
+  counts-list st l t [] a h = a
+  counts-list st l t (x ∷ xs) a h =
+      let m = met st x (h .0) in
+      counts-list (x .left .state) (heard l x) (tallied (cardOf st) l (x .call) (x .left .answer) (x .left .buffer) t) xs
+      (rw (m .card, m .answer, m .buffer) (counts-on st l (x .call) t a)) (h .1)
 
-  pub counted : Counted cardOf accepts
+  pub counted : Counted Made cardOf
   unfolding Counted
-  counted x b xs links q = counts-list (x .state) (λ i. none-yet) xs
-      (rw (fresh-card cardOf accepts x b) (λ q e. absurd (false≢true e))) links q
+  counted x b xs links q = counts-list (x .left .state) (b .base) (λ i. none-yet) xs
+      (rw (fresh-card Made cardOf accepts met x b .card) (λ q e. absurd (false≢true e))) links q

@@ -1,146 +1,135 @@
--- Demand 3 holds. Assumes nothing.
-use mathlib.Core.Path.{_≡_, refl, ap, fun-ext}
+-- Each work request is judged right, by the card's agreement with the log. Assumes nothing.
+use mathlib.Core.Path.{_≡_, refl, ap, ap₂, fun-ext, _∙_}
 use mathlib.Core.Bool.{Bool, true, false, cond, not, _&&_, _||_}
-use mathlib.Core.List.{List, [], _∷_}
+use mathlib.Core.List.{List, [], _∷_, map}
 use mathlib.Core.Option.{Option, none, some}
 use Prim.Native.Nat.{ℕ}
 use lib.Dec.{eqb, leb}
-use Rattle.wire.specs.Checks.{refusal, Passed, passed}
+use lib.ListN.{getD}
+use Rattle.wire.specs.Scan.{all}
 use Rattle.tables.specs.Limits.{mostMessage, qpCount}
-use Rattle.tables.specs.Card.{Card}
-use Rattle.rules.specs.Lists.{orElse}
-use Rattle.rules.specs.Touch.{Request, requestOf, fills, total}
+use Rattle.tables.specs.Card.{Card, Receive}
+use Rattle.rules.specs.Lists.{isSome, orElse, stored}
+use Rattle.rules.specs.Touch.{Request, Byte, fills, total, sgeTotal, ownBytes, farBytes, message, delivered}
 use Rattle.rules.specs.Permit.{Use, permits, permitsAll, place}
 use Rattle.rules.specs.Send.{peerOf, takenBy, ownUse, farUse, statusBy, sendStatus, sendMemory}
-use Rattle.rules.specs.Call.{Call}
-use Rattle.rules.specs.Calls.{checks, statusOf, memoryAfter, settled, step, owed, usable, Result}
-use Rattle.rules.specs.declared.Cause.the-variants.{Peer, Place}
-use Rattle.rules.specs.declared.Answer.the-variants.{Held, Refused}
-use Rattle.rules.proofs.Answers.{owed-is}
-use Rattle.judge.specs.Log.{Log, fed}
-use Rattle.judge.specs.Judge.{passes, placed, peerNo, waiting, oldestAt, judge, judgedMemory, domain, standing}
-use Rattle.judge.specs.Demand3.{Correct, Seen, Sent, OfCall, OfAnswer, EachSend, logAfter, stateAfter, Linked}
+use Rattle.judge.specs.Log.{Log}
+use Rattle.judge.specs.Judge.{Right, passes, placed, party, peer, waiting, standing, Work, Source, filled, farRight, near, far, allPass, fitsReceive, nearPasses, farPasses, judge, readSide, writtenSide, sources, valueOf, judgedMemory}
+use Rattle.judge.specs.Demand3.{Correct, WorkClaim}
+use Rattle.judge.specs.Dropped.{dropped}
 use Rattle.judge.proofs.Rights.{needs-right, own-right, far-right, same-fills}
 use Rattle.judge.proofs.Keys
-use Rattle.judge.proofs.Agree.{Agree, Sendable, sendable, accepted-call}
+use Rattle.judge.proofs.Agree.{Agree, Sendable}
+
+-- the work request r on q
+abbrev pub works : (q : ℕ) → Request → Work
+works q r = record { qpn = q; request = r }
+
+-- ---- the values of a message
+
+map-literal : (l : Log) (m vs : List ℕ) → map (valueOf l m) (map Source.literal vs) ≡ vs
+map-literal l m [] = refl
+map-literal l m (v ∷ vs) = ap (λ (xs : List ℕ). v ∷ xs) (map-literal l m vs)
+
+map-byte : (l : Log) (m : List ℕ) (bs : List Byte) → map (valueOf l m) (map Source.byte bs) ≡ map (λ b. getD m (placed l b) 0) bs
+map-byte l m [] = refl
+map-byte l m (b ∷ bs) = ap (λ (xs : List ℕ). getD m (placed l b) 0 ∷ xs) (map-byte l m bs)
+
+module _ (l : Log) (q : ℕ) (r : Request) (m : List ℕ) where
+  abbrev w : Work
+  w = works q r
+
+  same-values : map (valueOf l m) (sources l w) ≡ message (placed l) r (filled l w) m
+  unfolding sources readSide near far message
+  same-values = go (r .inline) (eqb (r .opcode) 4)
+    where
+      go : (b x : Bool) → map (valueOf l m) (cond b (map Source.literal (r .bytes)) (map Source.byte (cond x (far l w) (near l w) .bytes)))
+          ≡ cond b (r .bytes) (map (λ y. getD m (placed l y) 0) (cond x (farBytes r (filled l w)) (ownBytes r)))
+      go true x = map-literal l m (r .bytes)
+      go false true = map-byte l m (farBytes r (filled l w))
+      go false false = map-byte l m (ownBytes r)
+
+  same-targets : writtenSide l w .bytes ≡ cond (eqb (r .opcode) 4) (ownBytes r) (farBytes r (filled l w))
+  unfolding writtenSide near far
+  same-targets = go (eqb (r .opcode) 4)
+    where
+      go : (x : Bool) → cond x (near l w) (far l w) .bytes ≡ cond x (ownBytes r) (farBytes r (filled l w))
+      go true = refl
+      go false = refl
+
+  same-delivered : stored m (map (placed l) (writtenSide l w .bytes)) (map (valueOf l m) (sources l w)) ≡ delivered (placed l) r (filled l w) m
+  unfolding delivered
+  same-delivered = rw (same-values, same-targets)
 
 -- ---- the judge's verdict
 
 module _ (c : Card) (l : Log) (a : Agree c l) where
-  same-passes : (q : ℕ) (u : Use) → c .qp q .live ≡ true → passes l q (needs-right u) ≡ permits c q u
+  same-passes : (q : ℕ) (u : Use) → c .qp q .live ≡ true → passes l (party l (some q)) (needs-right u) ≡ permits c q u
   unfolding passes permits
   same-passes q u h =
-      fun-ext (λ b. rw (a .pairs q h .domain) (Keys.same-covers (c .memory) (c .mr) (standing l) (a .keys) (b .key) (c .qp q .pd) u (b .address)))
+      fun-ext (λ b. rw (a .pairs q h .domain) (Keys.same-covers (c .memory) (c .mr) (standing l) (dropped l) (a .keys) (b .key) (c .qp q .pd) u (b .address)))
 
   pub same-place : placed l ≡ place c
   unfolding placed place
-  same-place = fun-ext (λ b. Keys.same-place (c .memory) (c .mr) (standing l) (a .keys) (b .key) (b .address))
+  same-place = fun-ext (λ b. Keys.same-place (c .memory) (c .mr) (standing l) (dropped l) (a .keys) (b .key) (b .address))
 
   module _ (q : ℕ) (r : Request) {m : List ℕ} (p : Sendable c q r m) where
-    same-peer : peerNo l q ≡ peerOf c q
-    unfolding peerNo
-    same-peer = ap (λ o. orElse o qpCount) (a .pairs q (p .live) .peer (p .named))
+    pub same-peer : peer l q ≡ some (peerOf c q)
+    same-peer = a .pairs q (p .live) .peer (p .named) ∙ some-is (c .qp q .dest) (p .named)
+      where
+        some-is : (o : Option ℕ) → isSome o ≡ true → o ≡ some (orElse o qpCount)
+        some-is none e = let z : _≡_ {A = Bool} false true = e in cc
+        some-is (some d) e = refl
 
-    pub same-oldest : oldestAt l q ≡ takenBy c q
-    unfolding oldestAt waiting
-    same-oldest = rw (same-peer, ← a .pairs (peerOf c q) (p .peer-live) .waits)
+    pub same-filled : filled l (works q r) ≡ takenBy c q
+    unfolding filled waiting
+    same-filled = rw (same-peer, ← a .pairs (peerOf c q) (p .peer-live) .waits)
 
-status-zero : (fill short own fits far : Bool) → eqb (statusBy fill short own fits far) 0 ≡ short && (not fill || fits) && own && far
+    -- the sides, each by the card's tables
+    pub near-is : allPass l (near l (works q r)) ≡ permitsAll c q (ownUse (r .opcode)) (ownBytes r)
+    unfolding near permitsAll
+    near-is =
+        ap (λ (u : Right). all (passes l (party l (some q)) u) (ownBytes r)) (own-right (r .opcode))
+        ∙ ap (λ (f : Byte → Bool). all f (ownBytes r)) (same-passes q (ownUse (r .opcode)) (p .live))
+
+    pub far-is : allPass l (far l (works q r)) ≡ permitsAll c (peerOf c q) (farUse (r .opcode)) (farBytes r (takenBy c q))
+    unfolding far permitsAll
+    far-is =
+        ap (λ (d : Option ℕ). all (passes l (party l d) (farRight (r .opcode))) (farBytes r (filled l (works q r)))) same-peer
+        ∙ ap₂ (λ (u : Right) (v : Receive). all (passes l (party l (some (peerOf c q))) u) (farBytes r v)) (far-right (r .opcode) (p .opcode)) same-filled
+        ∙ ap (λ (f : Byte → Bool). all f (farBytes r (takenBy c q))) (same-passes (peerOf c q) (farUse (r .opcode)) (p .peer-live))
+
+    pub fits-is : fitsReceive l (works q r) ≡ (not (fills (r .opcode)) || leb (total r) (sgeTotal (takenBy c q .sges)))
+    fits-is = ap₂ (λ (b : Bool) (v : Receive). not b || leb (total r) (sgeTotal (v .sges))) (same-fills (r .opcode) (p .opcode)) same-filled
+
+status-zero : (fill short own fits far : Bool) → eqb (statusBy fill short own fits far) 0 ≡ (short && own) && ((not fill || fits) && far)
 status-zero fill false own fits far = refl
-status-zero true true false false far = refl
-status-zero true true false true far = refl
+status-zero fill true false fits far = refl
 status-zero true true true false far = refl
 status-zero true true true true true = refl
 status-zero true true true true false = refl
-status-zero false true false fits far = refl
 status-zero false true true fits true = refl
 status-zero false true true fits false = refl
 
-pub verdict : (c : Card) (l : Log) (a : Agree c l) (q : ℕ) (r : Request) {m : List ℕ} → Sendable c q r m → eqb (sendStatus c q r) 0 ≡ judge l q r
-unfolding sendStatus judge permitsAll
+pub verdict : (c : Card) (l : Log) (a : Agree c l) (q : ℕ) (r : Request) {m : List ℕ} → Sendable c q r m → eqb (sendStatus c q r) 0 ≡ judge l (works q r)
+unfolding sendStatus judge nearPasses farPasses
 verdict c l a q r p =
-    rw (
-      same-oldest c l a q r p,
-      same-peer c l a q r p,
-      own-right (r .opcode),
-      far-right (r .opcode) (p .opcode),
-      same-fills (r .opcode) (p .opcode),
-      same-passes c l a q (ownUse (r .opcode)) (p .live),
-      same-passes c l a (peerOf c q) (farUse (r .opcode)) (p .peer-live),
-    )
-    (status-zero (fills (r .opcode)) (leb (total r) mostMessage) _ _ _)
+    rw (near-is c l a q r p, fits-is c l a q r p, far-is c l a q r p)
+    (status-zero (fills (r .opcode)) (leb (total r) mostMessage) (permitsAll c q (ownUse (r .opcode)) (ownBytes r))
+    (leb (total r) (sgeTotal (takenBy c q .sges)))
+    (permitsAll c (peerOf c q) (farUse (r .opcode)) (farBytes r (takenBy c q))))
 
-pub correct : (c : Card) (l : Log) (a : Agree c l) (q : ℕ) (r : Request) (m : List ℕ) → Sendable c q r m →
-    Correct l q r (sendStatus c q r) m (sendMemory c q r m)
+-- what the agreement proves of a work request that passed its tests
+abbrev pub Proves : WorkClaim → Type 0
+Proves P =
+    (c : Card) (l : Log) (a : Agree c l) (q : ℕ) (r : Request) (m : List ℕ) → Sendable c q r m →
+    P l (works q r) (sendStatus c q r) m (sendMemory c q r m)
+
+pub correct : Proves Correct
 unfolding sendMemory judgedMemory passes placed
 correct c l a q r m p =
     record {
       verdict = verdict c l a q r p;
-      memory = rw (verdict c l a q r p, same-oldest c l a q r p, same-place c l a);
-      inside = λ x u b. rw (p .whole) (Keys.all-inside (c .memory) (c .mr) (standing l) (a .keys) (b .key) (domain l x) u (b .address));
+      memory = rw (verdict c l a q r p, same-delivered l q r m, same-filled c l a q r p, same-place c l a);
+      inside = λ x u b. rw (p .whole) (Keys.all-inside (c .memory) (c .mr) (standing l) (dropped l) (a .keys) (b .key) x u (b .address));
     }
-
--- ---- one call, for any claim of its work request that the card's agreement proves
-
-abbrev pub Claim : Sent → Type 0
-Claim P = (c : Card) (l : Log) (a : Agree c l) (q : ℕ) (r : Request) (m : List ℕ) → Sendable c q r m → P l q r (sendStatus c q r) m (sendMemory c q r m)
-
-module _ (P : Sent) (claim : Claim P) where
-  of-call : (c : Card) (k : Call) (l : Log) → Passed (checks c k) → Agree c l → OfCall P k l (statusOf c k) (memoryAfter c k)
-  unfolding statusOf memoryAfter
-  of-call c (Call.reset n) l p a = tt
-  of-call c (Call.control k b) l p a = tt
-  of-call c (Call.send q x m) l p a = claim c l a q (requestOf x) m (sendable c q x m p)
-  of-call c (Call.receive q x) l p a = tt
-  of-call c (Call.flush q) l p a = tt
-  of-call c (Call.poll n b) l p a = tt
-
-  pub record Kept (l : Log) (k : Call) (r : Result) : Type 0 where
-    pub right : OfAnswer P (r .answer) k l (r .memory)
-    pub agrees : Agree (r .card) (fed k (r .answer) (r .buffer) l)
-
-  refused : (c : Card) (k : Call) (l : Log) (n : ℕ) → Agree c l → Kept l k (settled (some n) c k)
-  unfolding fed
-  refused c k l n a = go (eqb n 5) (eqb n 6) _ _
-    where
-      go : (x y : Bool) (m b : List ℕ) → Kept l k (record { answer = cond x (Held Peer) (cond y (Held Place) (Refused n)); card = c; memory = m; buffer = b })
-      go true y m b = record { right = tt; agrees = a }
-      go false true m b = record { right = tt; agrees = a }
-      go false false m b = record { right = tt; agrees = a }
-
-  kept : (c : Card) (k : Call) (l : Log) → Agree c l → Kept l k (step c k)
-  unfolding step
-  kept c k l a = go (refusal (checks c k)) refl
-    where
-      go : (o : Option ℕ) → refusal (checks c k) ≡ o → Kept l k (settled o c k)
-      go none e =
-          let p = passed (checks c k) e in
-          record { right = of-call c k l p a; agrees = accepted-call c k l p a }
-      go (some n) e = refused c k l n a
-
-  -- ---- the list
-
-  module _ (cardOf : List ℕ → Card) (accepts : List ℕ → Bool) where
-    kept-on : (st : List ℕ) (k : Call) (l : Log) → Agree (cardOf st) l → Kept l k (owed cardOf accepts st k)
-    kept-on st k l a = rw (owed-is cardOf accepts st k) (go (usable cardOf accepts st k))
-      where
-        go : (b : Bool) → Kept l k (cond b (step (cardOf st) k) (settled (some 15) (cardOf st) k))
-        go true = kept (cardOf st) k l a
-        go false = refused (cardOf st) k l 15 a
-
-    -- from any card that agrees with a log
-    pub each-send : (st : List ℕ) (l : Log) (xs : List Seen) → Agree (cardOf st) l → Linked cardOf accepts st xs → EachSend P l xs
-    unfolding EachSend Linked
-    each-send st l [] a h = tt
-    each-send st l (x ∷ xs) a h =
-        let k = kept-on st (x .call) l a in (
-          rw (h .0 .answer, h .0 .memory) (k .right),
-          each-send (x .state) (fed (x .call) (x .answer) (x .buffer) l) xs (rw (h .0 .card, h .0 .answer, h .0 .buffer) (k .agrees)) (h .1),
-        )
-
-    pub agrees-after : (st : List ℕ) (l : Log) (xs : List Seen) → Agree (cardOf st) l → Linked cardOf accepts st xs →
-        Agree (cardOf (stateAfter st xs)) (logAfter l xs)
-    unfolding Linked stateAfter logAfter
-    agrees-after st l [] a h = a
-    agrees-after st l (x ∷ xs) a h =
-        agrees-after (x .state) (fed (x .call) (x .answer) (x .buffer) l) xs (rw (h .0 .card, h .0 .answer, h .0 .buffer) (kept-on st (x .call) l a .agrees)) (h .1)

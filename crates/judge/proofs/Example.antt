@@ -5,14 +5,13 @@ use mathlib.Core.Bool.{Bool, true, false}
 use mathlib.Core.List.{List, [], _∷_, _++_}
 use Prim.Native.Nat.{ℕ, _+_, _*_, _^_}
 use lib.ListN.{replicate, take, drop, length}
-use Rattle.wire.specs.Fields.{fieldsAt, putFields, within, clear, apart}
+use Rattle.wire.specs.Codec.{fieldsAt, putFields, encode}
 use Rattle.wire.specs.Le.{leAt, putLe}
 use Rattle.wire.specs.Rows.{rows, rowsFrom}
 use Rattle.wire.specs.Scan.{lowest, lowestFrom, anyBelow, all}
-use Rattle.tables.specs.Card.{Card, fresh}
-use Rattle.tables.specs.Image.{receiveOf}
-use Rattle.tables.specs.declared.Sge.{Sge}
-use Rattle.tables.specs.Records.{Command, commandOf, dataSize, numberCodec, registerCodec, createQpCodec, modifyQpCodec, sendCodec, sgeCodec, receiveCodec, sendChecks, receiveChecks, receiveSges, sendSge, inlineBytes, inlineLength}
+use Rattle.tables.specs.Card.{Card, fresh, receiveOf}
+use Rattle.tables.specs.Commands.{commandOf, dataSize, numberCodec, registerCodec, createQpCodec, modifyQpCodec}
+use Rattle.tables.specs.Records.{sendCodec, sgeCodec, receiveCodec, sendChecks, receiveChecks, receiveSges, sendSge, inlineBytes, inlineLength, completionCodec}
 use Rattle.rules.specs.declared.Answer.{Answer}
 use Rattle.rules.specs.declared.Cause.the-variants.{Peer}
 use Rattle.rules.specs.declared.Answer.the-variants.{Done, Held}
@@ -25,7 +24,7 @@ use Rattle.rules.specs.Queues.{joinChecks, joined, flushChecks, flushed, pollCh
 use Rattle.rules.specs.Call.{Call}
 use Rattle.rules.specs.Calls.{checks, resetChecks, controlChecks, bufferChecks, statusOf, effect, memoryAfter, bufferAfter, step}
 use Rattle.judge.specs.Log.{Log, fed, ackData}
-use Rattle.judge.specs.Judge.{judge, passes, placed, peerNo, oldestAt, waiting, standing, domain, peer, accepted, taken}
+use Rattle.judge.specs.Judge.{judge, nearPasses, farPasses, near, far, passes, filled, waiting, standing, told, domain, peer, accepted, taken}
 
 abbrev mem : List ℕ
 mem = 1 ∷ 2 ∷ 3 ∷ 4 ∷ 5 ∷ 6 ∷ 7 ∷ 8 ∷ []
@@ -37,19 +36,19 @@ abbrev control : List ℕ → Call
 control k = Call.control k (replicate 13 9)
 
 abbrev registered : (start virt : ℕ) → Call
-registered s v = control (registerCodec .put (command 7 32) 2 (record { pd = 0; access = 7; start = s; length = 4; virt = v }))
+registered s v = control (encode registerCodec (command 7 32) 2 (record { pd = 0; access = 7; start = s; length = 4; virt = v }))
 
 abbrev modified : (q mask state dest : ℕ) → Call
-modified q k t d = control (modifyQpCodec .put (command 10 16) 2 (record { qpn = q; mask = k; state = t; pad0 = 0; pad1 = 0; pad2 = 0; dest = d }))
+modified q k t d = control (encode modifyQpCodec (command 10 16) 2 (record { qpn = q; mask = k; state = t; pad0 = 0; pad1 = 0; pad2 = 0; dest = d }))
 
 abbrev created : Call
-created = control (createQpCodec .put (command 9 16) 2 (record { pd = 0; kind = 2; signal = 0; scq = 0; rcq = 0 }))
+created = control (encode createQpCodec (command 9 16) 2 (record { pd = 0; kind = 2; signal = 0; scq = 0; rcq = 0 }))
 
 -- one piece of 2 bytes at 101, which is memory byte 1
 abbrev posted : (opcode key : ℕ) → Call
 posted o k =
     Call.send 0
-    (sgeCodec .put (sendCodec .put (replicate 592 0) 0 (record { wr = 7; opcode = o; flags = 0; imm = 0; address = 4096; key = k; count = 1 })) 576
+    (encode sgeCodec (encode sendCodec (replicate 592 0) 0 (record { wr = 7; opcode = o; flags = 0; imm = 0; address = 4096; key = k; count = 1 })) 576
     (record { address = 101; length = 2; key = 1 }))
     mem
 
@@ -57,14 +56,14 @@ posted o k =
 abbrev waited : Call
 waited =
     Call.receive 1
-    (receiveCodec .put (replicate 40 0) 0
-    (record { wr = 9; count = 1; address0 = 4097; length0 = 3; key0 = 257; address1 = 0; length1 = 0; key1 = 0 }))
+    (encode receiveCodec (replicate 40 0) 0
+    (record { wr = 9; count = 1; first = record { address = 4097; length = 3; key = 257 }; second = record { address = 0; length = 0; key = 0 } }))
 
 -- a domain, a completion queue, two regions of 4 bytes with the keys 1 and 257, and two queue pairs that are joined
 abbrev setup : List Call
 setup =
     control (command 4 0) ∷
-    control (numberCodec .put (command 2 4) 2 8) ∷
+    control (encode numberCodec (command 2 4) 2 8) ∷
     registered 0 100 ∷
     registered 4 4096 ∷
     created ∷
@@ -80,7 +79,7 @@ setup =
 abbrev says : Log → Call → Bool
 says l (Call.reset n) = true
 says l (Call.control k a) = true
-says l (Call.send q x m) = judge l q (requestOf x)
+says l (Call.send q x m) = judge l (record { qpn = q; request = requestOf x })
 says l (Call.receive q x) = true
 says l (Call.flush q) = true
 says l (Call.poll n b) = true
@@ -89,7 +88,7 @@ unfoldable pub run : Card → Log → List Call → List (Answer × (List ℕ ×
 run c l [] = []
 run c l (k ∷ ks) =
     let r = step c k in
-    (r .answer, (r .memory, says l k)) ∷ run (r .card) (fed k (r .answer) (r .buffer) l) ks
+    (r .answer, (r .memory, says l k)) ∷ run (r .card) (fed l k (r .answer) (r .buffer)) ks
 
 pub works : drop 11 (run (fresh 8) [] (setup ++ (posted 0 257 ∷ posted 2 0 ∷ waited ∷ posted 2 0 ∷ posted 4 257 ∷ posted 0 258 ∷ [])))
     ≡ (Done 0, (1 ∷ 2 ∷ 3 ∷ 4 ∷ 2 ∷ 3 ∷ 7 ∷ 8 ∷ [], true))
@@ -99,37 +98,10 @@ pub works : drop 11 (run (fresh 8) [] (setup ++ (posted 0 257 ∷ posted 2 0 ∷
     ∷ (Done 0, (1 ∷ 5 ∷ 6 ∷ 4 ∷ 5 ∷ 6 ∷ 7 ∷ 8 ∷ [], true))
     ∷ (Done 8, (1 ∷ 2 ∷ 3 ∷ 4 ∷ 5 ∷ 6 ∷ 7 ∷ 8 ∷ [], false))
     ∷ []
-unfolding run fieldsAt putFields leAt putLe rows rowsFrom lowest lowestFrom anyBelow commandOf dataSize numberCodec registerCodec createQpCodec modifyQpCodec sendCodec sgeCodec sendChecks receiveChecks receiveSges sendSge inlineBytes inlineLength all stored requestOf receiveIn receiveOf range sgeBytes sgeTotal total ownBytes farBytes byteOf message delivered permits permitsAll place lookup covers commandChecks commandAck commandEffect deliveryChecks sendStatus sendPuts putAll sendQps sendEffect sendMemory joinChecks joined flushChecks flushed pollChecks polled checks resetChecks controlChecks bufferChecks statusOf effect memoryAfter bufferAfter step fed ackData judge passes placed peerNo oldestAt waiting standing domain peer accepted taken
+unfolding run fieldsAt putFields leAt putLe rows rowsFrom lowest lowestFrom anyBelow commandOf dataSize numberCodec registerCodec createQpCodec modifyQpCodec sendCodec sgeCodec receiveCodec completionCodec sendChecks receiveChecks receiveSges receiveOf sendSge inlineBytes inlineLength all stored requestOf receiveIn range sgeBytes sgeTotal total ownBytes farBytes byteOf message delivered permits permitsAll place lookup covers commandChecks commandAck commandEffect deliveryChecks sendStatus sendPuts putAll sendQps sendEffect sendMemory joinChecks joined flushChecks flushed pollChecks polled checks resetChecks controlChecks bufferChecks statusOf effect memoryAfter bufferAfter step fed ackData judge nearPasses farPasses near far passes filled waiting standing told domain peer accepted taken
 works = refl
 
--- ---- the layouts, byte by byte
-
--- "Class byte 6, command byte, data": pdn, access, start, length, virt
-abbrev registerBytes : List ℕ
-registerBytes =
-    6 ∷ 7 ∷ 1 ∷ 2 ∷ 3 ∷ 4 ∷ 7 ∷ 0 ∷ 0 ∷ 0 ∷ 5 ∷ 0 ∷ 0 ∷ 0 ∷ 0 ∷ 0 ∷ 0 ∷ 1 ∷ 6 ∷ 0 ∷ 0 ∷ 0 ∷ 0 ∷ 0 ∷ 0 ∷ 2 ∷ 7 ∷ 0 ∷ 0 ∷ 0 ∷ 0 ∷ 0 ∷ 0 ∷ 3 ∷ []
-
-pub register-read : commandOf registerBytes
-    ≡ Command.register (record { pd = 67305985; access = 7; start = 5 + 2 ^ 56; length = 6 + 2 * 2 ^ 56; virt = 7 + 3 * 2 ^ 56 })
-unfolding fieldsAt leAt commandOf numberCodec registerCodec createQpCodec modifyQpCodec
-register-read = refl
-
--- one number
-pub number-read : commandOf (6 ∷ 2 ∷ 1 ∷ 2 ∷ 3 ∷ 4 ∷ []) ≡ Command.createCq 67305985
-unfolding fieldsAt leAt commandOf numberCodec registerCodec createQpCodec modifyQpCodec
-number-read = refl
-
--- pdn, type, signal, 2 ignored, send cqn, receive cqn
-pub create-read : commandOf (6 ∷ 9 ∷ 1 ∷ 0 ∷ 0 ∷ 0 ∷ 2 ∷ 3 ∷ 99 ∷ 99 ∷ 4 ∷ 0 ∷ 0 ∷ 0 ∷ 5 ∷ 0 ∷ 0 ∷ 0 ∷ [])
-    ≡ Command.createQp (record { pd = 1; kind = 2; signal = 3; scq = 4; rcq = 5 })
-unfolding fieldsAt leAt commandOf numberCodec registerCodec createQpCodec modifyQpCodec
-create-read = refl
-
--- qpn, mask, state, 3 padding bytes, destination
-pub modify-read : commandOf (6 ∷ 10 ∷ 1 ∷ 0 ∷ 0 ∷ 0 ∷ 1 ∷ 128 ∷ 0 ∷ 0 ∷ 2 ∷ 3 ∷ 4 ∷ 5 ∷ 6 ∷ 0 ∷ 0 ∷ 0 ∷ [])
-    ≡ Command.modifyQp (record { qpn = 1; mask = 32769; state = 2; pad0 = 3; pad1 = 4; pad2 = 5; dest = 6 })
-unfolding fieldsAt leAt commandOf numberCodec registerCodec createQpCodec modifyQpCodec
-modify-read = refl
+-- ---- what calls leave in their buffers, byte by byte
 
 -- wr_id at 0, opcode 8, flags 9, immediate 12, remote address 16, remote key 24, inline bytes 48, piece count 560, one piece at 576
 abbrev sendBytes : List ℕ
@@ -151,26 +123,6 @@ pub send-read : requestOf sendBytes
     }
 unfolding fieldsAt leAt rows rowsFrom sendCodec sgeCodec sendSge inlineBytes inlineLength requestOf
 send-read = refl
-
--- two pieces: address 8, length 4, key 4
-abbrev pieces : List ℕ
-pieces =
-    1 ∷ 0 ∷ 0 ∷ 0 ∷ 0 ∷ 0 ∷ 0 ∷ 2 ∷ 3 ∷ 0 ∷ 0 ∷ 0 ∷ 4 ∷ 0 ∷ 0 ∷ 0 ∷
-    5 ∷ 0 ∷ 0 ∷ 0 ∷ 0 ∷ 0 ∷ 0 ∷ 6 ∷ 7 ∷ 0 ∷ 0 ∷ 0 ∷ 8 ∷ 0 ∷ 0 ∷ 0 ∷ []
-
-abbrev pieces-are : List Sge
-pieces-are = record { address = 1 + 2 * 2 ^ 56; length = 3; key = 4 } ∷ record { address = 5 + 6 * 2 ^ 56; length = 7; key = 8 } ∷ []
-
--- "pieces from 576"
-pub pieces-read : rows 2 (sendSge (replicate 576 99 ++ pieces)) ≡ pieces-are
-unfolding fieldsAt leAt rows rowsFrom sgeCodec sendSge
-pieces-read = refl
-
--- wr_id 0, count 8, "pieces from 24"
-pub receive-read : receiveIn (1 ∷ 0 ∷ 0 ∷ 0 ∷ 0 ∷ 0 ∷ 0 ∷ 2 ∷ 2 ∷ 0 ∷ 0 ∷ 0 ∷ (replicate 12 99 ++ pieces))
-    ≡ record { wr = 1 + 2 * 2 ^ 56; sges = pieces-are }
-unfolding fieldsAt leAt within clear apart receiveSges receiveIn receiveOf
-receive-read = refl
 
 -- wr_id 0, count 8, pieces from 24
 abbrev receiveBytes : List ℕ
@@ -201,5 +153,5 @@ pub polled-bytes :
     ∷ (1 ∷ 0 ∷ 0 ∷ 0 ∷ 0 ∷ 0 ∷ 0 ∷ 2 ∷ 0 ∷ 3 ∷ 0 ∷ 0 ∷ 2 ∷ 0 ∷ 0 ∷ 0 ∷ 4 ∷ 5 ∷ 6 ∷ 7 ∷ 1 ∷ 0 ∷ 0 ∷ 0 ∷ 99 ∷ [])
     ∷ (7 ∷ 0 ∷ 0 ∷ 0 ∷ 0 ∷ 0 ∷ 0 ∷ 0 ∷ 8 ∷ 1 ∷ 0 ∷ 0 ∷ 0 ∷ 0 ∷ 0 ∷ 0 ∷ 0 ∷ 0 ∷ 0 ∷ 0 ∷ 0 ∷ 0 ∷ 0 ∷ 0 ∷ 99 ∷ [])
     ∷ []
-unfolding buffers fieldsAt putFields leAt putLe rows rowsFrom lowest lowestFrom anyBelow commandOf dataSize numberCodec registerCodec createQpCodec modifyQpCodec sendCodec sgeCodec sendChecks receiveChecks receiveSges sendSge inlineBytes inlineLength all stored requestOf receiveIn receiveOf range sgeBytes sgeTotal total ownBytes farBytes byteOf message delivered permits permitsAll place lookup covers commandChecks commandAck commandEffect deliveryChecks sendStatus sendPuts putAll sendQps sendEffect sendMemory joinChecks joined flushChecks flushed pollChecks polled checks resetChecks controlChecks bufferChecks statusOf effect memoryAfter bufferAfter step
+unfolding buffers fieldsAt putFields leAt putLe rows rowsFrom lowest lowestFrom anyBelow commandOf dataSize numberCodec registerCodec createQpCodec modifyQpCodec sendCodec sgeCodec receiveCodec completionCodec sendChecks receiveChecks receiveSges receiveOf sendSge inlineBytes inlineLength all stored requestOf receiveIn range sgeBytes sgeTotal total ownBytes farBytes byteOf message delivered permits permitsAll place lookup covers commandChecks commandAck commandEffect deliveryChecks sendStatus sendPuts putAll sendQps sendEffect sendMemory joinChecks joined flushChecks flushed pollChecks polled checks resetChecks controlChecks bufferChecks statusOf effect memoryAfter bufferAfter step
 polled-bytes = refl

@@ -7,7 +7,7 @@ pub mod Demand3
 pub mod Run
 pub mod Bytes
 pub mod Apart
-pub mod Exported
-pub mod Example
 pub mod Count
+pub mod Dropped
 pub mod Whole
+pub mod Example

@@ -8,12 +8,15 @@ use native.Mathlib.Omega.{arith}
 use lib.Dec.{eqb}
 use lib.ListN.{length, drop, length-append}
 use lib.Seq.{drop-append-le}
-use Rattle.wire.specs.Slots.{split, same}
+use Rattle.wire.proofs.SlotLaws.{split, same}
 use Rattle.tables.specs.Card.{Qp, Receive, tail}
-use Rattle.rules.specs.Lists.{isSome, isEmpty}
-use Rattle.rules.specs.Send.{errorIf, consumeIf}
-use Rattle.judge.specs.Log.{Log}
-use Rattle.judge.specs.Judge.{domain, peer, accepted, taken}
+use Rattle.tables.specs.declared.CreateQp.{CreateQp}
+use Rattle.tables.specs.declared.ModifyQp.{ModifyQp}
+use Rattle.rules.specs.Lists.{isSome, isEmpty, when}
+use Rattle.rules.specs.Touch.{Request}
+use Rattle.rules.specs.Send.{errorIf, consumeIf, consumes}
+use Rattle.judge.specs.Log.{Log, PairNote}
+use Rattle.judge.specs.Judge.{domain, domainBy, peer, peerBy, accepted, acceptedBy, taken, takenBy}
 
 -- all that the log says of one queue pair
 pub record Said : Type 0 where
@@ -25,6 +28,16 @@ pub record Said : Type 0 where
 abbrev pub said : Log → ℕ → Said
 said l q = record { domain = domain l q; peer = peer l q; accepted = accepted l q; taken = taken l q }
 
+-- the same after one note more, its own or one of a queue pair whose peer it then was
+abbrev pub saidBy : PairNote → (own named : Bool) → Said → Said
+saidBy n own named v =
+    record {
+      domain = when own (domainBy n) (v .domain);
+      peer = when own (peerBy n) (v .peer);
+      accepted = when own (acceptedBy n) (v .accepted);
+      taken = takenBy n own named (v .taken);
+    }
+
 -- the fields of a live queue pair agree with it
 pub record Knows (pd : ℕ) (dest : Option ℕ) (ws : List Receive) (v : Said) : Type 0 where
   pub domain : v .domain ≡ some pd
@@ -35,14 +48,14 @@ pub record Knows (pd : ℕ) (dest : Option ℕ) (ws : List Receive) (v : Said) :
 abbrev pub Pair : Qp → Said → Type 0
 Pair s v = s .live ≡ true → Knows (s .pd) (s .dest) (s .waiting) v
 
--- a queue pair that is created or moved to 0
-pub begins : (p : ℕ) (o : Option ℕ) → Knows p none [] (record { domain = some p; peer = o; accepted = []; taken = 0 })
-begins p o = record { domain = refl; peer = λ h. absurd (false≢true h); waits = refl; within = omega arith }
+-- a queue pair is created
+pub begins : (r : CreateQp) (named : Bool) (v : Said) → Knows (r .pd) none [] (saidBy (PairNote.created r) true named v)
+begins r named v = record { domain = refl; peer = λ h. absurd (false≢true h); waits = refl; within = omega arith }
 
 -- a receive joins
-pub joins : {p : ℕ} {d : Option ℕ} {ws : List Receive} {v : Said} (w : Receive) → Knows p d ws v →
-    Knows p d (ws ++ (w ∷ [])) (record { domain = v .domain; peer = v .peer; accepted = v .accepted ++ (w ∷ []); taken = v .taken })
-joins {v} w k =
+pub joins : {p : ℕ} {d : Option ℕ} {ws : List Receive} {v : Said} (w : Receive) (named : Bool) → Knows p d ws v →
+    Knows p d (ws ++ (w ∷ [])) (saidBy (PairNote.posted w 0) true named v)
+joins {v} w named k =
     record {
       domain = k .domain;
       peer = k .peer;
@@ -65,6 +78,14 @@ drop-some (suc n) (x ∷ xs) e = omega (arith, drop-some n xs e)
 abbrev pub took : Bool → Said → Said
 took b v = record { domain = v .domain; peer = v .peer; accepted = v .accepted; taken = cond b (suc (v .taken)) (v .taken) }
 
+pub said-flush : (own named : Bool) (v : Said) → took own v ≡ saidBy PairNote.flushed own named v
+said-flush true named v = refl
+said-flush false named v = refl
+
+pub said-sent : (r : Request) (s : ℕ) (own named : Bool) (v : Said) → took (named && consumes (r .opcode) s) v ≡ saidBy (PairNote.sent r s) own named v
+said-sent r s true named v = refl
+said-sent r s false named v = refl
+
 -- the oldest receive leaves
 leaves : {p : ℕ} {d : Option ℕ} {ws : List Receive} {v : Said} → isEmpty ws ≡ false → Knows p d ws v → Knows p d (tail ws) (took true v)
 leaves {v} h k =
@@ -75,13 +96,31 @@ leaves {v} h k =
       within = drop-some (v .taken) (v .accepted) (rw (← k .waits) h);
     }
 
--- a move to the state t, over the tests t is 0 and t is 2
-pub moves : {p : ℕ} {o : Option ℕ} {ws : List Receive} {v : Said} (d : ℕ) (z r : Bool) → Knows p o ws v →
-    Knows p (cond z none (cond r (some d) o)) (cond z [] ws)
-    (record { domain = v .domain; peer = cond r (some d) (v .peer); accepted = cond z [] (v .accepted); taken = cond z 0 (v .taken) })
-moves d true r k = record { domain = k .domain; peer = λ h. absurd (false≢true h); waits = refl; within = omega arith }
-moves d false true k = record { domain = k .domain; peer = λ h. refl; waits = k .waits; within = k .within }
-moves d false false k = k
+-- a move, over the tests that its state is 0 and that it is 2
+pub moves : {p : ℕ} {o : Option ℕ} {ws : List Receive} {v : Said} (r : ModifyQp) (named : Bool) → Knows p o ws v →
+    Knows p (cond (eqb (r .state) 0) none (cond (eqb (r .state) 2) (some (r .dest)) o)) (cond (eqb (r .state) 0) [] ws)
+    (saidBy (PairNote.changed r) true named v)
+moves {o} {ws} {v} r named k =
+    record {
+      domain = k .domain;
+      peer = peer (eqb (r .state) 0) (eqb (r .state) 2);
+      waits = waits (eqb (r .state) 0);
+      within = within (eqb (r .state) 0);
+    }
+  where
+    peer : (z t : Bool) → isSome (cond z none (cond t (some (r .dest)) o)) ≡ true →
+        cond t (some (r .dest)) (v .peer) ≡ cond z none (cond t (some (r .dest)) o)
+    peer true t h = absurd (false≢true h)
+    peer false true h = refl
+    peer false false h = k .peer h
+
+    waits : (z : Bool) → cond z [] ws ≡ drop (cond z 0 (v .taken)) (cond z [] (v .accepted))
+    waits true = refl
+    waits false = k .waits
+
+    within : (z : Bool) → cond z 0 (v .taken) ≤ length (cond z [] (v .accepted))
+    within true = omega arith
+    within false = k .within
 
 and-false : (b : Bool) → b && false ≡ false
 and-false true = refl
@@ -100,9 +139,9 @@ module _ (qp : ℕ → Qp) (v : ℕ → Said) (agree : (j : ℕ) → Pair (qp j)
   pub takes-one : isEmpty (qp q .waiting) ≡ false → (j : ℕ) → Pair (consumeIf true q qp j) (took (eqb q j) (v j))
   takes-one h = split q _ (rw same (λ e. leaves h (agree q e))) (λ j e. rw e (agree j))
 
-  pub consumes : (b : Bool) → (b ≡ true → isEmpty (qp q .waiting) ≡ false) → (j : ℕ) → Pair (consumeIf b q qp j) (took (eqb q j && b) (v j))
-  consumes false h j = rw (and-false (eqb q j)) (agree j)
-  consumes true h j = rw (and-true (eqb q j)) (takes-one (h refl) j)
+  pub consumes-if : (b : Bool) → (b ≡ true → isEmpty (qp q .waiting) ≡ false) → (j : ℕ) → Pair (consumeIf b q qp j) (took (eqb q j && b) (v j))
+  consumes-if false h j = rw (and-false (eqb q j)) (agree j)
+  consumes-if true h j = rw (and-true (eqb q j)) (takes-one (h refl) j)
 
 pub error-waiting : (b : Bool) (q : ℕ) (qp : ℕ → Qp) (j : ℕ) → errorIf b q qp j .waiting ≡ qp j .waiting
 error-waiting false q qp j = refl

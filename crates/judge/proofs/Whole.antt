@@ -1,39 +1,59 @@
--- Demand 3 over the lent state. Assumes nothing.
-use mathlib.Core.Path.{_≡_}
+-- Demand 3 over the lent state, of calls that meet their contract and of the exported functions. Assumes nothing.
+use mathlib.Core.Path.{_≡_, sym, ap, subst, _∙_}
 use mathlib.Core.Bool.{true}
 use mathlib.Core.List.{List}
 use Prim.Native.Nat.{ℕ}
 use lib.Dec.{eqb}
 use lib.ListN.{length}
 use borrow.Author.Tests.{eq-eqb}
-use Rattle.tables.specs.Accept.{accepts}
-use Rattle.tables.specs.Accepted.{accepted}
-use Rattle.tables.specs.Image.{card}
-use Rattle.tables.specs.Layout.{image}
-use Rattle.judge.specs.Demand3.{Correct, Bytewise}
+use Rattle.validate.specs.Accept.{accepts}
+use Rattle.validate.proofs.AcceptedLaws.{accepted}
+use Rattle.tables.specs.State.{card}
+use Rattle.tables.specs.Layout.{stateSize}
+use Rattle.rules.specs.Answer.{answerIn}
+use Rattle.rules.specs.Call.{leaving}
+use Rattle.rules.specs.Calls.{owed, Meets}
+use Rattle.rules.proofs.Answers.{code-back}
+use Rattle.rules.proofs.Exported.{met}
+use Rattle.judge.specs.Demand3.{Seen, Correct, Bytewise}
 use Rattle.judge.specs.Apart.{Apart}
-use Rattle.judge.specs.Whole.{Whole}
+use Rattle.judge.specs.Count.{Puts}
+use Rattle.judge.specs.Dropped.{Gone, Loses, Fruitless}
+use Rattle.judge.specs.Whole.{Met, Whole, FromC}
 use Rattle.judge.proofs.Demand3.{correct}
-use Rattle.judge.proofs.Run.{every, resumed, steady}
+use Rattle.judge.proofs.Run.{of-cards, every, every-work, resumed, steady}
+use Rattle.judge.proofs.Dropped.{fruitless, stays-held}
 use Rattle.judge.proofs.Bytes.{bytewise}
 use Rattle.judge.proofs.Apart.{apart}
-use Rattle.judge.proofs.Exported.{linked, of-exports}
-use Rattle.judge.proofs.Count.{puts-are, counted}
+use Rattle.judge.proofs.Count.{call-puts-by, counted}
 
-accepted-length : (l : List ℕ) → accepts l ≡ true → eqb (length l) image ≡ true
-accepted-length l e = eq-eqb (length l) image (accepted l e .sized)
+accepted-length : (l : List ℕ) → accepts l ≡ true → eqb (length l) stateSize ≡ true
+accepted-length l e = eq-eqb (length l) stateSize (accepted l e .sized)
 
-pub whole : Whole
-whole = record {
-  judged = every card accepts Correct correct;
-  bytes = every card accepts Bytewise bytewise;
-  apart = every card accepts Apart apart;
-  resumed = resumed card accepts;
-  steady = steady card accepts accepted-length;
-  put = puts-are;
-  counted = counted card accepts;
-  links = linked;
-  exported = of-exports Correct correct;
-  exported-bytes = of-exports Bytewise bytewise;
-  exported-apart = of-exports Apart apart;
-}
+-- of all lists of calls that meet their contract,
+pub of-all : (Made : (st : List ℕ) → Seen → Type 0) → ((st : List ℕ) (x : Seen) → Made st x → Met card accepts st x) → Whole Made
+of-all Made met =
+    record {
+      judged = every-work Made card accepts met Correct correct;
+      bytes = every-work Made card accepts met Bytewise bytewise;
+      apart = every-work Made card accepts met Apart apart;
+      resumed = resumed Made card accepts met;
+      steady = steady Made card accepts met accepted-length;
+      gone = every Made card accepts met Gone (λ st l x a h. a .keys .gone);
+      fruitless = every Made card accepts met (Fruitless card) (of-cards card accepts Loses fruitless);
+      held = stays-held card accepts Made met;
+      put = every Made card accepts met (Puts card) (λ st l x a h. call-puts-by st l card accepts x h);
+      counted = counted Made card accepts met;
+    }
+
+pub whole : Whole (Met card accepts)
+whole = of-all (Met card accepts) (λ st x h. h)
+
+-- and of those that the exported functions make
+met-from-c : (st : List ℕ) (x : Seen) → FromC st x → Met card accepts st x
+met-from-c st x h =
+    let e : x .left .answer ≡ owed card accepts st (x .call) .answer = h .tells ∙ ap answerIn (h .exports .code) ∙ code-back card accepts st (x .call) in
+    subst (λ r. Meets card accepts st (x .call) (leaving r (x .left .state) (x .left .memory) (x .left .buffer))) (sym e) (met st (x .call) (h .exports))
+
+pub exported : Whole FromC
+exported = of-all FromC met-from-c

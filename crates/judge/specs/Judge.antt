@@ -1,18 +1,18 @@
 -- The judge, document 01. It sees the request and the log of the calls answered 0 before it, and no tables. What rights, domains,
 -- peers and waiting receives there are it reads for itself. Assumes nothing.
 use mathlib.Core.Bool.{Bool, true, false, cond, not, _&&_, _||_}
-use mathlib.Core.List.{List, [], _∷_, _++_}
+use mathlib.Core.List.{List, [], _∷_, _++_, map}
 use mathlib.Core.Option.{Option, none, some}
 use Prim.Native.Nat.{ℕ, suc, _+_, _/_, _%_}
 use lib.ListN.{getD, drop}
 use lib.Dec.{eqb, ltb, leb}
 use Rattle.wire.specs.Scan.{all}
-use Rattle.tables.specs.Limits.{qpCount, mostMessage}
+use Rattle.tables.specs.Limits.{mostMessage}
 use Rattle.tables.specs.Card.{Receive, noReceive}
 use Rattle.tables.specs.declared.Registration.{Registration}
-use Rattle.rules.specs.Lists.{names, orElse}
-use Rattle.rules.specs.Touch.{Request, Byte, total, sgeTotal, ownBytes, farBytes, byteOf, delivered}
-use Rattle.judge.specs.Log.{Log, Note, note}
+use Rattle.rules.specs.Lists.{names, when, stored}
+use Rattle.rules.specs.Touch.{Request, Byte, total, sgeTotal, ownBytes, farBytes, byteOf}
+use Rattle.judge.specs.Log.{Log, Note, KeyNote, PairNote}
 
 -- ---- "A key's registration, the latest that handed it out, stands unless a later deregister names its mrn."
 
@@ -24,83 +24,73 @@ abbrev pub unless : (mrn : ℕ) → Option Standing → Option Standing
 unless m none = none
 unless m (some h) = cond (eqb m (h .mrn)) none (some h)
 
-abbrev pub standingBy : Note → (k : ℕ) → Option Standing → Option Standing
-standingBy (Note.registered m lkey rkey g) k o = cond (eqb lkey k || eqb rkey k) (some (record { mrn = m; reg = g })) o
-standingBy (Note.deregistered m) k o = unless m o
-standingBy (Note.created q p) k o = o
-standingBy (Note.changed q t d) k o = o
-standingBy (Note.received q w) k o = o
-standingBy (Note.flushed q) k o = o
-standingBy (Note.sent q p s) k o = o
-standingBy Note.other k o = o
+abbrev pub standingBy : KeyNote → (k : ℕ) → Option Standing → Option Standing
+standingBy (KeyNote.registered m lkey rkey g) k o = cond (eqb lkey k || eqb rkey k) (some (record { mrn = m; reg = g })) o
+standingBy (KeyNote.deregistered m) k o = unless m o
 
 -- the registration of the key k, if it stands
 unfoldable pub standing : Log → (k : ℕ) → Option Standing
 standing [] k = none
-standing (e ∷ l) k = standingBy (note e) k (standing l k)
+standing (Note.ofKey n ∷ l) k = standingBy n k (standing l k)
+standing (Note.ofPair q n ∷ l) k = standing l k
+standing (Note.other ∷ l) k = standing l k
 
--- ---- "A QP's domain is in the latest create that gave its number"
+-- ---- facts of a queue pair
 
-abbrev pub domainBy : Note → (q : ℕ) → Option ℕ → Option ℕ
-domainBy (Note.registered m i j g) q o = o
-domainBy (Note.deregistered m) q o = o
-domainBy (Note.created x p) q o = cond (eqb x q) (some p) o
-domainBy (Note.changed x t d) q o = o
-domainBy (Note.received x w) q o = o
-domainBy (Note.flushed x) q o = o
-domainBy (Note.sent x p s) q o = o
-domainBy Note.other q o = o
+-- what its own notes tell: f is what one of them makes of what was told before it, a what is told before the first
+unfoldable pub told : {A : Type 0} → (f : PairNote → A → A) → (a : A) → Log → (q : ℕ) → A
+told f a [] q = a
+told f a (Note.ofKey n ∷ l) q = told f a l q
+told f a (Note.ofPair x n ∷ l) q = when (eqb x q) (f n) (told f a l q)
+told f a (Note.other ∷ l) q = told f a l q
+
+-- "A QP's domain is in the latest create that gave its number"
+abbrev pub domainBy : PairNote → Option ℕ → Option ℕ
+domainBy (PairNote.created r) o = some (r .pd)
+domainBy (PairNote.changed r) o = o
+domainBy (PairNote.posted w s) o = o
+domainBy PairNote.flushed o = o
+domainBy (PairNote.sent r s) o = o
 
 unfoldable pub domain : Log → (q : ℕ) → Option ℕ
-domain [] q = none
-domain (e ∷ l) q = domainBy (note e) q (domain l q)
+domain l q = told domainBy none l q
 
--- ---- "its peer is in its latest modify to state 2"
-
-abbrev pub peerBy : Note → (q : ℕ) → Option ℕ → Option ℕ
-peerBy (Note.registered m i j g) q o = o
-peerBy (Note.deregistered m) q o = o
-peerBy (Note.created x p) q o = o
-peerBy (Note.changed x t d) q o = cond (eqb x q && eqb t 2) (some d) o
-peerBy (Note.received x w) q o = o
-peerBy (Note.flushed x) q o = o
-peerBy (Note.sent x p s) q o = o
-peerBy Note.other q o = o
+-- "its peer is in its latest modify to state 2"
+abbrev pub peerBy : PairNote → Option ℕ → Option ℕ
+peerBy (PairNote.created r) o = o
+peerBy (PairNote.changed r) o = cond (eqb (r .state) 2) (some (r .dest)) o
+peerBy (PairNote.posted w s) o = o
+peerBy PairNote.flushed o = o
+peerBy (PairNote.sent r s) o = o
 
 unfoldable pub peer : Log → (q : ℕ) → Option ℕ
-peer [] q = none
-peer (e ∷ l) q = peerBy (note e) q (peer l q)
+peer l q = told peerBy none l q
 
--- ---- "Waiting on a QP: its post receives with status 0 since its creation and last move to 0,"
-
-abbrev pub acceptedBy : Note → (q : ℕ) → List Receive → List Receive
-acceptedBy (Note.registered m i j g) q ws = ws
-acceptedBy (Note.deregistered m) q ws = ws
-acceptedBy (Note.created x p) q ws = cond (eqb x q) [] ws
-acceptedBy (Note.changed x t d) q ws = cond (eqb x q && eqb t 0) [] ws
-acceptedBy (Note.received x w) q ws = cond (eqb x q) (ws ++ (w ∷ [])) ws
-acceptedBy (Note.flushed x) q ws = ws
-acceptedBy (Note.sent x p s) q ws = ws
-acceptedBy Note.other q ws = ws
+-- "Waiting on a QP: its post receives with status 0 since its creation and last move to 0,"
+abbrev pub acceptedBy : PairNote → List Receive → List Receive
+acceptedBy (PairNote.created r) ws = []
+acceptedBy (PairNote.changed r) ws = cond (eqb (r .state) 0) [] ws
+acceptedBy (PairNote.posted w s) ws = cond (eqb s 0) (ws ++ (w ∷ [])) ws
+acceptedBy PairNote.flushed ws = ws
+acceptedBy (PairNote.sent r s) ws = ws
 
 unfoldable pub accepted : Log → (q : ℕ) → List Receive
-accepted [] q = []
-accepted (e ∷ l) q = acceptedBy (note e) q (accepted l q)
+accepted l q = told acceptedBy [] l q
 
--- "less the oldest, one per flush of it and per post send whose peer it then was (opcode 1 to 3, status 0 or 7) in that time"
-abbrev pub takenCountBy : Note → (peers : ℕ → Option ℕ) → (q : ℕ) → ℕ → ℕ
-takenCountBy (Note.registered m i j g) f q n = n
-takenCountBy (Note.deregistered m) f q n = n
-takenCountBy (Note.created x p) f q n = cond (eqb x q) 0 n
-takenCountBy (Note.changed x t d) f q n = cond (eqb x q && eqb t 0) 0 n
-takenCountBy (Note.received x w) f q n = n
-takenCountBy (Note.flushed x) f q n = cond (eqb x q) (suc n) n
-takenCountBy (Note.sent x o s) f q n = cond (names (f x) q && ((leb 1 o && leb o 3) && (eqb s 0 || eqb s 7))) (suc n) n
-takenCountBy Note.other f q n = n
+-- "less the oldest, one per flush of it and per post send whose peer it then was (opcode 1 to 3, status 0 or 7) in that time": own says
+-- that the note is its own, named that it is one of a queue pair whose peer it then was
+abbrev pub takenBy : PairNote → (own named : Bool) → ℕ → ℕ
+takenBy (PairNote.created r) own named n = cond own 0 n
+takenBy (PairNote.changed r) own named n = cond (own && eqb (r .state) 0) 0 n
+takenBy (PairNote.posted w s) own named n = n
+takenBy PairNote.flushed own named n = cond own (suc n) n
+takenBy (PairNote.sent r s) own named n = cond (named && (leb 1 (r .opcode) && leb (r .opcode) 3 && (eqb s 0 || eqb s 7))) (suc n) n
 
 unfoldable pub taken : Log → (q : ℕ) → ℕ
 taken [] q = 0
-taken (e ∷ l) q = takenCountBy (note e) (peer l) q (taken l q)
+taken (Note.ofKey n ∷ l) q = taken l q
+taken (Note.ofPair x n ∷ l) q = takenBy n (eqb x q) (names (peer l x) q) (taken l q)
+taken (Note.other ∷ l) q = taken l q
 
 unfoldable pub waiting : Log → (q : ℕ) → List Receive
 waiting l q = drop (taken l q) (accepted l q)
@@ -121,16 +111,25 @@ grants a local-write = eqb (a % 2) 1
 grants a remote-write = eqb (a / 2 % 2) 1
 grants a remote-read = eqb (a / 4 % 2) 1
 
+-- whose use it is: a queue pair's, by the domain that it was created in
+pub record Party : Type 0 where
+  pub domain : Option ℕ
+
+-- the party of a queue pair; where there is none it has no domain, and no byte passes for it
+abbrev pub party : Log → Option ℕ → Party
+party l none = record { domain = none }
+party l (some q) = record { domain = domain l q }
+
 -- "A byte passes if its key's registration stands, names the QP's domain, grants the use and has virt ≤ address < virt + length."
-abbrev pub passesBy : Option Standing → (pd : Option ℕ) → Right → (a : ℕ) → Bool
-passesBy none o u a = false
-passesBy (some h) none u a = false
-passesBy (some h) (some p) u a =
-    eqb (h .reg .pd) p && grants (h .reg .access) u && leb (h .reg .virt) a && ltb a (h .reg .virt + h .reg .length)
+abbrev pub passesBy : Option Standing → Party → Right → (a : ℕ) → Bool
+passesBy none p u a = false
+passesBy (some h) p u a =
+    names (p .domain) (h .reg .pd) && grants (h .reg .access) u && leb (h .reg .virt) a && ltb a (h .reg .virt + h .reg .length)
 
-unfoldable pub passes : Log → (q : ℕ) → Right → Byte → Bool
-passes l q u b = passesBy (standing l (b .key)) (domain l q) u (b .address)
+unfoldable pub passes : Log → Party → Right → Byte → Bool
+passes l p u b = passesBy (standing l (b .key)) p u (b .address)
 
+-- 0 stands for no byte: nothing is read or written there, since only bytes that pass are
 abbrev pub placeBy : Option Standing → (a : ℕ) → ℕ
 placeBy none a = 0
 placeBy (some h) a = byteOf (h .reg) a
@@ -139,36 +138,88 @@ placeBy (some h) a = byteOf (h .reg) a
 unfoldable pub placed : Log → Byte → ℕ
 placed l b = placeBy (standing l (b .key)) (b .address)
 
--- ---- a work request
+-- ---- a work request, after the log l
 
--- "the judge finds the peer and, for opcodes 2 and 3, the peer's oldest waiting receive"
-unfoldable pub peerNo : Log → (q : ℕ) → ℕ
-peerNo l q = orElse (peer l q) qpCount
+pub record Work : Type 0 where
+  pub qpn : ℕ
+  pub request : Request
 
-unfoldable pub oldestAt : Log → (q : ℕ) → Receive
-oldestAt l q = getD (waiting l (peerNo l q)) 0 noReceive
+-- "the judge finds the peer and, for opcodes 2 and 3, the peer's oldest waiting receive"; where none waits, one with no entry, and a
+-- request that needs one is held
+abbrev pub oldestOn : Log → (peer : Option ℕ) → Receive
+oldestOn l none = noReceive
+oldestOn l (some d) = getD (waiting l d) 0 noReceive
 
--- "It touches the bytes of steps 3 to 5, for the QP and use there": the sender reads its pieces, or with opcode 4 writes them
+unfoldable pub filled : Log → Work → Receive
+filled l w = oldestOn l (peer l (w .qpn))
+
+-- "It touches the bytes of steps 3 to 5, for the QP and use there": one side of it
+pub record Side : Type 0 where
+  pub party : Party
+  pub right : Right
+  pub bytes : List Byte
+
+-- the sender reads its pieces, or with opcode 4 writes them
 abbrev pub ownRight : (opcode : ℕ) → Right
 ownRight o = cond (eqb o 4) local-write none-needed
+
+unfoldable pub near : Log → Work → Side
+near l w = record { party = party l (some (w .qpn)); right = ownRight (w .request .opcode); bytes = ownBytes (w .request) }
 
 -- the peer's bytes are written remotely by opcodes 0 and 1, read remotely by 4, and are its own receive's with 2 and 3
 abbrev pub farRight : (opcode : ℕ) → Right
 farRight o = cond (eqb o 4) remote-read (cond (leb o 1) remote-write local-write)
 
+unfoldable pub far : Log → Work → Side
+far l w =
+    record { party = party l (peer l (w .qpn)); right = farRight (w .request .opcode); bytes = farBytes (w .request) (filled l w) }
+
+abbrev pub allPass : Log → Side → Bool
+allPass l s = all (passes l (s .party) (s .right)) (s .bytes)
+
 -- "any receive it fills": that of opcodes 2 and 3
-abbrev pub fitsReceive : Log → (q : ℕ) → Request → Bool
-fitsReceive l q r = not (eqb (r .opcode) 2 || eqb (r .opcode) 3) || leb (total r) (sgeTotal (oldestAt l q .sges))
+abbrev pub fitsReceive : Log → Work → Bool
+fitsReceive l w =
+    not (eqb (w .request .opcode) 2 || eqb (w .request .opcode) 3) || leb (total (w .request)) (sgeTotal (filled l w .sges))
 
--- The verdict on the request r, posted to q after the log l: it "succeeds exactly when its length fits the message limit and any
--- receive it fills, and the judge passes every byte it touches".
-unfoldable pub judge : Log → (q : ℕ) → Request → Bool
-judge l q r =
-    leb (total r) mostMessage &&
-    fitsReceive l q r &&
-    all (passes l q (ownRight (r .opcode))) (ownBytes r) &&
-    all (passes l (peerNo l q) (farRight (r .opcode))) (farBytes r (oldestAt l q))
+unfoldable pub nearPasses : Log → Work → Bool
+nearPasses l w = leb (total (w .request)) mostMessage && allPass l (near l w)
 
--- the memory m after the request: "Success writes message bytes 0, 1, .. in turn .. with the values before the call"
-unfoldable pub judgedMemory : Log → (q : ℕ) → Request → (m : List ℕ) → List ℕ
-judgedMemory l q r m = cond (judge l q r) (delivered (placed l) r (oldestAt l q) m) m
+unfoldable pub farPasses : Log → Work → Bool
+farPasses l w = fitsReceive l w && allPass l (far l w)
+
+-- The verdict: the request "succeeds exactly when its length fits the message limit and any receive it fills, and the judge passes every
+-- byte it touches".
+unfoldable pub judge : Log → Work → Bool
+judge l w = nearPasses l w && farPasses l w
+
+-- whether the message is moved: where the request succeeds
+abbrev pub moves : Log → Work → Bool
+moves l w = judge l w
+
+-- ---- the message
+
+-- "sender's side to peer's (opcode 4: back)"
+unfoldable pub readSide : Log → Work → Side
+readSide l w = cond (eqb (w .request .opcode) 4) (far l w) (near l w)
+
+unfoldable pub writtenSide : Log → Work → Side
+writtenSide l w = cond (eqb (w .request .opcode) 4) (near l w) (far l w)
+
+-- where a message byte comes from: it is given as it is, or it stands in the memory
+pub data Source : Type 0 where
+  literal : (value : ℕ) → Source
+  byte : Byte → Source
+
+-- inline bytes are given by the request
+unfoldable pub sources : Log → Work → List Source
+sources l w = cond (w .request .inline) (map literal (w .request .bytes)) (map byte (readSide l w .bytes))
+
+-- the value of a message byte, by the memory m before the call
+abbrev pub valueOf : Log → (m : List ℕ) → Source → ℕ
+valueOf l m (literal v) = v
+valueOf l m (byte b) = getD m (placed l b) 0
+
+-- the memory after the request: "Success writes message bytes 0, 1, .. in turn .. with the values before the call"
+unfoldable pub judgedMemory : Log → Work → (m : List ℕ) → List ℕ
+judgedMemory l w m = cond (moves l w) (stored m (map (placed l) (writtenSide l w .bytes)) (map (valueOf l m) (sources l w))) m

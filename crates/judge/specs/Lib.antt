@@ -2,6 +2,6 @@ pub mod Log
 pub mod Judge
 pub mod Demand3
 pub mod Apart
-pub mod Exported
+pub mod Dropped
 pub mod Count
 pub mod Whole

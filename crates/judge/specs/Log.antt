@@ -1,18 +1,22 @@
 -- The judge's log, document 01, "The judge": it is fed each call's arguments, answer, status and ack data, and keeps the calls
 -- answered 0. Assumes nothing.
-use mathlib.Core.Bool.{Bool, true, false, cond}
 use mathlib.Core.List.{List, [], _∷_}
-use Prim.Native.Nat.{ℕ}
-use lib.Dec.{eqb}
-use lib.ListN.{getD, drop}
-use Rattle.wire.specs.Fields.{fieldsAt}
+use mathlib.Core.Option.{Option, none, some}
+use Prim.Native.Nat.{ℕ, _+_}
+use lib.ListN.{getD, take, drop}
+use Rattle.wire.specs.Codec.{fieldsAt}
 use Rattle.tables.specs.Card.{Receive}
-use Rattle.tables.specs.Records.{Command, commandOf, ackFields}
+use Rattle.tables.specs.Commands.{Command, commandOf, ackFields}
+use Rattle.tables.specs.declared.CreateQp.{CreateQp}
+use Rattle.tables.specs.declared.ModifyQp.{ModifyQp}
 use Rattle.tables.specs.declared.Registration.{Registration}
 use Rattle.rules.specs.declared.Answer.{Answer}
 use Rattle.rules.specs.declared.Answer.the-variants.{Done, Held, Refused}
 use Rattle.rules.specs.Call.{Call}
-use Rattle.rules.specs.Touch.{requestOf, receiveIn}
+use Rattle.rules.specs.Touch.{Request, requestOf, receiveIn}
+use Rattle.rules.specs.Lists.{maybe}
+
+-- ---- what the judge is fed
 
 -- a call answered 0, its status, and the numbers of its ack after the ack byte
 pub record Entry : Type 0 where
@@ -20,69 +24,100 @@ pub record Entry : Type 0 where
   pub status : ℕ
   pub ack : List ℕ
 
--- the latest call first
-abbrev pub Log : Type 0
-Log = List Entry
+-- how many numbers the ack of a command has: the column "Ack data"
+abbrev pub ackNumbers : Command → ℕ
+ackNumbers (Command.createCq n) = 1
+ackNumbers (Command.destroyCq n) = 0
+ackNumbers Command.createPd = 1
+ackNumbers (Command.destroyPd n) = 0
+ackNumbers (Command.register g) = 3
+ackNumbers (Command.deregister n) = 0
+ackNumbers (Command.createQp r) = 1
+ackNumbers (Command.modifyQp r) = 0
+ackNumbers (Command.destroyQp q) = 0
 
--- the ack data, read out of the answer buffer after the call by the layout that it was written by; fields that a command does not
--- write hold what was lent, and no note below reads them
-unfoldable pub ackData : List ℕ → List ℕ
-ackData b = drop 1 (fieldsAt ackFields b 0)
+-- they are read out of the answer buffer after the call, by the layout that they were written by
+unfoldable pub ackData : Command → (b : List ℕ) → List ℕ
+ackData k b = drop 1 (fieldsAt (take (1 + ackNumbers k) ackFields) b 0)
 
--- what the judge is fed of it: control commands have ack data, other calls have none
+-- control commands have ack data, other calls have none
 abbrev pub ackOf : Call → (b : List ℕ) → List ℕ
 ackOf (Call.reset n) b = []
-ackOf (Call.control k a) b = ackData b
+ackOf (Call.control k a) b = maybe [] (λ c. ackData c b) (commandOf k)
 ackOf (Call.send q x m) b = []
 ackOf (Call.receive q x) b = []
 ackOf (Call.flush q) b = []
 ackOf (Call.poll n a) b = []
 
--- a reset answered 0 begins a new log
-abbrev pub begins : Call → Bool
-begins (Call.reset n) = true
-begins (Call.control k a) = false
-begins (Call.send q x m) = false
-begins (Call.receive q x) = false
-begins (Call.flush q) = false
-begins (Call.poll n b) = false
+-- of the call k, done with the status s; b is the answer buffer after it
+abbrev pub entry : Call → (s : ℕ) → (b : List ℕ) → Entry
+entry k s b = record { call = k; status = s; ack = ackOf k b }
 
--- "It keeps the calls answered 0, in order, and no tables; any other call adds nothing." b is the answer buffer after the call.
-unfoldable pub fed : Call → Answer → (b : List ℕ) → Log → Log
-fed k (Done s) b l = cond (begins k) [] (record { call = k; status = s; ack = ackOf k b } ∷ l)
-fed k (Held c) b l = l
-fed k (Refused n) b l = l
+-- ---- what it keeps
 
--- ---- what a call answered 0 tells the judge, by the layouts of the records
+-- of a key
+pub data KeyNote : Type 0 where
+  registered : (mrn lkey rkey : ℕ) → Registration → KeyNote
+  deregistered : (mrn : ℕ) → KeyNote
 
+-- of a queue pair
+pub data PairNote : Type 0 where
+  created : CreateQp → PairNote
+  changed : ModifyQp → PairNote
+  -- a receive, and the status of its call
+  posted : Receive → (status : ℕ) → PairNote
+  flushed : PairNote
+  -- a work request and its status
+  sent : Request → (status : ℕ) → PairNote
+
+-- what a call answered 0 tells
 pub data Note : Type 0 where
-  registered : (mrn lkey rkey : ℕ) (reg : Registration) → Note
-  deregistered : (mrn : ℕ) → Note
-  created : (q pd : ℕ) → Note
-  changed : (q state dest : ℕ) → Note
-  received : (q : ℕ) (w : Receive) → Note
-  flushed : (q : ℕ) → Note
-  sent : (q opcode status : ℕ) → Note
+  ofKey : KeyNote → Note
+  ofPair : (q : ℕ) → PairNote → Note
   other : Note
 
+-- "It keeps the calls answered 0, in order, and no tables": what each of them told, the latest first
+abbrev pub Log : Type 0
+Log = List Note
+
 abbrev pub noteCommand : Command → (ack : List ℕ) → Note
-noteCommand (Command.createCq n) a = other
-noteCommand (Command.destroyCq n) a = other
-noteCommand Command.createPd a = other
-noteCommand (Command.destroyPd n) a = other
-noteCommand (Command.register g) a = registered (getD a 0 0) (getD a 1 0) (getD a 2 0) g
-noteCommand (Command.deregister n) a = deregistered n
-noteCommand (Command.createQp r) a = created (getD a 0 0) (r .pd)
-noteCommand (Command.modifyQp r) a = changed (r .qpn) (r .state) (r .dest)
-noteCommand (Command.destroyQp q) a = other
+noteCommand (Command.createCq n) a = Note.other
+noteCommand (Command.destroyCq n) a = Note.other
+noteCommand Command.createPd a = Note.other
+noteCommand (Command.destroyPd n) a = Note.other
+noteCommand (Command.register g) a = Note.ofKey (KeyNote.registered (getD a 0 0) (getD a 1 0) (getD a 2 0) g)
+noteCommand (Command.deregister n) a = Note.ofKey (KeyNote.deregistered n)
+noteCommand (Command.createQp r) a = Note.ofPair (getD a 0 0) (PairNote.created r)
+noteCommand (Command.modifyQp r) a = Note.ofPair (r .qpn) (PairNote.changed r)
+noteCommand (Command.destroyQp q) a = Note.other
 
 abbrev pub noteCall : Call → (status : ℕ) → (ack : List ℕ) → Note
-noteCall (Call.reset n) s a = other
-noteCall (Call.control k b) s a = noteCommand (commandOf k) a
-noteCall (Call.send q x m) s a = sent q (requestOf x .opcode) s
-noteCall (Call.receive q x) s a = cond (eqb s 0) (received q (receiveIn x)) other
-noteCall (Call.flush q) s a = flushed q
-noteCall (Call.poll n b) s a = other
+noteCall (Call.reset n) s a = Note.other
+noteCall (Call.control k b) s a = maybe Note.other (λ c. noteCommand c a) (commandOf k)
+noteCall (Call.send q x m) s a = Note.ofPair q (PairNote.sent (requestOf x) s)
+noteCall (Call.receive q x) s a = Note.ofPair q (PairNote.posted (receiveIn x) s)
+noteCall (Call.flush q) s a = Note.ofPair q PairNote.flushed
+noteCall (Call.poll n b) s a = Note.other
 
-abbrev pub note : Entry → Note
-note e = noteCall (e .call) (e .status) (e .ack)
+-- a call is seen with the log before it; these calls tell by themselves what they tell
+abbrev pub note : Log → Entry → Note
+note l e = noteCall (e .call) (e .status) (e .ack)
+
+-- a reset answered 0 begins a new log, with nothing under it; no other call does
+abbrev pub begins : Call → Option Log
+begins (Call.reset n) = some []
+begins (Call.control k a) = none
+begins (Call.send q x m) = none
+begins (Call.receive q x) = none
+begins (Call.flush q) = none
+begins (Call.poll n b) = none
+
+abbrev pub added : Option Log → Log → Entry → Log
+added none l e = note l e ∷ l
+added (some base) l e = base
+
+-- "any other call adds nothing"
+unfoldable pub fed : Log → Call → Answer → (b : List ℕ) → Log
+fed l k (Done s) b = added (begins k) l (entry k s b)
+fed l k (Held c) b = l
+fed l k (Refused n) b = l

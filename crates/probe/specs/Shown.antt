@@ -9,15 +9,15 @@ use lib.Dec.{eqb, ltb}
 use lib.ListN.{length, getD, take, drop, drop-of-length-le}
 use lib.Seq.{paste, take-all, take-length, drop-length}
 use borrow.Author.Tests.{ne-eqb}
-use Rattle.wire.specs.Fields.{Field, field, putFields}
+use Rattle.wire.specs.Codec.{Field, field, putFields}
 use Rattle.wire.specs.Rows.{rows}
-use Rattle.tables.specs.Accept.{accepts}
+use Rattle.validate.specs.Accept.{accepts}
 use Rattle.tables.specs.Card.{Card}
-use Rattle.tables.specs.Image.{card}
+use Rattle.tables.specs.State.{card}
 use Rattle.tables.specs.Limits.{mostSges}
-use Rattle.tables.specs.Search.{freePdn, freeCqn, freeMrn, freeQpn}
+use Rattle.validate.specs.Search.{freePdn, freeCqn, freeMrn, freeQpn}
 use Rattle.tables.specs.Records.{sgeCodec, sendSge}
-use Rattle.tables.specs.Reading.{headRead, numberRead, registerRead, createQpRead, modifyQpRead}
+use Rattle.tables.specs.Commands.{headRead, numberRead, registerRead, createQpRead, modifyQpRead}
 use Rattle.tables.specs.declared.CreateQpRead.{CreateQpRead}
 use Rattle.tables.specs.declared.CreateQpRead.the-variants as create
 use Rattle.tables.specs.declared.HeadRead.{HeadRead}
@@ -46,7 +46,7 @@ freeShown l t = cond (accepts l) (freeOf t (card l)) 255
 -- scatter/gather entries, one after the other from `at` on
 unfoldable pub putSges : List ℕ → ℕ → List Sge → List ℕ
 putSges o at [] = o
-putSges o at (p ∷ ps) = putSges (sgeCodec .put o at p) (at + 16) ps
+putSges o at (p ∷ ps) = putSges (encode sgeCodec o at p) (at + 16) ps
 
 -- ---- a send record
 

@@ -14,11 +14,12 @@ ghost use mathlib.Core.Path.{_≡_};
 ghost use mathlib.Core.List.{[], _∷_, _++_};
 ghost use Prim.Native.Nat.{_≤_, _+_, _*_};
 ghost use lib.ListN.{length, take, drop};
-ghost use Rattle.wire.specs.Fields.{putFields};
-ghost use Rattle.tables.specs.Accept.{accepts};
-ghost use Rattle.tables.specs.Image.{card};
-ghost use Rattle.tables.specs.Layout.{image};
-ghost use Rattle.tables.specs.Reading.{inlinePart, numberRead, registerRead, createQpRead, modifyQpRead};
+ghost use Rattle.wire.specs.Codec.{putFields};
+ghost use Rattle.validate.specs.Accept.{accepts};
+ghost use Rattle.tables.specs.State.{card};
+ghost use Rattle.tables.specs.Layout.{stateSize};
+ghost use Rattle.tables.specs.Reading.{inlinePart};
+ghost use Rattle.tables.specs.Commands.{numberRead, registerRead, createQpRead, modifyQpRead};
 ghost use Rattle.tables.specs.Records.{receiveRead, sendRead, sgeCodec};
 ghost use Rattle.probe.specs.Shown.{freeOf, freeShown, putSges, sendFields, sendValues, sendAnswer, sendOut, laid, receiveFields, receiveAnswer, receiveOut, bothSges, wordFields, toldAnswer, toldOut, numberTold, createPdTold, registerTold, createQpTold, modifyQpTold, isNumber, dataTold, commandTold};
 
@@ -31,7 +32,7 @@ pub extern "C" fn probe_accepts(state: &[u8]) -> bool
 }
 
 fn lowest_free(state: &[u8], table: u32) -> usize
-    requires { ⌜ length (now state) ≡ image ⌝ }
+    requires { ⌜ length (now state) ≡ stateSize ⌝ }
     ensures { λ r. ⌜ r ≡ freeOf table (card (now (state .entry))) ⌝ }
 {
     match table {
@@ -58,7 +59,7 @@ pub extern "C" fn probe_free(state: &[u8], table: u32) -> usize
 
 fn put_sge(out: &mut [u8], at: usize, p: Sge)
     requires { ⌜ at + 16 ≤ length (now out) ⌝ }
-    ensures { λ _. ⌜ now (out .exit) ≡ sgeCodec .put (now (out .entry)) at p ⌝ }
+    ensures { λ _. ⌜ now (out .exit) ≡ encode sgeCodec (now (out .entry)) at p ⌝ }
 {
     wire::put64(out, at, p.address);
     wire::put32(out, at + 8, p.length);

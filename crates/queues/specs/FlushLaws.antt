@@ -10,20 +10,21 @@ use lib.ListN.{length}
 use lib.Dec.{T, eqb, leb}
 use borrow.Author.Tests.{eq-eqb, ne-eqb, le-leb, lt-leb, lt-ltb, ltb-true}
 use Rattle.wire.specs.Checks.{refusal}
-use Rattle.wire.specs.Fields.{Fit}
+use Rattle.wire.specs.Codec.{Fit, Fits}
 use Rattle.wire.specs.Slots.{upd}
-use Rattle.wire.specs.Table.{Table, rowAt, putRow, finish, elsewhere, table-other}
-use Rattle.tables.specs.Accept.{accepts, cqLive, completionOk}
-use Rattle.tables.specs.Accepted.{Accepted, accepted}
-use Rattle.tables.specs.Card.{Card, Cq, Receive, withCq, withQp, withWaiting, tail}
-use Rattle.tables.specs.Image.{card, receiveOf}
-use Rattle.tables.specs.Layout.{image, cqT, entryT, qpT, waitingT, receiveT}
+use Rattle.wire.specs.Table.{Table, rowAt, putRow, finish}
+use Rattle.wire.proofs.TableLaws.{elsewhere, table-other}
+use Rattle.validate.specs.Accept.{accepts, completionOk}
+use Rattle.tables.specs.Card.{cqLive, Card, Cq, Receive, withCq, withQp, withWaiting, tail, receiveOf}
+use Rattle.validate.proofs.AcceptedLaws.{Accepted, accepted}
+use Rattle.tables.specs.State.{card}
+use Rattle.tables.specs.Layout.{stateSize, cqT, entryT, qpT, waitingT, receiveT}
 use Rattle.tables.specs.Limits.{cqCount, qpCount, mostPlaces, mostWaiting}
-use Rattle.tables.specs.Objects.{qp-live, qp-out, cq-live, cq-below}
+use Rattle.tables.proofs.ObjectLaws.{qp-live, qp-out, cq-live, cq-below}
 use Rattle.tables.specs.Queue.{pushPlace, longer, pushBytes, takeBytes}
-use Rattle.tables.specs.QueueLaws.{queue-sound, push-card, push-accepted}
-use Rattle.tables.specs.Stores.{Fits, receive-fits}
-use Rattle.tables.specs.WaitingLaws.{pair-sound, first-is, take-card, take-accepted}
+use Rattle.validate.proofs.QueueLaws.{queue-sound, push-card, push-accepted}
+use Rattle.tables.proofs.StoreLaws.{receive-fits}
+use Rattle.validate.proofs.WaitingLaws.{pair-sound, first-is, take-card, take-accepted}
 use Rattle.tables.specs.declared.Completion.{Completion}
 use Rattle.tables.specs.declared.QueueHead.{QueueHead}
 use Rattle.tables.specs.declared.QueuePair.{QueuePair}
@@ -163,7 +164,7 @@ module _ (l : List ℕ) (q : ℕ) where
               mid-live : rowAt qpT mid q .live ≡ 1
               mid-live = ap (λ (r : QueuePair). r .live) mid-pair ∙ live
 
-              pub flush-length : length mid ≡ image
+              pub flush-length : length mid ≡ stateSize
               flush-length = mid-accepted .sized
 
               pub flush-some : 0 < rowAt waitingT mid q .count

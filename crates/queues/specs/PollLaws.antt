@@ -9,16 +9,17 @@ use lib.ListN.{length}
 use lib.Dec.{eqb, ltb}
 use borrow.Author.Tests.{eq-eqb, ne-eqb, lt-ltb, le-ltb}
 use Rattle.wire.specs.Checks.{refusal}
-use Rattle.wire.specs.Fields.{within, clear, apart}
+use Rattle.wire.specs.Codec.{within, clear, apart}
 use Rattle.wire.specs.Table.{rowAt}
-use Rattle.tables.specs.Accept.{accepts, cqLive}
-use Rattle.tables.specs.Accepted.{Accepted, accepted}
-use Rattle.tables.specs.Image.{card}
+use Rattle.validate.specs.Accept.{accepts}
+use Rattle.tables.specs.Card.{cqLive}
+use Rattle.validate.proofs.AcceptedLaws.{Accepted, accepted}
+use Rattle.tables.specs.State.{card}
 use Rattle.tables.specs.Layout.{cqT, entryT}
 use Rattle.tables.specs.Limits.{cqCount, mostPlaces}
-use Rattle.tables.specs.Objects.{cq-live, cq-out}
+use Rattle.tables.proofs.ObjectLaws.{cq-live, cq-out}
 use Rattle.tables.specs.Queue.{popBytes}
-use Rattle.tables.specs.QueueLaws.{queue-sound, oldest-is, pop-card, pop-accepted}
+use Rattle.validate.proofs.QueueLaws.{queue-sound, oldest-is, pop-card, pop-accepted}
 use Rattle.tables.specs.Records.{completionCodec}
 use Rattle.tables.specs.declared.QueueHead.{QueueHead}
 use Rattle.rules.specs.Call.{Call}
@@ -76,7 +77,7 @@ module _ (l : List ℕ) (n : ℕ) (b : List ℕ) where
           poll-empty e = refused-owes l k 9 (order ∙ rw (ok, le-ltb (length b) 24 fits, live, none-unread, eq-eqb (h .count) 0 e))
 
           pub poll-done : (h .count ≡ 0 → ⊥) → (l′ b′ : List ℕ) → l′ ≡ popBytes l n
-              → b′ ≡ completionCodec .put b 0 (rowAt entryT l (mostPlaces * n + h .first)) → Owes l k (Done 0) l′ [] b′
+              → b′ ≡ encode completionCodec b 0 (rowAt entryT l (mostPlaces * n + h .first)) → Owes l k (Done 0) l′ [] b′
           unfolding statusOf memoryAfter bufferAfter effect effectBytes polled
           poll-done c l′ b′ s w =
               let a : Accepted l = accepted l ok in

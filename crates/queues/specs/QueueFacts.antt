@@ -7,14 +7,15 @@ use native.Mathlib.Omega.{arith}
 use lib.ListN.{length, length-map}
 use lib.Dec.{eqb, leb}
 use borrow.Author.Tests.{eq-eqb, ne-eqb}
-use Rattle.wire.specs.Ring.{ring-length}
+use Rattle.wire.proofs.RingLaws.{ring-length}
 use Rattle.wire.specs.Table.{rowAt}
-use Rattle.tables.specs.Accepted.{Accepted}
-use Rattle.tables.specs.Image.{card, posted, receiveOf, entriesAt, receivesAt, noCompletion, noRecord}
+use Rattle.validate.proofs.AcceptedLaws.{Accepted}
+use Rattle.tables.specs.State.{card, posted, receivesAt, noCompletion, noRecord, entriesAt}
+use Rattle.tables.specs.Card.{receiveOf}
 use Rattle.tables.specs.Layout.{cqT, qpT, waitingT}
 use Rattle.tables.specs.Limits.{cqCount, qpCount, mostPlaces, mostWaiting}
-use Rattle.tables.specs.Objects.{qp-live, qp-row}
-use Rattle.tables.specs.QueueLaws.{queue-is}
+use Rattle.tables.proofs.ObjectLaws.{qp-live, qp-row}
+use Rattle.validate.proofs.QueueLaws.{queue-is}
 use Rattle.tables.specs.declared.QueueHead.{QueueHead}
 use Rattle.tables.specs.declared.WaitingHead.{WaitingHead}
 use Rattle.rules.specs.Lists.{isEmpty}

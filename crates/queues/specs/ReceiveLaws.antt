@@ -7,19 +7,20 @@ use Prim.Native.Nat.{ℕ, _+_, _*_, _<_, _≤_}
 use lib.ListN.{length}
 use lib.Dec.{eqb, ltb, leb}
 use borrow.Author.Tests.{ne-eqb, lt-leb, le-leb, ltb-false}
-use Rattle.wire.specs.Checks.{refusal, passed}
-use Rattle.wire.specs.Fields.{fieldsAt, fieldsAt-fit}
+use Rattle.wire.specs.Checks.{refusal}
+use Rattle.wire.proofs.CheckLaws.{passed}
+use Rattle.wire.specs.Codec.{fieldsAt, Fits}
+use Rattle.wire.proofs.CodecLaws.{fieldsAt-fit}
 use Rattle.wire.specs.Table.{rowAt}
-use Rattle.tables.specs.Accept.{accepts, receiveOk}
-use Rattle.tables.specs.Accepted.{Accepted, accepted}
-use Rattle.tables.specs.Image.{card}
+use Rattle.validate.specs.Accept.{accepts, receiveOk}
+use Rattle.validate.proofs.AcceptedLaws.{Accepted, accepted}
+use Rattle.tables.specs.State.{card}
 use Rattle.tables.specs.Layout.{qpT, waitingT, receiveT}
 use Rattle.tables.specs.Limits.{qpCount, mostWaiting, mostReceiveSges}
-use Rattle.tables.specs.Objects.{qp-live, qp-out}
+use Rattle.tables.proofs.ObjectLaws.{qp-live, qp-out}
 use Rattle.tables.specs.Queue.{postBytes}
 use Rattle.tables.specs.Records.{receiveCodec, receiveChecks, receiveRead, receiveReadBy}
-use Rattle.tables.specs.Stores.{Fits}
-use Rattle.tables.specs.WaitingLaws.{post-card, post-accepted}
+use Rattle.validate.proofs.WaitingLaws.{post-card, post-accepted}
 use Rattle.tables.specs.declared.QueuePair.{QueuePair}
 use Rattle.tables.specs.declared.ReceiveRead.{ReceiveRead}
 use Rattle.tables.specs.declared.ReceiveRead.the-variants as read
@@ -87,15 +88,15 @@ module _ (l : List ℕ) (q : ℕ) (x : List ℕ) where
     pub receive-bad : (n : ℕ) → receiveRead x ≡ read.Refused n → Owes l k (Refused n) l [] []
     unfolding receiveRead receiveChecks
     receive-bad n e =
-        let r : ReceiveRecord = receiveCodec .read x 0 in
+        let r : ReceiveRecord = decode receiveCodec x 0 in
         let b = read-badly (ltb (length x) 24) (ltb mostReceiveSges (r .count)) (not (eqb (length x) (24 + 16 * r .count))) r n e in
         let f : refusal (receiveChecks x) ≡ some n = b .0 in
         rw (← (b .1)) (refused-owes l k n (order ∙ rw (ok, f)))
 
     module _ (w : ReceiveRecord) (well : receiveRead x ≡ read.Record w) where
-      both : (refusal (receiveChecks x) ≡ none) × (receiveCodec .read x 0 ≡ w)
+      both : (refusal (receiveChecks x) ≡ none) × (decode receiveCodec x 0 ≡ w)
       unfolding receiveRead
-      both = read-well (refusal (receiveChecks x)) (receiveCodec .read x 0) w well
+      both = read-well (refusal (receiveChecks x)) (decode receiveCodec x 0) w well
 
       w-fits : Fits receiveT w
       unfolding receiveT fieldsAt
@@ -105,7 +106,7 @@ module _ (l : List ℕ) (q : ℕ) (x : List ℕ) where
       unfolding receiveChecks
       w-ok =
           let p = passed (receiveChecks x) (both .0) in
-          rw (← (both .1)) (le-leb (receiveCodec .read x 0 .count) mostReceiveSges (ltb-false mostReceiveSges _ (p .1 .0)))
+          rw (← (both .1)) (le-leb (decode receiveCodec x 0 .count) mostReceiveSges (ltb-false mostReceiveSges _ (p .1 .0)))
 
       joins : refusal (owedChecks card accepts l k) ≡ refusal (joinChecks (card l) q)
       joins = order ∙ rw (ok, both .0)

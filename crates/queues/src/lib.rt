@@ -5,8 +5,6 @@ use rules::Cause;
 use tables::Completion;
 use tables::ReceiveRead;
 use tables::ReceiveRecord;
-use tables::accept;
-use tables::image;
 use tables::limits::CQ_COUNT;
 use tables::limits::ERROR;
 use tables::limits::FLUSHED;
@@ -18,13 +16,15 @@ use tables::limits::RESET;
 use tables::queue;
 use tables::records;
 use tables::reset as fresh;
+use tables::stateSize;
+use validate::accept;
 ghost use mathlib.Core.Path.{_≡_};
 ghost use mathlib.Core.Bool.{true};
 ghost use mathlib.Core.List.{[]};
 ghost use Prim.Native.Nat.{_≤_};
 ghost use lib.ListN.{length};
-ghost use Rattle.tables.specs.Accept.{accepts};
-ghost use Rattle.tables.specs.Layout.{image};
+ghost use Rattle.validate.specs.Accept.{accepts};
+ghost use Rattle.tables.specs.Layout.{stateSize};
 ghost use Rattle.rules.specs.Call.{Call};
 ghost use Rattle.rules.specs.Contract.{Owes};
 ghost use Rattle.queues.specs.ReceiveLaws.{Joins};
@@ -35,7 +35,7 @@ ghost use Rattle.queues.specs.ReceiveLaws.{Joins};
 pub fn reset(state: &mut [u8], memory: u64) -> Answer
     ensures { λ r. ⌜ Owes (now (state .entry)) (Call.reset memory) r (now (state .exit)) [] [] ⌝ }
 {
-    if state.len() != image::IMAGE {
+    if state.len() != rows::STATE_SIZE {
         return Answer::Refused(15);
     }
     if memory < 1 {
@@ -52,14 +52,14 @@ pub fn reset(state: &mut [u8], memory: u64) -> Answer
 
 // A poll of an accepted state into a buffer that has room.
 fn poll_queue(state: &mut [u8], cqn: u32, buffer: &mut [u8]) -> Answer
-    requires { ⌜ (accepts (now state) ≡ true) × (length (now state) ≡ image) × (24 ≤ length (now buffer)) ⌝ }
+    requires { ⌜ (accepts (now state) ≡ true) × (length (now state) ≡ stateSize) × (24 ≤ length (now buffer)) ⌝ }
     ensures { λ r. ⌜ Owes (now (state .entry)) (Call.poll cqn (now (buffer .entry))) r (now (state .exit)) [] (now (buffer .exit)) ⌝ }
 {
     let n = cqn as usize;
     if CQ_COUNT <= n {
         return Answer::Refused(2);
     }
-    let h = image::load_cq(state, n);
+    let h = rows::load_cq(state, n);
     if h.places == 0 {
         return Answer::Refused(2);
     }
@@ -79,7 +79,7 @@ pub fn poll(state: &mut [u8], cqn: u32, buffer: &mut [u8]) -> Answer
     if !accept::accepted(state) {
         return Answer::Refused(15);
     }
-    if buffer.len() < image::ENTRY_SIZE {
+    if buffer.len() < rows::ENTRY_SIZE {
         return Answer::Refused(12);
     }
     poll_queue(state, cqn, buffer)
@@ -89,21 +89,21 @@ pub fn poll(state: &mut [u8], cqn: u32, buffer: &mut [u8]) -> Answer
 
 // The receive of a record waits on a queue pair of an accepted state, behind the others.
 fn join(state: &mut [u8], qpn: u32, w: ReceiveRecord) -> Answer
-    requires { ⌜ (accepts (now state) ≡ true) × (length (now state) ≡ image) ⌝ }
+    requires { ⌜ (accepts (now state) ≡ true) × (length (now state) ≡ stateSize) ⌝ }
     ensures { λ r. ⌜ Joins (now (state .entry)) qpn w r (now (state .exit)) ⌝ }
 {
     let q = qpn as usize;
     if QP_COUNT <= q {
         return Answer::Refused(2);
     }
-    let p = image::load_qp(state, q);
+    let p = rows::load_qp(state, q);
     if p.live != 1 {
         return Answer::Refused(2);
     }
     if (p.state == RESET) | (p.state == ERROR) {
         return Answer::Refused(3);
     }
-    let h = image::load_waiting(state, q);
+    let h = rows::load_waiting(state, q);
     if MOST_WAITING <= h.count as usize {
         return Answer::Refused(8);
     }
@@ -128,26 +128,26 @@ pub fn post_receive(state: &mut [u8], qpn: u32, posted: &[u8]) -> Answer
 
 // A flush of an accepted state.
 fn flush_one(state: &mut [u8], qpn: u32) -> Answer
-    requires { ⌜ (accepts (now state) ≡ true) × (length (now state) ≡ image) ⌝ }
+    requires { ⌜ (accepts (now state) ≡ true) × (length (now state) ≡ stateSize) ⌝ }
     ensures { λ r. ⌜ Owes (now (state .entry)) (Call.flush qpn) r (now (state .exit)) [] [] ⌝ }
 {
     let q = qpn as usize;
     if QP_COUNT <= q {
         return Answer::Refused(2);
     }
-    let p = image::load_qp(state, q);
+    let p = rows::load_qp(state, q);
     if p.live != 1 {
         return Answer::Refused(2);
     }
     if p.state != ERROR {
         return Answer::Refused(3);
     }
-    let h = image::load_waiting(state, q);
+    let h = rows::load_waiting(state, q);
     if h.count == 0 {
         return Answer::Refused(9);
     }
     let n = p.rcq as usize;
-    let u = image::load_cq(state, n);
+    let u = rows::load_cq(state, n);
     if u.places <= u.count {
         return Answer::Held(Cause::Place);
     }

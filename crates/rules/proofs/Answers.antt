@@ -10,24 +10,29 @@ use lib.Dec.{eqb, leb}
 use lib.ListN.{set}
 use borrow.Author.Tests.{leb-true, le-leb, ne-eqb, eqb-true}
 use Rattle.wire.specs.Checks.{Check, _if_, refusal}
-use Rattle.wire.specs.Fields.{putFields}
+use Rattle.wire.specs.Codec.{putFields}
 use Rattle.wire.specs.Le.{putLe}
-use Rattle.wire.specs.Scan.{and-left, and-right, both-true, all}
-use Rattle.tables.specs.Accept.{accepts}
+use Rattle.wire.proofs.ScanLaws.{and-left, and-right, both-true}
+use Rattle.wire.specs.Scan.{all}
+use Rattle.validate.specs.Accept.{accepts}
 use Rattle.tables.specs.Card.{Card}
-use Rattle.tables.specs.Image.{card}
-use Rattle.tables.specs.Records.{Command, commandOf, sendChecks, receiveChecks, ackFields}
+use Rattle.tables.specs.State.{card}
+use Rattle.tables.specs.Limits.{mostMessage}
+use Rattle.tables.specs.Commands.{Command, commandOf, ackFields}
+use Rattle.tables.specs.Records.{sendChecks, receiveChecks}
 use Rattle.rules.specs.declared.Cause.the-variants.{Peer, Place}
 use Rattle.rules.specs.declared.Answer.the-variants.{Done, Held, Refused}
 use Rattle.rules.specs.Answer.{number, codeOf, answered, answerIn, isDone, isHeld, listed}
 use Rattle.rules.specs.Control.{commandChecks}
-use Rattle.rules.specs.Send.{deliveryChecks}
+use Rattle.rules.specs.Touch.{Request, requestOf, fills, total, sgeTotal, ownBytes, farBytes}
+use Rattle.rules.specs.Permit.{permitsAll}
+use Rattle.rules.specs.Send.{deliveryChecks, peerOf, takenBy, ownUse, farUse, statusBy, sendStatus}
 use Rattle.rules.specs.Queues.{joinChecks, flushChecks, pollChecks}
 use Rattle.rules.specs.Call.{Call, memoryOf}
 use Rattle.rules.proofs.Ranges.{all-split}
-use Rattle.rules.specs.Contract.{bytesBy, bytesAfter}
-use Rattle.rules.specs.Demand1.{bufferLeft, Unchanged, Demand1}
+use Rattle.rules.specs.Demand1.{bufferLeft, Returns, Demand1}
 use Rattle.rules.specs.Calls.{checks, resetChecks, controlChecks, bufferChecks, settled, step, statusOf, owed, owedChecks, usable, bufferRefused, Result}
+use Rattle.rules.specs.Lists.{maybe}
 
 -- ---- a fact of every test's number is one of the refusal's
 
@@ -42,17 +47,22 @@ first-with f (c ∷ cs) n p e = go (c .bad) (first-with f cs n (and-right (f (c 
 
 -- a fact of the six numbers that a command's tests have is one of each test
 module _ (f : ℕ → Bool) (four : f 4 ≡ true) (two : f 2 ≡ true) (eleven : f 11 ≡ true) (three : f 3 ≡ true) (ten : f 10 ≡ true) (eight : f 8 ≡ true) where
-  pub command-tests : (c : Card) (k : Command) → all (λ t. f (t .no)) (commandChecks c k) ≡ true
+  one-command : (c : Card) (k : Command) → all (λ t. f (t .no)) (commandChecks c k) ≡ true
   unfolding all commandChecks
-  command-tests c (Command.createCq n) = rw (four, eight)
-  command-tests c (Command.destroyCq n) = rw (two, ten)
-  command-tests c Command.createPd = rw eight
-  command-tests c (Command.destroyPd n) = rw (two, ten)
-  command-tests c (Command.register g) = rw (four, two, eleven, eight)
-  command-tests c (Command.deregister n) = rw two
-  command-tests c (Command.createQp r) = rw (four, two, eight)
-  command-tests c (Command.modifyQp r) = rw (four, two, three)
-  command-tests c (Command.destroyQp q) = rw two
+  one-command c (Command.createCq n) = rw (four, eight)
+  one-command c (Command.destroyCq n) = rw (two, ten)
+  one-command c Command.createPd = rw eight
+  one-command c (Command.destroyPd n) = rw (two, ten)
+  one-command c (Command.register g) = rw (four, two, eleven, eight)
+  one-command c (Command.deregister n) = rw two
+  one-command c (Command.createQp r) = rw (four, two, eight)
+  one-command c (Command.modifyQp r) = rw (four, two, three)
+  one-command c (Command.destroyQp q) = rw two
+
+  pub command-tests : (c : Card) (o : Option Command) → all (λ t. f (t .no)) (maybe [] (commandChecks c) o) ≡ true
+  unfolding all
+  command-tests c none = refl
+  command-tests c (some k) = one-command c k
 
 -- the tests' numbers stand in the table from 1 on and below 14
 abbrev within : ℕ → Bool
@@ -61,13 +71,13 @@ within n = leb 1 n && leb n 13
 abbrev fine : Check → Bool
 fine k = within (k .no)
 
-command-fine : (c : Card) (k : Command) → all fine (commandChecks c k) ≡ true
+command-fine : (c : Card) (o : Option Command) → all fine (maybe [] (commandChecks c) o) ≡ true
 command-fine = command-tests within refl refl refl refl refl refl
 
 checks-fine : (c : Card) (k : Call) → all fine (checks c k) ≡ true
 unfolding all checks resetChecks controlChecks bufferChecks sendChecks receiveChecks deliveryChecks joinChecks flushChecks pollChecks
 checks-fine c (Call.reset n) = refl
-checks-fine c (Call.control k a) = rw (all-split fine (controlChecks k a) (commandChecks c (commandOf k)), command-fine c (commandOf k))
+checks-fine c (Call.control k a) = rw (all-split fine (controlChecks k a) (maybe [] (commandChecks c) (commandOf k)), command-fine c (commandOf k))
 checks-fine c (Call.send q x m) = refl
 checks-fine c (Call.receive q x) = refl
 checks-fine c (Call.flush q) = refl
@@ -113,6 +123,34 @@ step-below c k = go (refusal (checks c k)) refl
     go none e = omega arith
     go (some n) e = rw (answered-number n) (refusal-within c k n e .1)
 
+-- ---- statuses
+
+steps-small : (fill short own fits far : Bool) → statusBy fill short own fits far ≤ 8
+steps-small fill false own fits far = omega arith
+steps-small fill true false fits far = omega arith
+steps-small true true true false far = omega arith
+steps-small true true true true true = omega arith
+steps-small true true true true false = omega arith
+steps-small false true true fits true = omega arith
+steps-small false true true fits false = omega arith
+
+send-small : (c : Card) (q : ℕ) (r : Request) → sendStatus c q r ≤ 8
+unfolding sendStatus
+send-small c q r =
+    steps-small (fills (r .opcode)) (leb (total r) mostMessage) (permitsAll c q (ownUse (r .opcode)) (ownBytes r))
+    (leb (total r) (sgeTotal (takenBy c q .sges)))
+    (permitsAll c (peerOf c q) (farUse (r .opcode)) (farBytes r (takenBy c q)))
+
+-- a status is a number of the list, of which 8 is the greatest
+pub status-small : (c : Card) (k : Call) → statusOf c k ≤ 8
+unfolding statusOf
+status-small c (Call.reset n) = omega arith
+status-small c (Call.control k a) = omega arith
+status-small c (Call.send q x m) = send-small c q (requestOf x)
+status-small c (Call.receive q x) = omega arith
+status-small c (Call.flush q) = omega arith
+status-small c (Call.poll n b) = omega arith
+
 -- ---- holds: steps 1 and 2 of a post send, and a flush without a place, are the only ones
 
 abbrev pub mayHold : Call → Bool
@@ -126,13 +164,13 @@ mayHold (Call.poll n b) = false
 abbrev plain : ℕ → Bool
 plain n = not (eqb n 5) && not (eqb n 6)
 
-command-plain : (c : Card) (k : Command) → all (λ t. plain (t .no)) (commandChecks c k) ≡ true
+command-plain : (c : Card) (o : Option Command) → all (λ t. plain (t .no)) (maybe [] (commandChecks c) o) ≡ true
 command-plain = command-tests plain refl refl refl refl refl refl
 
 checks-plain : (c : Card) (k : Call) → mayHold k ≡ false → all (λ t. plain (t .no)) (checks c k) ≡ true
 unfolding all checks resetChecks controlChecks bufferChecks receiveChecks joinChecks pollChecks
 checks-plain c (Call.reset n) e = refl
-checks-plain c (Call.control k a) e = rw (all-split (λ t. plain (t .no)) (controlChecks k a) (commandChecks c (commandOf k)), command-plain c (commandOf k))
+checks-plain c (Call.control k a) e = rw (all-split (λ t. plain (t .no)) (controlChecks k a) (maybe [] (commandChecks c) (commandOf k)), command-plain c (commandOf k))
 checks-plain c (Call.send q x m) e = absurd (true≢false e)
 checks-plain c (Call.receive q x) e = refl
 checks-plain c (Call.flush q) e = absurd (true≢false e)
@@ -221,13 +259,13 @@ module _ (cardOf : List ℕ → Card) (accepts : List ℕ → Bool) where
   code-refused : (n : ℕ) → 1 ≤ n → n ≤ 15 → answerIn (codeOf (answered 0 (some n))) ≡ answered 0 (some n)
   code-refused n h m =
       let e : codeOf (answered 0 (some n)) ≡ n = answered-code n in
-      let d : n / 256 ≡ 0 = omega arith in
+      let d : n / 256 % 256 ≡ 0 = omega arith in
       let w : n % 256 ≡ n = omega arith in
       rw (e, d, w, ne-eqb n 0 (omega arith))
 
-  code-done : (s : ℕ) → answerIn (codeOf (Done s)) ≡ Done s
-  code-done s =
-      let d : (0 + 256 * s) / 256 ≡ s = omega arith in
+  code-done : (s : ℕ) → s ≤ 8 → answerIn (codeOf (Done s)) ≡ Done s
+  code-done s h =
+      let d : (0 + 256 * s) / 256 % 256 ≡ s = omega arith in
       let w : (0 + 256 * s) % 256 ≡ 0 = omega arith in
       rw (w, d)
 
@@ -236,10 +274,10 @@ module _ (cardOf : List ℕ → Card) (accepts : List ℕ → Bool) where
     where
       go : (o : Option ℕ) → refusal (owedChecks cardOf accepts l k) ≡ o →
           answerIn (codeOf (settled o (cardOf l) k .answer)) ≡ settled o (cardOf l) k .answer
-      go none e = code-done (statusOf (cardOf l) k)
+      go none e = code-done (statusOf (cardOf l) k) (status-small (cardOf l) k)
       go (some n) e = let h = owed-within l k n e in code-refused n (h .0) (h .1)
 
--- ---- demand 1 over the lent state
+-- ---- demand 1, of the exported functions
 
 buffer-left : (n : ℕ) (k : Call) → bufferRefused n k ≡ bufferLeft n k
 buffer-left n (Call.reset k) = refl
@@ -249,22 +287,41 @@ buffer-left n (Call.receive q x) = refl
 buffer-left n (Call.flush q) = refl
 buffer-left n (Call.poll k b) = refl
 
-bytes-left : (l : List ℕ) (k : Call) → isDone (owed card accepts l k .answer) ≡ false → bytesAfter l k ≡ l
-bytes-left l k = go (refusal (owedChecks card accepts l k))
-  where
-    go : (o : Option ℕ) → isDone (settled o (card l) k .answer) ≡ false → bytesBy o l k ≡ l
-    go none d = absurd (true≢false d)
-    go (some n) d = refl
+module _ (l : List ℕ) (k : Call) (r : ℕ) (l′ m′ b′ : List ℕ) where
+  -- a call that is done
+  done-returns : (s : ℕ) → r ≡ codeOf (Done s) → Returns l k r l′ m′ b′
+  done-returns s e =
+      let z : r % 256 ≡ 0 = omega arith in
+      record {
+        answer = rw z;
+        status = λ h. absurd (h z);
+        state = λ h. absurd (h z);
+        memory = λ h. absurd (h z);
+        buffer = λ h. absurd (h z);
+      }
 
-unchanged : (l : List ℕ) (k : Call) → isDone (owed card accepts l k .answer) ≡ false → Unchanged l k
-unchanged l k d =
-    let u = owed-unchanged card accepts l k d in
-    record {
-      bytes = bytes-left l k d;
-      tables = u .card;
-      memory = u .memory;
-      buffer = u .buffer ∙ buffer-left (number (owed card accepts l k .answer)) k;
-    }
+  -- a call that is refused or held with n
+  refused-returns : (n : ℕ) → listed n ≡ true → r ≡ n → l′ ≡ l → m′ ≡ memoryOf k → b′ ≡ bufferRefused n k → Returns l k r l′ m′ b′
+  refused-returns n h e i j b =
+      let x : n ≤ 15 = leb-true n 15 (and-left (leb n 15) (not (eqb n 14)) h) in
+      let z : r % 256 ≡ n = omega arith in
+      record {
+        answer = rw z h;
+        status = λ u. omega arith;
+        state = λ u. i;
+        memory = λ u. j;
+        buffer = λ u. b ∙ buffer-left n k ∙ ap (λ (y : ℕ). bufferLeft y k) (sym z);
+      }
 
 pub demand1 : Demand1
-demand1 = record { ends = owed-listed card accepts; keeps = unchanged }
+unfolding Demand1
+demand1 l k r l′ m′ b′ x = go (refusal (owedChecks card accepts l k)) refl
+  where
+    go : (o : Option ℕ) → refusal (owedChecks card accepts l k) ≡ o → Returns l k r l′ m′ b′
+    go none e = done-returns l k r l′ m′ b′ (statusOf (card l) k) (rw e at (x .code))
+    go (some n) e =
+        let d : isDone (owed card accepts l k .answer) ≡ false = rw e (answered-not-done n) in
+        let i : number (owed card accepts l k .answer) ≡ n = rw e (answered-number n) in
+        let u = owed-unchanged card accepts l k d in
+        refused-returns l k r l′ m′ b′ n (rw i at (owed-listed card accepts l k)) ((rw e at (x .code)) ∙ answered-code n) (x .state ∙ rw e)
+        (x .memory ∙ u .memory) (x .buffer ∙ u .buffer ∙ ap (λ (y : ℕ). bufferRefused y k) i)

@@ -1,46 +1,61 @@
--- What a dropped region means for a receive that waits on it. Assumes nothing.
-use mathlib.Core.Path.{_≡_, refl, ap}
-use mathlib.Core.Bool.{Bool, true, false, _&&_}
+-- What a dropped region means for a receive that waits on it, and for a remote key. Assumes nothing.
+use mathlib.Core.Path.{_≡_, refl, sym, ap, _∙_}
+use mathlib.Core.Bool.{Bool, true, false, _&&_, true≢false}
 use mathlib.Core.List.{List, [], _∷_}
-use mathlib.Core.Option.{none}
+use mathlib.Core.Option.{Option, none, some}
 use Prim.Native.Nat.{ℕ, zero, suc, _≤_, _<_}
 use native.Mathlib.Omega.{arith}
 use lib.Dec.{eqb, leb}
 use lib.ListN.{length, getD}
 use borrow.Author.Tests.{ne-eqb, eqb-true, leb-true, le-leb}
-use Rattle.wire.specs.Scan.{and-left, and-right, both-true, all}
-use Rattle.wire.specs.Slots.{same}
+use Rattle.wire.specs.Checks.{refusal}
+use Rattle.wire.proofs.ScanLaws.{and-left, and-right, both-true}
+use Rattle.wire.specs.Scan.{all}
+use Rattle.wire.proofs.SlotLaws.{same}
 use Rattle.tables.specs.Card.{Card, Qp, tail}
-use Rattle.tables.specs.Records.{Command}
-use Rattle.rules.specs.Touch.{Request, fills, takes, farBytes}
+use Rattle.tables.specs.Commands.{Command}
+use Rattle.validate.specs.Search.{freeMrn}
+use Rattle.rules.specs.declared.Answer.the-variants.{Done}
+use Rattle.rules.specs.Answer.{isDone}
+use Rattle.rules.specs.Call.{Call}
+use Rattle.rules.specs.Calls.{checks, effect, statusOf, memoryAfter, settled, step}
+use Rattle.rules.specs.Touch.{Request, requestOf, fills, takes, total, sgeTotal, farBytes}
 use Rattle.rules.specs.Permit.{keyOf, lookup, covers, permits, permitsAll}
-use Rattle.rules.specs.Control.{commandEffect, newVariant, nextVariant}
-use Rattle.tables.specs.Search.{freeMrn}
-use Rattle.rules.specs.Send.{peerOf, takenBy, farUse, errorIf, consumeIf, sendStatus, sendMemory, sendQps, sendPuts, sendEffect}
-use Rattle.rules.proofs.Variants.{next-differs, next-small, slot}
-use Rattle.rules.specs.Dropped.{Reaches, farKey, StaleFails, DroppedRegion, KeysDropped, OldKeyStale, NewKeyStands}
+use Rattle.rules.specs.Control.{commandEffect, newVariant}
+use Rattle.rules.specs.Send.{deliveryChecks, ready, peerOf, takenBy, farUse, errorIf, consumeIf, sendStatus, sendMemory, sendQps, sendPuts, sendEffect}
+use Rattle.rules.proofs.Answers.{answered-not-done}
+use Rattle.rules.proofs.Variants.{next-small, slot}
+use Rattle.rules.specs.Dropped.{Fails, Denied, LostBy, Lost, Reaches, farKey, StaleFails, DroppedRegion, HeldStays, KeysDropped, OldKeyStale, NewKeyStands}
+
+and-false : (b : Bool) → (b && false) ≡ false
+and-false true = refl
+and-false false = refl
 
 all-fails : {A : Type 0} (p : A → Bool) (xs : List A) (i : ℕ) (d : A) → i < length xs → p (getD xs i d) ≡ false → all p xs ≡ false
 unfolding all
 all-fails p [] i d h e = absurd (omega arith)
 all-fails p (x ∷ xs) zero d h e = rw e
 all-fails p (x ∷ xs) (suc i) d h e = rw (all-fails p xs i d (omega arith) e) (and-false (p x))
-  where
-    and-false : (b : Bool) → (b && false) ≡ false
-    and-false true = refl
-    and-false false = refl
 
 fill-takes : (o : ℕ) → fills o ≡ true → takes o ≡ true
 fill-takes o e =
     let a : 2 ≤ o = leb-true 2 o (and-left (leb 2 o) (leb o 3) e) in
     both-true (leb 1 o) (leb o 3) (le-leb 1 o (omega arith)) (and-right (leb 2 o) (leb o 3) e)
 
-status-7 : (c : Card) (q : ℕ) (r : Request) (i : ℕ) → Reaches c q r i → lookup (c .mr) (farKey c q r i) ≡ none → sendStatus c q r ≡ 7
-unfolding sendStatus permitsAll permits covers
-status-7 c q r i s k =
-    let f : all (permits c (peerOf c q) (farUse (r .opcode))) (farBytes r (takenBy c q)) ≡ false =
-    all-fails (permits c (peerOf c q) (farUse (r .opcode))) (farBytes r (takenBy c q)) i (record { address = 0; key = 0 }) (s .within) (rw k refl) in
-    rw (f, s .own, s .short, s .fits, s .opcode)
+-- a byte under a key that no region has
+module _ (c : Card) (q : ℕ) (r : Request) (i : ℕ) (s : Reaches c q r i) (k : lookup (c .mr) (farKey c q r i) ≡ none) where
+  far-fails : permitsAll c (peerOf c q) (farUse (r .opcode)) (farBytes r (takenBy c q)) ≡ false
+  unfolding permitsAll permits covers
+  far-fails =
+      all-fails (permits c (peerOf c q) (farUse (r .opcode))) (farBytes r (takenBy c q)) i (record { address = 0; key = 0 }) (s .within) (rw k refl)
+
+  status-7 : fills (r .opcode) ≡ true → sendStatus c q r ≡ 7
+  unfolding sendStatus
+  status-7 e = rw (far-fails, s .own, s .short, s .fits e, e)
+
+  status-8 : fills (r .opcode) ≡ false → sendStatus c q r ≡ 8
+  unfolding sendStatus
+  status-8 e = rw (far-fails, s .own, s .short, e)
 
 -- the queue pairs after status 7, over the sender and the peer
 module _ (f : ℕ → Qp) (q d : ℕ) where
@@ -61,20 +76,50 @@ module _ (f : ℕ → Qp) (q d : ℕ) where
       go true e = rw e
       go false e = rw (e, same q)
 
-pub stale-fails : StaleFails
-unfolding StaleFails sendEffect sendQps sendPuts sendMemory
-stale-fails c q r m i s k =
-    let e : sendStatus c q r ≡ 7 = status-7 c q r i s k in
-    let t : takes (r .opcode) ≡ true = fill-takes (r .opcode) (s .opcode) in
+-- what the request gets, by its status
+fails : (c : Card) (q : ℕ) (r : Request) (m : List ℕ) → fills (r .opcode) ≡ true → leb (total r) (sgeTotal (takenBy c q .sges)) ≡ true →
+    sendStatus c q r ≡ 7 → Fails c (sendEffect c q r) q r (Done (sendStatus c q r)) m (sendMemory c q r m)
+unfolding sendEffect sendQps sendPuts sendMemory
+fails c q r m f s e =
+    let t : takes (r .opcode) ≡ true = fill-takes (r .opcode) f in
     record {
-      sender = e;
-      receiver = rw (e, s .fits);
+      answer = rw e;
       memory = rw e;
       puts = rw (e, t);
+      receiver = rw s;
+      consumed = rw (e, t) (peer-after (c .qp) q (peerOf c q) .1);
       sender-state = rw (e, t) (sender-after (c .qp) q (peerOf c q));
       peer-state = rw (e, t) (peer-after (c .qp) q (peerOf c q) .0);
-      consumed = rw (e, t) (peer-after (c .qp) q (peerOf c q) .1);
     }
+
+denied : (c : Card) (q : ℕ) (r : Request) (m : List ℕ) → sendStatus c q r ≡ 8 →
+    Denied c (sendEffect c q r) q r (Done (sendStatus c q r)) m (sendMemory c q r m)
+unfolding sendEffect sendQps sendPuts sendMemory
+denied c q r m e =
+    record {
+      answer = rw e;
+      memory = rw e;
+      puts = rw (e, and-false (takes (r .opcode)));
+      sender-state = rw (e, and-false (takes (r .opcode)), same q);
+      others = λ j n. rw (e, and-false (takes (r .opcode)), n);
+    }
+
+pub lost : (c : Card) (q : ℕ) (r : Request) (m : List ℕ) (i : ℕ) → Reaches c q r i → lookup (c .mr) (farKey c q r i) ≡ none →
+    Lost c (sendEffect c q r) q r (Done (sendStatus c q r)) m (sendMemory c q r m)
+lost c q r m i s k = go (fills (r .opcode)) refl
+  where
+    go : (b : Bool) → fills (r .opcode) ≡ b → LostBy b c (sendEffect c q r) q r (Done (sendStatus c q r)) m (sendMemory c q r m)
+    go true e = fails c q r m e (s .fits e) (status-7 c q r i s k e)
+    go false e = denied c q r m (status-8 c q r i s k e)
+
+pub stale-fails : StaleFails
+unfolding StaleFails step effect memoryAfter statusOf
+stale-fails c q x m i d s k = go (refusal (checks c (Call.send q x m))) d
+  where
+    go : (o : Option ℕ) → isDone (settled o c (Call.send q x m) .answer) ≡ true →
+        Lost c (settled o c (Call.send q x m) .card) q (requestOf x) (settled o c (Call.send q x m) .answer) m (settled o c (Call.send q x m) .memory)
+    go none e = lost c q (requestOf x) m i s k
+    go (some n) e = absurd (true≢false (sym e ∙ answered-not-done n))
 
 pub keys-dropped : KeysDropped
 unfolding KeysDropped commandEffect lookup
@@ -82,18 +127,37 @@ keys-dropped c n k e = (rw (e, same n), refl)
 
 pub dropped-region : DroppedRegion
 unfolding DroppedRegion StaleFails KeysDropped
-dropped-region c n q r m i s e =
-    stale-fails (commandEffect c (Command.deregister n)) q r m i s (keys-dropped c n (farKey (commandEffect c (Command.deregister n)) q r i) e .0)
+dropped-region c n q x m i d s e =
+    let c₁ = commandEffect c (Command.deregister n) in
+    stale-fails c₁ q x m i d s (keys-dropped c n (farKey c₁ q (requestOf x) i) e .0)
+
+-- no test of a post send looks at a region
+module _ (c : Card) (n q : ℕ) where
+  same-ready : (o : Option ℕ) → ready (commandEffect c (Command.deregister n)) q o ≡ ready c q o
+  unfolding commandEffect
+  same-ready none = refl
+  same-ready (some d) = refl
+
+  pub same-checks : (x m : List ℕ) → checks (commandEffect c (Command.deregister n)) (Call.send q x m) ≡ checks c (Call.send q x m)
+  unfolding checks deliveryChecks commandEffect
+  same-checks x m = rw (same-ready (c .qp q .dest))
+
+pub held-stays : HeldStays
+unfolding HeldStays step
+held-stays c n q x m d = go (refusal (checks c (Call.send q x m))) refl d
+  where
+    c₁ : Card
+    c₁ = commandEffect c (Command.deregister n)
+
+    go : (o : Option ℕ) → refusal (checks c (Call.send q x m)) ≡ o → isDone (settled o c (Call.send q x m) .answer) ≡ false →
+        settled (refusal (checks c₁ (Call.send q x m))) c₁ (Call.send q x m) .answer
+        ≡ settled (refusal (checks c (Call.send q x m))) c (Call.send q x m) .answer
+    go none e h = absurd (true≢false h)
+    go (some i) e h = rw (same-checks c n q x m, e)
 
 pub old-key-stale : OldKeyStale
 unfolding OldKeyStale commandEffect lookup
-old-key-stale c g v e h =
-    rw (
-      slot (freeMrn c) v h,
-      same (freeMrn c),
-      e,
-      ne-eqb (keyOf (freeMrn c) (nextVariant v)) (keyOf (freeMrn c) v) (λ p. next-differs v h (omega arith)),
-    )
+old-key-stale c g k e h = rw (e, same (freeMrn c), ne-eqb (keyOf (freeMrn c) (newVariant c)) k (λ p. h (sym p)))
 
 pub new-key-stands : NewKeyStands
 unfolding NewKeyStands commandEffect lookup

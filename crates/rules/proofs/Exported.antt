@@ -1,20 +1,21 @@
 -- What a public call owes, by its tests: one that is refused or held, one that is done, and the same call from C. Assumes nothing.
-use mathlib.Core.Path.{_≡_, ap, _∙_}
+use mathlib.Core.Path.{_≡_, refl, ap, _∙_}
+use mathlib.Core.Bool.{false, true≢false}
 use mathlib.Core.List.{List}
-use mathlib.Core.Option.{none, some}
+use mathlib.Core.Option.{Option, none, some}
 use Prim.Native.Nat.{ℕ}
 use Rattle.wire.specs.Checks.{refusal}
-use Rattle.tables.specs.Accept.{accepts}
-use Rattle.tables.specs.Accepted.{Accepted, accepting}
-use Rattle.tables.specs.Image.{card}
-use Rattle.rules.specs.Answer.{answered, codeOf}
-use Rattle.rules.specs.Call.{Call, memoryOf}
-use Rattle.rules.specs.Calls.{owedChecks, statusOf, effect, memoryAfter, bufferAfter, bufferRefused}
+use Rattle.validate.specs.Accept.{accepts}
+use Rattle.validate.proofs.AcceptedLaws.{Accepted, accepting}
+use Rattle.tables.specs.State.{card}
+use Rattle.rules.specs.Answer.{answered, codeOf, isDone}
+use Rattle.rules.specs.Call.{Call, memoryOf, leaving}
+use Rattle.rules.specs.Calls.{owedChecks, owed, settled, statusOf, effect, memoryAfter, bufferAfter, bufferRefused, Meets}
 use Rattle.rules.specs.declared.Answer.{Answer}
 use Rattle.rules.specs.declared.Answer.the-variants.{Done}
 use Rattle.rules.proofs.Meeting.{refused-meets, done-meets}
 use Rattle.rules.specs.Bytes.{effectBytes}
-use Rattle.rules.specs.Contract.{Owes, Exports}
+use Rattle.rules.specs.Contract.{bytesBy, bytesAfter, Owes, Exports}
 
 module _ (l : List ℕ) (k : Call) where
   pub refused-owes : (n : ℕ) → refusal (owedChecks card accepts l k) ≡ some n → Owes l k (answered 0 (some n)) l (memoryOf k) (bufferRefused n k)
@@ -27,4 +28,25 @@ module _ (l : List ℕ) (k : Call) where
       record { meets = done-meets card accepts l k e l′ (ap card b ∙ c) (ap accepts b ∙ accepting (effectBytes l k) a); bytes = rw e b }
 
   pub exported : (r : Answer) (l′ m′ b′ : List ℕ) → Owes l k r l′ m′ b′ → Exports l k (codeOf r) l′ m′ b′
-  exported r l′ m′ b′ o = record { code = ap codeOf (o .meets .answer); owes = rw (← (o .meets .answer)) o }
+  exported r l′ m′ b′ o =
+      let m = o .meets in
+      record {
+        code = ap codeOf (m .answer);
+        state = o .bytes;
+        tables = m .card;
+        memory = m .memory;
+        buffer = m .buffer;
+        sound = λ d. m .sound (ap isDone (m .answer) ∙ d);
+      }
+
+  bytes-left : isDone (owed card accepts l k .answer) ≡ false → bytesAfter l k ≡ l
+  bytes-left = go (refusal (owedChecks card accepts l k))
+    where
+      go : (o : Option ℕ) → isDone (settled o (card l) k .answer) ≡ false → bytesBy o l k ≡ l
+      go none d = absurd (true≢false d)
+      go (some n) d = refl
+
+  -- a call from C met the contract, with the answer that it owes
+  pub met : {r : ℕ} {l′ m′ b′ : List ℕ} → Exports l k r l′ m′ b′ → Meets card accepts l k (leaving (owed card accepts l k .answer) l′ m′ b′)
+  met x =
+      record { answer = refl; card = x .tables; memory = x .memory; buffer = x .buffer; kept = λ d. x .state ∙ bytes-left d; sound = x .sound }

@@ -5,7 +5,8 @@ use Prim.Native.Nat.{ℕ, zero, suc, _≤_, _<_}
 use native.Mathlib.Omega.{arith}
 use lib.Dec.{leb}
 use borrow.Author.Tests.{leb-true, leb-false}
-use Rattle.wire.specs.Scan.{lowest, lowest-passes, lowest-least, anyBelow, any-here, any-same}
+use Rattle.wire.specs.Scan.{lowest, anyBelow}
+use Rattle.wire.proofs.ScanLaws.{lowest-passes, lowest-least, any-here, any-same}
 
 none-of : (n : ℕ) → anyBelow n (λ k. false) ≡ false
 unfolding anyBelow

@@ -9,4 +9,6 @@ pub mod Dropped
 pub mod Pinned
 pub mod Runs
 pub mod Meeting
+pub mod Replay
+pub mod Buffers
 pub mod Exported

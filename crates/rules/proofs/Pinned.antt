@@ -11,7 +11,7 @@ use Rattle.rules.specs.Permit.{Use, granted, permitsAll, permits, lookup
 use Rattle.rules.specs.Control.{commandChecks, commandEffect}
 use Rattle.rules.specs.Marks.{platform, after, uses}
 use Rattle.wire.specs.Scan.{lowest, lowestFrom, anyBelow, all}
-use Rattle.tables.specs.Records.{Command}
+use Rattle.tables.specs.Commands.{Command}
 
 -- the accesses 0 to 7 that grant each use
 pub rights : map (λ u. map (granted u) (0 ∷ 1 ∷ 2 ∷ 3 ∷ 4 ∷ 5 ∷ 6 ∷ 7 ∷ [])) uses

@@ -10,7 +10,8 @@ use lib.Dec.{eqb, leb, ltb}
 use lib.ListN.{length, take}
 use lib.Seq.{take-append-le, take-append-add}
 use borrow.Author.Tests.{le-leb, leb-true, ne-eqb}
-use Rattle.wire.specs.Scan.{and-left, and-right, both-true, all}
+use Rattle.wire.proofs.ScanLaws.{and-left, and-right, both-true}
+use Rattle.wire.specs.Scan.{all}
 use Rattle.tables.specs.Card.{Card}
 use Rattle.tables.specs.declared.Registration.{Registration}
 use Rattle.tables.specs.declared.Sge.{Sge}

@@ -10,7 +10,7 @@ use lib.Dec.{eqb, leb}
 use lib.ListN.{length, getD, set, take, drop}
 use lib.Seq.{paste, sets, sets-eq, drop-cons, length-take-le, take-nil}
 use borrow.Author.Tests.{leb-true}
-use Rattle.wire.specs.Scan.{and-left, and-right}
+use Rattle.wire.proofs.ScanLaws.{and-left, and-right}
 use Rattle.tables.specs.Card.{Card}
 use Rattle.tables.specs.declared.Registration.{Registration}
 use Rattle.tables.specs.declared.Sge.{Sge}

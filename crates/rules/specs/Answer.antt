@@ -36,7 +36,7 @@ answered s (some n) = cond (eqb n 5) (Held Peer) (cond (eqb n 6) (Held Place) (R
 
 -- the answer that a call's result, the number that codeOf gives, tells
 abbrev pub answerIn : ℕ → Answer
-answerIn r = answered (r / 256) (cond (eqb (r % 256) 0) none (some (r % 256)))
+answerIn r = answered (r / 256 % 256) (cond (eqb (r % 256) 0) none (some (r % 256)))
 
 -- the call was answered 0
 abbrev pub isDone : Answer → Bool

@@ -4,13 +4,14 @@ use mathlib.Core.List.{List, [], _∷_}
 use Prim.Native.Nat.{ℕ}
 use lib.Dec.{eqb}
 use Rattle.wire.specs.Table.{rowAt, putRow}
-use Rattle.tables.specs.Image.{card}
-use Rattle.tables.specs.Layout.{pdT, mrLiveT, mrT, cqT, qpT, waitingT}
+use Rattle.tables.specs.State.{card}
+use Rattle.tables.specs.Layout.{pdFlagT, mrFlagT, mrT, cqT, qpT, waitingT, cqFlagT, qpFlagT}
 use Rattle.tables.specs.Limits.{qpCount}
 use Rattle.tables.specs.Queue.{pushBytes, popBytes, postBytes, takeBytes}
-use Rattle.tables.specs.Records.{Command, commandOf, receiveCodec}
+use Rattle.tables.specs.Commands.{Command, commandOf}
+use Rattle.tables.specs.Records.{receiveCodec}
 use Rattle.tables.specs.Reset.{resetBytes}
-use Rattle.tables.specs.Search.{freePdn, freeCqn, freeMrn, freeQpn}
+use Rattle.validate.specs.Search.{freePdn, freeCqn, freeMrn, freeQpn}
 use Rattle.tables.specs.declared.CreateQp.{CreateQp}
 use Rattle.tables.specs.declared.QueueHead.{QueueHead}
 use Rattle.tables.specs.declared.QueuePair.{QueuePair}
@@ -22,10 +23,12 @@ use Rattle.rules.specs.Control.{newVariant}
 use Rattle.rules.specs.Queues.{flushPut}
 use Rattle.rules.specs.Send.{Put, peerOf, sendStatus, sendPuts, consumes}
 use Rattle.rules.specs.Touch.{Request, requestOf}
+use Rattle.rules.specs.Lists.{maybe}
+use Rattle.wire.specs.Codec.{decode}
 
 -- ---- rows
 
--- a completion queue with no completion; 0 places: not live
+-- a completion queue with no completion
 abbrev pub emptyQueue : ℕ → QueueHead
 emptyQueue places = record { places = places; first = 0; count = 0 }
 
@@ -34,10 +37,7 @@ regionRow g v = record { access = g .access; variant = v; pd = g .pd; start = g 
 
 -- a new queue pair, in state 0 and with no destination
 abbrev pub newPair : CreateQp → QueuePair
-newPair r = record { live = 1; pd = r .pd; signal = r .signal; scq = r .scq; rcq = r .rcq; state = 0; dest = qpCount }
-
-abbrev pub noPair : QueuePair
-noPair = record { live = 0; pd = 0; signal = 0; scq = 0; rcq = 0; state = 0; dest = 0 }
+newPair r = record { pd = r .pd; signal = r .signal; scq = r .scq; rcq = r .rcq; state = 0; dest = qpCount }
 
 abbrev pub noneWait : WaitingHead
 noneWait = record { first = 0; count = 0 }
@@ -46,7 +46,6 @@ noneWait = record { first = 0; count = 0 }
 abbrev pub movedPair : QueuePair → (t d : ℕ) → QueuePair
 movedPair p t d =
     record {
-      live = p .live;
       pd = p .pd;
       signal = p .signal;
       scq = p .scq;
@@ -62,18 +61,19 @@ movedHead h t = record { first = h .first; count = cond (eqb t 0) 0 (h .count) }
 -- ---- control commands
 
 unfoldable pub commandBytes : List ℕ → Command → List ℕ
-commandBytes l (Command.createCq n) = putRow cqT l (freeCqn (card l)) (emptyQueue n)
-commandBytes l (Command.destroyCq n) = putRow cqT l n (emptyQueue 0)
-commandBytes l Command.createPd = putRow pdT l (freePdn (card l)) 1
-commandBytes l (Command.destroyPd n) = putRow pdT l n 0
+commandBytes l (Command.createCq n) = let k = freeCqn (card l) in putRow cqFlagT (putRow cqT l k (emptyQueue n)) k 1
+commandBytes l (Command.destroyCq n) = putRow cqFlagT l n 0
+commandBytes l Command.createPd = putRow pdFlagT l (freePdn (card l)) 1
+commandBytes l (Command.destroyPd n) = putRow pdFlagT l n 0
 commandBytes l (Command.register g) =
-    let n = freeMrn (card l) in putRow mrLiveT (putRow mrT l n (regionRow g (newVariant (card l)))) n 1
-commandBytes l (Command.deregister n) = putRow mrLiveT l n 0
-commandBytes l (Command.createQp r) = let n = freeQpn (card l) in putRow qpT (putRow waitingT l n noneWait) n (newPair r)
+    let n = freeMrn (card l) in putRow mrFlagT (putRow mrT l n (regionRow g (newVariant (card l)))) n 1
+commandBytes l (Command.deregister n) = putRow mrFlagT l n 0
+commandBytes l (Command.createQp r) =
+    let n = freeQpn (card l) in putRow qpFlagT (putRow qpT (putRow waitingT l n noneWait) n (newPair r)) n 1
 commandBytes l (Command.modifyQp r) =
     let q = r .qpn in
     putRow waitingT (putRow qpT l q (movedPair (rowAt qpT l q) (r .state) (r .dest))) q (movedHead (rowAt waitingT l q) (r .state))
-commandBytes l (Command.destroyQp q) = putRow qpT l q noPair
+commandBytes l (Command.destroyQp q) = putRow qpFlagT l q 0
 
 -- ---- post send
 
@@ -83,7 +83,7 @@ pushAll l (p ∷ ps) = pushAll (pushBytes l (p .cqn) (p .entry)) ps
 
 -- a queue pair in error
 abbrev pub erring : QueuePair → QueuePair
-erring p = record { live = p .live; pd = p .pd; signal = p .signal; scq = p .scq; rcq = p .rcq; state = 6; dest = p .dest }
+erring p = record { pd = p .pd; signal = p .signal; scq = p .scq; rcq = p .rcq; state = 6; dest = p .dest }
 
 -- the queue pair q in error, where b holds
 abbrev pub errorBytes : Bool → List ℕ → (q : ℕ) → List ℕ
@@ -109,8 +109,8 @@ flushBytes l q = takeBytes (pushBytes l (flushPut (card l) q .cqn) (flushPut (ca
 
 unfoldable pub effectBytes : List ℕ → Call → List ℕ
 effectBytes l (Call.reset n) = resetBytes n
-effectBytes l (Call.control k a) = commandBytes l (commandOf k)
+effectBytes l (Call.control k a) = maybe l (commandBytes l) (commandOf k)
 effectBytes l (Call.send q x m) = sendBytes l q (requestOf x)
-effectBytes l (Call.receive q x) = postBytes l q (receiveCodec .read x 0)
+effectBytes l (Call.receive q x) = postBytes l q (decode receiveCodec x 0)
 effectBytes l (Call.flush q) = flushBytes l q
 effectBytes l (Call.poll n b) = popBytes l n

@@ -1,6 +1,7 @@
--- The card's calls, each with the bytes and numbers that it is lent. Assumes nothing.
+-- The card's calls, each with the bytes and numbers that it is lent, and what a call leaves. Assumes nothing.
 use mathlib.Core.List.{List, []}
 use Prim.Native.Nat.{ℕ}
+use Rattle.rules.specs.declared.Answer.{Answer}
 
 pub data Call : Type 0 where
   -- the length of the memory
@@ -23,3 +24,13 @@ memoryOf (send q x m) = m
 memoryOf (receive q x) = []
 memoryOf (flush q) = []
 memoryOf (poll n b) = []
+
+-- what can be seen of a call that returned: its answer, and the state, the memory and the answer buffer that it left
+pub record Outcome : Type 0 where
+  pub answer : Answer
+  pub state : List ℕ
+  pub memory : List ℕ
+  pub buffer : List ℕ
+
+abbrev pub leaving : Answer → (l′ m′ b′ : List ℕ) → Outcome
+leaving r l′ m′ b′ = record { answer = r; state = l′; memory = m′; buffer = b′ }

@@ -8,20 +8,21 @@ use Prim.Native.Nat.{ℕ, _+_}
 use lib.Dec.{eqb, ltb}
 use lib.ListN.{length}
 use Rattle.wire.specs.Checks.{Check, _if_, refusal}
-use Rattle.wire.specs.Fields.{putFields}
+use Rattle.wire.specs.Codec.{putFields, encode}
 use Rattle.wire.specs.Le.{leAt}
-use Rattle.tables.specs.Accept.{memoryOk}
-use Rattle.tables.specs.Layout.{image}
+use Rattle.validate.specs.Accept.{memoryOk}
+use Rattle.tables.specs.Layout.{stateSize}
 use Rattle.tables.specs.Card.{Card, fresh}
-use Rattle.tables.specs.Records.{controlClass, dataSize, commandOf, ackFields, ackLeast, sendChecks, receiveChecks, completionCodec}
-use Rattle.rules.specs.Lists.{isSome, orElse}
+use Rattle.tables.specs.Commands.{controlClass, ackFields, ackLeast, dataSize, commandOf}
+use Rattle.tables.specs.Records.{sendChecks, receiveChecks, completionCodec}
+use Rattle.rules.specs.Lists.{isSome, maybe}
 use Rattle.rules.specs.declared.Answer.{Answer}
 use Rattle.rules.specs.Answer.{answered, isDone}
 use Rattle.rules.specs.Touch.{requestOf, receiveIn}
 use Rattle.rules.specs.Control.{commandChecks, commandAck, commandEffect}
 use Rattle.rules.specs.Send.{deliveryChecks, sendStatus, sendEffect, sendMemory}
 use Rattle.rules.specs.Queues.{joinChecks, joined, flushChecks, flushed, pollChecks, polled, oldestEntry}
-use Rattle.rules.specs.Call.{Call, memoryOf}
+use Rattle.rules.specs.Call.{Call, memoryOf, Outcome}
 
 -- ---- the tests
 
@@ -35,8 +36,8 @@ controlChecks k a =
     12 if ltb (length a) ackLeast ∷
     1 if ltb (length k) 2 ∷
     13 if not (eqb (leAt 1 k 0) controlClass) ∷
-    13 if not (isSome (dataSize (leAt 1 k 1))) ∷
-    1 if not (eqb (length k) (2 + orElse (dataSize (leAt 1 k 1)) 0)) ∷
+    13 if not (isSome (commandOf k)) ∷
+    1 if not (eqb (length k) (2 + maybe 0 dataSize (commandOf k))) ∷
     []
 
 -- "Poll: buffer under 24 bytes 12"
@@ -46,7 +47,7 @@ bufferChecks b = 12 if ltb (length b) (completionCodec .size) ∷ []
 -- the whole order of each call, after 15
 unfoldable pub checks : Card → Call → List Check
 checks c (Call.reset n) = resetChecks n
-checks c (Call.control k a) = controlChecks k a ++ commandChecks c (commandOf k)
+checks c (Call.control k a) = controlChecks k a ++ maybe [] (commandChecks c) (commandOf k)
 checks c (Call.send q x m) = 7 if not (eqb (length m) (c .memory)) ∷ (sendChecks x ++ deliveryChecks c q (requestOf x))
 checks c (Call.receive q x) = receiveChecks x ++ joinChecks c q
 checks c (Call.flush q) = flushChecks c q
@@ -64,7 +65,7 @@ statusOf c (Call.poll n b) = 0
 
 unfoldable pub effect : Card → Call → Card
 effect c (Call.reset n) = fresh n
-effect c (Call.control k a) = commandEffect c (commandOf k)
+effect c (Call.control k a) = maybe c (commandEffect c) (commandOf k)
 effect c (Call.send q x m) = sendEffect c q (requestOf x)
 effect c (Call.receive q x) = joined c q (receiveIn x)
 effect c (Call.flush q) = flushed c q
@@ -81,11 +82,11 @@ memoryAfter c (Call.poll n b) = []
 -- "On OK the ack byte and its data are written, later bytes stay"; a completion "fills the first 24 bytes"
 unfoldable pub bufferAfter : Card → Call → List ℕ
 bufferAfter c (Call.reset n) = []
-bufferAfter c (Call.control k a) = putFields ackFields a 0 (0 ∷ commandAck c (commandOf k))
+bufferAfter c (Call.control k a) = putFields ackFields a 0 (0 ∷ maybe [] (commandAck c) (commandOf k))
 bufferAfter c (Call.send q x m) = []
 bufferAfter c (Call.receive q x) = []
 bufferAfter c (Call.flush q) = []
-bufferAfter c (Call.poll n b) = completionCodec .put b 0 (oldestEntry c n)
+bufferAfter c (Call.poll n b) = encode completionCodec b 0 (oldestEntry c n)
 
 -- ---- a call that does not
 
@@ -118,7 +119,7 @@ step c k = settled (refusal (checks c k)) c k
 module _ (cardOf : List ℕ → Card) (accepts : List ℕ → Bool) where
   -- "Every call tests it before all else"; "Reset tests only the length"
   abbrev pub usable : List ℕ → Call → Bool
-  usable l (Call.reset n) = eqb (length l) image
+  usable l (Call.reset n) = eqb (length l) stateSize
   usable l (Call.control k a) = accepts l
   usable l (Call.send q x m) = accepts l
   usable l (Call.receive q x) = accepts l
@@ -133,13 +134,13 @@ module _ (cardOf : List ℕ → Card) (accepts : List ℕ → Bool) where
   abbrev pub owed : List ℕ → Call → Result
   owed l k = settled (refusal (owedChecks l k)) (cardOf l) k
 
-  -- The contract of every call: k on the state l answers r and leaves the state l′, the memory m′ and the answer buffer b′.
-  pub record Meets (l : List ℕ) (k : Call) (r : Answer) (l′ m′ b′ : List ℕ) : Type 0 where
-    pub answer : r ≡ owed l k .answer
-    pub card : cardOf l′ ≡ owed l k .card
-    pub memory : m′ ≡ owed l k .memory
-    pub buffer : b′ ≡ owed l k .buffer
+  -- The contract of every call: k on the state l has the outcome o.
+  pub record Meets (l : List ℕ) (k : Call) (o : Outcome) : Type 0 where
+    pub answer : o .answer ≡ owed l k .answer
+    pub card : cardOf (o .state) ≡ owed l k .card
+    pub memory : o .memory ≡ owed l k .memory
+    pub buffer : o .buffer ≡ owed l k .buffer
     -- "Any answer but 0 leaves memory, tables and lent bytes unchanged"
-    pub kept : isDone r ≡ false → l′ ≡ l
+    pub kept : isDone (o .answer) ≡ false → o .state ≡ l
     -- a call answered 0 leaves a state that the next call accepts
-    pub sound : isDone r ≡ true → accepts l′ ≡ true
+    pub sound : isDone (o .answer) ≡ true → accepts (o .state) ≡ true

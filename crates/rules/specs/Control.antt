@@ -7,10 +7,10 @@ use lib.Dec.{eqb, ltb, leb}
 use Rattle.wire.specs.Checks.{Check, _if_, has, only}
 use Rattle.wire.specs.Slots.{upd}
 use Rattle.tables.specs.Limits.{pdCount, cqCount, mrCount, qpCount, mostPlaces, mostAddress, mostAccess}
-use Rattle.tables.specs.Card.{Card, Qp, withPd, withCq, withMr, withQp, freeCq, freeMr, freeQp}
-use Rattle.tables.specs.Accept.{cqLive, isState}
-use Rattle.tables.specs.Records.{Command}
-use Rattle.tables.specs.Search.{freePdn, freeCqn, freeMrn, freeQpn, pdInUse, cqInUse}
+use Rattle.tables.specs.Card.{Card, Qp, withPd, withCq, withMr, withQp, freeCq, freeMr, freeQp, cqLive}
+use Rattle.validate.specs.Accept.{isState}
+use Rattle.tables.specs.Commands.{Command}
+use Rattle.validate.specs.Search.{freePdn, freeCqn, freeMrn, freeQpn, pdInUse, cqInUse}
 use Rattle.rules.specs.Permit.{keyOf}
 
 -- ---- keys
@@ -102,7 +102,7 @@ moved s t d =
     }
 
 unfoldable pub commandEffect : Card → Command → Card
-commandEffect c (Command.createCq n) = withCq c (upd (c .cq) (freeCqn c) (record { places = n; entries = [] }))
+commandEffect c (Command.createCq n) = withCq c (upd (c .cq) (freeCqn c) (record { live = true; places = n; entries = [] }))
 commandEffect c (Command.destroyCq n) = withCq c (upd (c .cq) n freeCq)
 commandEffect c Command.createPd = withPd c (upd (c .pd) (freePdn c) true)
 commandEffect c (Command.destroyPd n) = withPd c (upd (c .pd) n false)

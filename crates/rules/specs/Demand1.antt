@@ -1,16 +1,14 @@
 -- Demand 1: every call "ends with an answer from our numbered table", and what an answer other than 0 leaves. Assumes nothing.
 use mathlib.Core.Path.{_≡_}
-use mathlib.Core.Bool.{true, false, cond, _||_}
+use mathlib.Core.Logic.{_≢_}
+use mathlib.Core.Bool.{true, cond, _||_}
 use mathlib.Core.List.{List, []}
-use Prim.Native.Nat.{ℕ}
+use Prim.Native.Nat.{ℕ, _%_, _<_}
 use lib.Dec.{eqb}
 use lib.ListN.{set}
-use Rattle.tables.specs.Accept.{accepts}
-use Rattle.tables.specs.Image.{card}
-use Rattle.rules.specs.Answer.{number, isDone, listed}
+use Rattle.rules.specs.Answer.{listed}
 use Rattle.rules.specs.Call.{Call, memoryOf}
-use Rattle.rules.specs.Calls.{owed}
-use Rattle.rules.specs.Contract.{bytesAfter}
+use Rattle.rules.specs.Contract.{Exports}
 
 -- the answer buffer after a call answered n, not 0: as it was, but for the first ack byte, which "a control refusal other than 12 and 15" sets to 1
 abbrev pub bufferLeft : (n : ℕ) → Call → List ℕ
@@ -21,14 +19,15 @@ bufferLeft n (Call.receive q x) = []
 bufferLeft n (Call.flush q) = []
 bufferLeft n (Call.poll k b) = b
 
--- "changes no memory, no table and no lent byte"
-pub record Unchanged (l : List ℕ) (k : Call) : Type 0 where
-  pub bytes : bytesAfter l k ≡ l
-  pub tables : owed card accepts l k .card ≡ card l
-  pub memory : owed card accepts l k .memory ≡ memoryOf k
-  pub buffer : owed card accepts l k .buffer ≡ bufferLeft (number (owed card accepts l k .answer)) k
+-- a call from C on the state l that returned r, with the answer r % 256, and left the state l′, the memory m′ and the answer buffer b′
+pub record Returns (l : List ℕ) (k : Call) (r : ℕ) (l′ m′ b′ : List ℕ) : Type 0 where
+  pub answer : listed (r % 256) ≡ true
+  -- a refused or held call has no status, and "changes no memory, no table and no lent byte, but for the one ack byte"
+  pub status : r % 256 ≢ 0 → r < 256
+  pub state : r % 256 ≢ 0 → l′ ≡ l
+  pub memory : r % 256 ≢ 0 → m′ ≡ memoryOf k
+  pub buffer : r % 256 ≢ 0 → b′ ≡ bufferLeft (r % 256) k
 
--- of each call on any bytes as its state; what a call owes is what the contract of its exported function says
-pub record Demand1 : Type 0 where
-  pub ends : (l : List ℕ) (k : Call) → listed (number (owed card accepts l k .answer)) ≡ true
-  pub keeps : (l : List ℕ) (k : Call) → isDone (owed card accepts l k .answer) ≡ false → Unchanged l k
+-- of every call of the exported functions, on any bytes as its state
+unfoldable pub Demand1 : Type 0
+Demand1 = (l : List ℕ) (k : Call) (r : ℕ) (l′ m′ b′ : List ℕ) → Exports l k r l′ m′ b′ → Returns l k r l′ m′ b′

@@ -12,3 +12,5 @@ pub mod Dropped
 pub mod Bytes
 pub mod Contract
 pub mod Demand1
+pub mod Replay
+pub mod Buffers

@@ -1,5 +1,5 @@
 -- Lists and options, read and written: general definitions. Assumes nothing.
-use mathlib.Core.Bool.{Bool, true, false}
+use mathlib.Core.Bool.{Bool, true, false, cond}
 use mathlib.Core.List.{List, [], _∷_}
 use mathlib.Core.Option.{Option, none, some}
 use Prim.Native.Nat.{ℕ}
@@ -23,6 +23,11 @@ abbrev pub orElse : {A : Type 0} → Option A → A → A
 orElse none d = d
 orElse (some a) d = a
 
+-- f of what the option has, d where it is none
+abbrev pub maybe : {A B : Type 0} → B → (A → B) → Option A → B
+maybe d f none = d
+maybe d f (some a) = f a
+
 -- the option is the number q
 abbrev pub names : Option ℕ → ℕ → Bool
 names none q = false
@@ -33,3 +38,7 @@ unfoldable pub stored : List ℕ → (places values : List ℕ) → List ℕ
 stored m [] vs = m
 stored m (p ∷ ps) [] = m
 stored m (p ∷ ps) (v ∷ vs) = stored (set m p v) ps vs
+
+-- f of a where b holds, and a where it does not
+abbrev pub when : {A : Type 0} → Bool → (A → A) → A → A
+when b f a = cond b (f a) a

@@ -1,15 +1,14 @@
 -- Document 01, "Marked platform positions": the table of marks, and how each question is asked of the rules. Assumes nothing.
 use mathlib.Core.Path.{_≡_}
-use mathlib.Core.Bool.{Bool, true, cond, not}
+use mathlib.Core.Bool.{Bool, cond, not}
 use mathlib.Core.List.{List, [], _∷_, map}
 use mathlib.Core.Option.{Option, none, some}
-use Prim.Native.Nat.{ℕ, _-_, _^_}
-use lib.Dec.{eqb, ltb}
-use lib.ListN.{getD}
+use Prim.Native.Nat.{ℕ, zero, suc, _-_, _^_}
+use lib.ListN.{drop}
 use Rattle.wire.specs.Scan.{all}
 use Rattle.wire.specs.Checks.{refusal}
-use Rattle.tables.specs.Card.{Card, fresh, freeMr, withMr}
-use Rattle.tables.specs.Records.{Command}
+use Rattle.tables.specs.Card.{Card, fresh}
+use Rattle.tables.specs.Commands.{Command}
 use Rattle.tables.specs.declared.Registration.{Registration}
 use Rattle.rules.specs.Lists.{All}
 use Rattle.rules.specs.Touch.{Byte, range}
@@ -19,13 +18,13 @@ use Rattle.rules.specs.Control.{commandChecks, commandAck, commandEffect
 -- ---- the platform
 
 -- control commands one after another; one that is refused changes nothing
-abbrev pub settledBy : Option ℕ → Card → Command → Card
-settledBy none c k = commandEffect c k
-settledBy (some n) c k = c
+abbrev pub obeyed : Option ℕ → Card → Command → Card
+obeyed none c k = commandEffect c k
+obeyed (some n) c k = c
 
 unfoldable pub after : Card → List Command → Card
 after c [] = c
-after c (k ∷ ks) = after (settledBy (refusal (commandChecks c k)) c k) ks
+after c (k ∷ ks) = after (obeyed (refusal (commandChecks c k)) c k) ks
 
 -- "region PD 0, start 256, length 100, virt 4096, access 7"
 abbrev pub region : (start virt : ℕ) → Registration
@@ -42,10 +41,19 @@ platform =
 unfoldable pub renewed : Card
 renewed = after platform (Command.deregister 0 ∷ Command.register (region 256 4096) ∷ [])
 
--- all slots but 31 are taken, and 31 last had the variant 254
+-- n registrations
+unfoldable pub registrations : ℕ → List Command
+registrations zero = []
+registrations (suc n) = Command.register (region 256 4096) ∷ registrations n
+
+-- n registrations in slot 31, each dropped before the next
+unfoldable pub rounds : ℕ → List Command
+rounds zero = []
+rounds (suc n) = Command.register (region 256 4096) ∷ Command.deregister 31 ∷ rounds n
+
+-- all slots before 31 are taken, and 31 last had the variant 254
 unfoldable pub nearlyFull : Card
-nearlyFull =
-    withMr platform (λ i. cond (ltb i 31) (record { live = true; variant = 1; reg = region 256 4096 }) (freeMr (cond (eqb i 31) 254 0)))
+nearlyFull = after (after platform (registrations 30)) (rounds 254)
 
 -- ---- questions and results
 
@@ -56,40 +64,41 @@ pub data Question : Type 0 where
   byte : (address key : ℕ) → Question
   -- does the key stand after the region was dropped and registered again
   stands : (key : ℕ) → Question
-  -- the key of a registration in slot 31 at variant 255, and the next one there
+  -- the keys of a registration in slot 31 at variant 255, and of the next one there
   wrapped : Question
   registers : (start virt : ℕ) → Question
 
-pub data Result : Type 0 where
-  permitted : Result
-  at : (place : ℕ) → Result
-  no : Result
-  keys : (first next : ℕ) → Result
-  done : Result
-  refused : (number : ℕ) → Result
+pub data Verdict : Type 0 where
+  permitted : Verdict
+  at : (place : ℕ) → Verdict
+  no : Verdict
+  -- lkey and rkey of both
+  keys : (first next : List ℕ) → Verdict
+  done : Verdict
+  refused : (number : ℕ) → Verdict
   -- permitted for one use and not for another: the region has every right, so that this never happens
-  mixed : Result
+  mixed : Verdict
 
 abbrev pub uses : List Use
 uses = Use.localRead ∷ Use.localWrite ∷ Use.remoteWrite ∷ Use.remoteRead ∷ []
 
 -- the range is permitted for every use, or for none
-abbrev pub verdict : Card → List Byte → Result → Result
+abbrev pub verdict : Card → List Byte → Verdict → Verdict
 verdict c bs r =
     let tests : List Bool = map (λ u. permitsAll c 0 u bs) uses in
     cond (all (λ t. t) tests) r (cond (all not tests) no mixed)
 
-abbrev pub answer : Option ℕ → Result
+abbrev pub answer : Option ℕ → Verdict
 answer none = done
 answer (some n) = refused n
 
-abbrev pub ask : Question → Result
+abbrev pub ask : Question → Verdict
 ask (bytes a n k) = verdict platform (range a k n) permitted
 ask (byte a k) = verdict platform (range a k 1) (at (place platform (record { address = a; key = k })))
 ask (stands k) = verdict renewed (range 4096 k 1) permitted
 ask wrapped =
     let k = Command.register (region 256 4096) in
-    keys (getD (commandAck nearlyFull k) 1 0) (getD (commandAck (after nearlyFull (k ∷ Command.deregister 31 ∷ [])) k) 1 0)
+    keys (drop 1 (commandAck nearlyFull k)) (drop 1 (commandAck (after nearlyFull (k ∷ Command.deregister 31 ∷ [])) k))
 ask (registers s v) = answer (refusal (commandChecks platform (Command.register (region s v))))
 
 -- ---- the table
@@ -97,9 +106,9 @@ ask (registers s v) = answer (refusal (commandChecks platform (Command.register 
 pub record Mark : Type 0 where
   pub number : ℕ
   pub question : Question
-  pub result : Result
+  pub result : Verdict
 
-abbrev pub mark : ℕ → Question → Result → Mark
+abbrev pub mark : ℕ → Question → Verdict → Mark
 mark n q r = record { number = n; question = q; result = r }
 
 unfoldable pub table : List Mark
@@ -113,7 +122,7 @@ table =
     mark 7 (bytes 4096 1 2) no ∷
     mark 8 (stands 2) permitted ∷
     mark 8 (stands 1) no ∷
-    mark 9 wrapped (keys 8191 7937) ∷
+    mark 9 wrapped (keys (8191 ∷ 8191 ∷ []) (7937 ∷ 7937 ∷ [])) ∷
     mark 10 (registers 3996 4096) done ∷
     mark 10 (registers 3997 4096) (refused 11) ∷
     mark 11 (registers 256 (2 ^ 64 - 101)) done ∷

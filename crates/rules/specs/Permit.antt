@@ -7,9 +7,9 @@ use Prim.Native.Nat.{ℕ, _+_, _*_, _/_, _^_, _<_}
 use lib.Dec.{eqb, ltb, leb}
 use Rattle.wire.specs.Scan.{all}
 use Rattle.wire.specs.Checks.{has}
-use Rattle.tables.specs.Accept.{accepts}
+use Rattle.validate.specs.Accept.{accepts}
 use Rattle.tables.specs.Card.{Card, Mr}
-use Rattle.tables.specs.Image.{card}
+use Rattle.tables.specs.State.{card}
 use Rattle.tables.specs.declared.Registration.{Registration}
 use Rattle.rules.specs.Touch.{Byte, byteOf}
 

@@ -7,9 +7,8 @@ use lib.ListN.{length, getD}
 use Rattle.wire.specs.Checks.{Check, _if_}
 use Rattle.wire.specs.Slots.{upd}
 use Rattle.tables.specs.Limits.{mostWaiting}
-use Rattle.tables.specs.Card.{Card, Receive, withCq, withQp, withWaiting, tail}
-use Rattle.tables.specs.Accept.{cqLive}
-use Rattle.tables.specs.Image.{noCompletion}
+use Rattle.tables.specs.Card.{Card, Receive, withCq, withQp, withWaiting, tail, cqLive, withEntries}
+use Rattle.tables.specs.State.{noCompletion}
 use Rattle.tables.specs.declared.Completion.{Completion}
 use Rattle.rules.specs.Lists.{isEmpty}
 use Rattle.rules.specs.Send.{Put, putAll, room, oldest, consumeIf}
@@ -51,7 +50,7 @@ pollChecks c n = 2 if not (cqLive c n) ∷ 9 if isEmpty (c .cq n .entries) ∷ [
 
 -- "the oldest completion leaves the queue"
 unfoldable pub polled : Card → (n : ℕ) → Card
-polled c n = withCq c (upd (c .cq) n (record { places = c .cq n .places; entries = tail (c .cq n .entries) }))
+polled c n = withCq c (upd (c .cq) n (withEntries (c .cq n) (tail (c .cq n .entries))))
 
 -- it is what the poll gives back; nothing where the queue is empty, which is refused
 abbrev pub oldestEntry : Card → (n : ℕ) → Completion

@@ -9,7 +9,7 @@ use lib.ListN.{length, getD}
 use Rattle.wire.specs.Checks.{Check, _if_}
 use Rattle.wire.specs.Slots.{upd}
 use Rattle.tables.specs.Limits.{qpCount, mostMessage}
-use Rattle.tables.specs.Card.{Card, Cq, Qp, Receive, noReceive, withCq, withQp, withWaiting, tail}
+use Rattle.tables.specs.Card.{Card, Cq, Qp, Receive, noReceive, withCq, withQp, withWaiting, tail, withEntries}
 use Rattle.tables.specs.declared.Completion.{Completion}
 use Rattle.rules.specs.Lists.{isEmpty, names, orElse}
 use Rattle.rules.specs.Touch.{Request, takes, fills, reads, total, sgeTotal, ownBytes, farBytes, delivered}
@@ -97,7 +97,7 @@ pub record Put : Type 0 where
   pub entry : Completion
 
 abbrev pub pushed : Put → (ℕ → Cq) → ℕ → Cq
-pushed p f = upd f (p .cqn) (record { places = f (p .cqn) .places; entries = f (p .cqn) .entries ++ (p .entry ∷ []) })
+pushed p f = upd f (p .cqn) (withEntries (f (p .cqn)) (f (p .cqn) .entries ++ (p .entry ∷ [])))
 
 unfoldable pub putAll : List Put → (ℕ → Cq) → ℕ → Cq
 putAll [] f = f

@@ -8,12 +8,12 @@ use Prim.Native.Nat.{ℕ, zero, suc, _+_, _-_}
 use lib.Dec.{eqb, leb}
 use lib.ListN.{length, getD, take}
 use Rattle.wire.specs.Rows.{rows}
-use Rattle.tables.specs.Card.{Receive}
-use Rattle.tables.specs.Image.{receiveOf}
+use Rattle.tables.specs.Card.{Receive, receiveOf}
 use Rattle.tables.specs.Records.{sendCodec, isSignaled, isInline, inlineBytes, sendSge, receiveCodec}
 use Rattle.tables.specs.declared.Registration.{Registration}
 use Rattle.tables.specs.declared.Sge.{Sge}
 use Rattle.rules.specs.Lists.{stored}
+use Rattle.wire.specs.Codec.{decode}
 
 -- ---- the records as requests
 
@@ -32,7 +32,7 @@ pub record Request : Type 0 where
 -- the request that the bytes of a send record are
 unfoldable pub requestOf : List ℕ → Request
 requestOf x =
-    let s = sendCodec .read x 0 in
+    let s = decode sendCodec x 0 in
     record {
       wr = s .wr;
       opcode = s .opcode;
@@ -47,7 +47,7 @@ requestOf x =
 
 -- the receive that the bytes of a receive record are
 unfoldable pub receiveIn : List ℕ → Receive
-receiveIn x = receiveOf (receiveCodec .read x 0)
+receiveIn x = receiveOf (decode receiveCodec x 0)
 
 -- "Opcodes: 0 write, 1 write with immediate, 2 send, 3 send with immediate, 4 read"; 1, 2, 3 take a receive of the peer, 2 and 3 fill it
 abbrev pub takes : ℕ → Bool

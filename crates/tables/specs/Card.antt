@@ -4,7 +4,9 @@ use mathlib.Core.Bool.{Bool, false}
 use mathlib.Core.List.{List, [], _∷_}
 use mathlib.Core.Option.{Option, none}
 use Prim.Native.Nat.{ℕ}
+use Rattle.tables.specs.Records.{receiveSges}
 use Rattle.tables.specs.declared.Completion.{Completion}
+use Rattle.tables.specs.declared.ReceiveRecord.{ReceiveRecord}
 use Rattle.tables.specs.declared.Registration.{Registration}
 use Rattle.tables.specs.declared.Sge.{Sge}
 
@@ -19,6 +21,10 @@ pub record Receive : Type 0 where
   pub wr : ℕ
   pub sges : List Sge
 
+-- the receive that a receive record is
+unfoldable pub receiveOf : ReceiveRecord → Receive
+receiveOf r = record { wr = r .wr; sges = receiveSges r }
+
 -- a queue pair, with its send and receive completion queues, its destination and its waiting receives, the oldest first
 pub record Qp : Type 0 where
   pub live : Bool
@@ -30,8 +36,9 @@ pub record Qp : Type 0 where
   pub dest : Option ℕ
   pub waiting : List Receive
 
--- a completion queue and its unread completions, the oldest first; it is live where it has places
+-- a completion queue and its unread completions, the oldest first
 pub record Cq : Type 0 where
+  pub live : Bool
   pub places : ℕ
   pub entries : List Completion
 
@@ -42,6 +49,10 @@ pub record Card : Type 0 where
   pub cq : ℕ → Cq
   pub mr : ℕ → Mr
   pub qp : ℕ → Qp
+
+-- the completion queue n is live
+abbrev pub cqLive : Card → ℕ → Bool
+cqLive c n = c .cq n .live
 
 abbrev pub withPd : Card → (ℕ → Bool) → Card
 withPd c f = record { memory = c .memory; pd = f; cq = c .cq; mr = c .mr; qp = c .qp }
@@ -60,6 +71,10 @@ abbrev pub withWaiting : Qp → List Receive → Qp
 withWaiting q ws =
     record { live = q .live; pd = q .pd; signal = q .signal; scq = q .scq; rcq = q .rcq; state = q .state; dest = q .dest; waiting = ws }
 
+-- a completion queue with other unread completions
+abbrev pub withEntries : Cq → List Completion → Cq
+withEntries q es = record { live = q .live; places = q .places; entries = es }
+
 -- a list without its oldest element
 abbrev pub tail : {A : Type 0} → List A → List A
 tail [] = []
@@ -75,7 +90,7 @@ abbrev pub freeQp : Qp
 freeQp = record { live = false; pd = 0; signal = 0; scq = 0; rcq = 0; state = 0; dest = none; waiting = [] }
 
 abbrev pub freeCq : Cq
-freeCq = record { places = 0; entries = [] }
+freeCq = record { live = false; places = 0; entries = [] }
 
 abbrev pub noReceive : Receive
 noReceive = record { wr = 0; sges = [] }

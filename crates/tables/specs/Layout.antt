@@ -1,10 +1,10 @@
--- Where each table stands in the lent state: docs/STATE.md. A field is its offset and its width in bytes. Assumes nothing.
+-- Where each table stands in the lent state: docs/STATE.md. One block for each kind of object: a column of live flags, one byte each, and
+-- then its rows. A line is a number's offset in its row, its width in bytes, and its name. Assumes nothing.
 use mathlib.Core.Path.{refl}
 use Prim.Native.Nat.{ℕ, _+_, _*_}
 use mathlib.Core.List.{[], _∷_}
 use lib.ListN.{getD}
-use Rattle.wire.specs.Fields.{field, within, clear, apart}
-use Rattle.wire.specs.Codec.{structCodec}
+use Rattle.wire.specs.Codec.{Codec, line, within, clear, apart}
 use Rattle.wire.specs.Table.{Table}
 use Rattle.tables.specs.Limits.{pdCount, cqCount, mrCount, qpCount, mostPlaces, mostWaiting}
 use Rattle.tables.specs.Records.{completionCodec, receiveCodec}
@@ -15,112 +15,175 @@ use Rattle.tables.specs.declared.QueuePair.{QueuePair}
 use Rattle.tables.specs.declared.WaitingHead.{WaitingHead}
 use Rattle.tables.specs.declared.ReceiveRecord.{ReceiveRecord}
 
+-- ---- rows
+
+-- the memory length, in a header of 16 bytes
+unfoldable pub memoryCodec : Codec ℕ
+unfolding within clear apart
+memoryCodec = record { size = 16; lines = line 0 8 (λ m. m) ∷ []; make = λ vs. getD vs 0 0; ends = tt; clears = tt; back = λ m. refl }
+
+-- a live flag: 1 where the object is live
+unfoldable pub flagCodec : Codec ℕ
+unfolding within clear apart
+flagCodec = record { size = 1; lines = line 0 1 (λ f. f) ∷ []; make = λ vs. getD vs 0 0; ends = tt; clears = tt; back = λ f. refl }
+
+-- a completion queue without its ring
+unfoldable pub queueCodec : Codec QueueHead
+unfolding within clear apart
+queueCodec = record {
+  size = 4;
+  lines = line 0 1 (λ r. r .places) ∷ line 1 1 (λ r. r .first) ∷ line 2 1 (λ r. r .count) ∷ line 3 1 (λ r. 0) ∷ [];
+  make = λ vs. record { places = getD vs 0 0; first = getD vs 1 0; count = getD vs 2 0 };
+  ends = tt;
+  clears = tt;
+  back = λ r. refl;
+}
+
+-- a region; the variant stays when the slot is free
+unfoldable pub regionCodec : Codec Region
+unfolding within clear apart
+regionCodec = record {
+  size = 32;
+  lines =
+      line 0 1 (λ r. r .access) ∷
+      line 1 1 (λ r. r .variant) ∷
+      line 2 1 (λ r. r .pd) ∷
+      line 3 1 (λ r. 0) ∷
+      line 8 8 (λ r. r .start) ∷
+      line 16 8 (λ r. r .length) ∷
+      line 24 8 (λ r. r .virt) ∷
+      [];
+  make = λ vs. record {
+    access = getD vs 0 0;
+    variant = getD vs 1 0;
+    pd = getD vs 2 0;
+    start = getD vs 4 0;
+    length = getD vs 5 0;
+    virt = getD vs 6 0;
+  };
+  ends = tt;
+  clears = tt;
+  back = λ r. refl;
+}
+
+-- a queue pair; destination 8, no queue pair's number, is none
+unfoldable pub pairCodec : Codec QueuePair
+unfolding within clear apart
+pairCodec = record {
+  size = 8;
+  lines =
+      line 0 1 (λ r. r .pd) ∷
+      line 1 1 (λ r. r .signal) ∷
+      line 2 1 (λ r. r .scq) ∷
+      line 3 1 (λ r. r .rcq) ∷
+      line 4 1 (λ r. r .state) ∷
+      line 5 1 (λ r. r .dest) ∷
+      line 6 1 (λ r. 0) ∷
+      line 7 1 (λ r. 0) ∷
+      [];
+  make = λ vs. record {
+    pd = getD vs 0 0;
+    signal = getD vs 1 0;
+    scq = getD vs 2 0;
+    rcq = getD vs 3 0;
+    state = getD vs 4 0;
+    dest = getD vs 5 0;
+  };
+  ends = tt;
+  clears = tt;
+  back = λ r. refl;
+}
+
+-- where a queue pair's waiting receives stand among its 4 places
+unfoldable pub waitingCodec : Codec WaitingHead
+unfolding within clear apart
+waitingCodec = record {
+  size = 2;
+  lines = line 0 1 (λ r. r .first) ∷ line 1 1 (λ r. r .count) ∷ [];
+  make = λ vs. record { first = getD vs 0 0; count = getD vs 1 0 };
+  ends = tt;
+  clears = tt;
+  back = λ r. refl;
+}
+
+-- ---- where each table begins, and the state's length
+
 abbrev pub receiveCount : ℕ
 receiveCount = qpCount * mostWaiting
 
 abbrev pub entryCount : ℕ
 entryCount = cqCount * mostPlaces
 
--- ---- where each table begins, and the state's length
+abbrev pub pdFlagBase : ℕ
+pdFlagBase = 16
 
-abbrev pub pdBase : ℕ
-pdBase = 16
-
-abbrev pub mrLiveBase : ℕ
-mrLiveBase = pdBase + pdCount
+-- the block of the completion queues
+abbrev pub cqFlagBase : ℕ
+cqFlagBase = pdFlagBase + pdCount
 
 abbrev pub cqBase : ℕ
-cqBase = mrLiveBase + mrCount
+cqBase = cqFlagBase + cqCount
+
+abbrev pub entryBase : ℕ
+entryBase = cqBase + cqCount * 4
+
+-- the block of the regions
+abbrev pub mrFlagBase : ℕ
+mrFlagBase = entryBase + entryCount * 24
+
+abbrev pub mrBase : ℕ
+mrBase = mrFlagBase + mrCount
+
+-- the block of the queue pairs
+abbrev pub qpFlagBase : ℕ
+qpFlagBase = mrBase + mrCount * 32
 
 abbrev pub qpBase : ℕ
-qpBase = cqBase + cqCount * 4
+qpBase = qpFlagBase + qpCount
 
 abbrev pub waitingBase : ℕ
 waitingBase = qpBase + qpCount * 8
 
-abbrev pub mrBase : ℕ
-mrBase = waitingBase + qpCount * 2
-
 abbrev pub receiveBase : ℕ
-receiveBase = mrBase + mrCount * 32
+receiveBase = waitingBase + qpCount * 2
 
-abbrev pub entryBase : ℕ
-entryBase = receiveBase + receiveCount * 56
-
--- the state's length in bytes, 6,056
-abbrev pub image : ℕ
-image = entryBase + entryCount * 24
+-- the state's length in bytes, 6,072
+abbrev pub stateSize : ℕ
+stateSize = receiveBase + receiveCount * 56
 
 -- ---- the tables
 
--- the memory length
 unfoldable pub memoryT : Table ℕ
-unfolding within clear apart
-memoryT = record { base = 0; count = 1; codec = structCodec 16 (field 0 8 ∷ []) tt tt (λ vs. getD vs 0 0) (λ m. m ∷ []) (λ m. refl) }
+memoryT = record { base = 0; count = 1; codec = memoryCodec }
 
--- 1 where the domain is live
-unfoldable pub pdT : Table ℕ
-unfolding within clear apart
-pdT = record { base = pdBase; count = pdCount; codec = structCodec 1 (field 0 1 ∷ []) tt tt (λ vs. getD vs 0 0) (λ m. m ∷ []) (λ m. refl) }
+unfoldable pub pdFlagT : Table ℕ
+pdFlagT = record { base = pdFlagBase; count = pdCount; codec = flagCodec }
 
--- 1 where the region slot is live
-unfoldable pub mrLiveT : Table ℕ
-unfolding within clear apart
-mrLiveT = record { base = mrLiveBase; count = mrCount; codec = structCodec 1 (field 0 1 ∷ []) tt tt (λ vs. getD vs 0 0) (λ m. m ∷ []) (λ m. refl) }
+unfoldable pub cqFlagT : Table ℕ
+cqFlagT = record { base = cqFlagBase; count = cqCount; codec = flagCodec }
 
--- completion queues without their rings; a queue with no places is not live
 unfoldable pub cqT : Table QueueHead
-unfolding within clear apart
-cqT = record {
-  base = cqBase;
-  count = cqCount;
-  codec =
-      structCodec 4 (field 0 1 ∷ field 1 1 ∷ field 2 1 ∷ []) tt tt
-      (λ vs. record { places = getD vs 0 0; first = getD vs 1 0; count = getD vs 2 0 })
-      (λ r. r .places ∷ r .first ∷ r .count ∷ []) (λ r. refl);
-}
-
--- queue pairs; destination 8 is none
-unfoldable pub qpT : Table QueuePair
-unfolding within clear apart
-qpT = record {
-  base = qpBase;
-  count = qpCount;
-  codec =
-      structCodec 8 (field 0 1 ∷ field 1 1 ∷ field 2 1 ∷ field 3 1 ∷ field 4 1 ∷ field 5 1 ∷ field 6 1 ∷ []) tt tt
-      (λ vs. record { live = getD vs 0 0; pd = getD vs 1 0; signal = getD vs 2 0; scq = getD vs 3 0; rcq = getD vs 4 0; state = getD vs 5 0; dest = getD vs 6 0 })
-      (λ r. r .live ∷ r .pd ∷ r .signal ∷ r .scq ∷ r .rcq ∷ r .state ∷ r .dest ∷ []) (λ r. refl);
-}
-
--- where the waiting receives of each queue pair stand among its 4
-unfoldable pub waitingT : Table WaitingHead
-unfolding within clear apart
-waitingT = record {
-  base = waitingBase;
-  count = qpCount;
-  codec =
-      structCodec 2 (field 0 1 ∷ field 1 1 ∷ []) tt tt (λ vs. record { first = getD vs 0 0; count = getD vs 1 0 })
-      (λ r. r .first ∷ r .count ∷ []) (λ r. refl);
-}
-
--- the regions; the variant stays when the slot is free
-unfoldable pub mrT : Table Region
-unfolding within clear apart
-mrT = record {
-  base = mrBase;
-  count = mrCount;
-  codec =
-      structCodec 32 (field 0 1 ∷ field 1 1 ∷ field 2 1 ∷ field 8 8 ∷ field 16 8 ∷ field 24 8 ∷ []) tt tt
-      (λ vs. record { access = getD vs 0 0; variant = getD vs 1 0; pd = getD vs 2 0; start = getD vs 3 0; length = getD vs 4 0; virt = getD vs 5 0 })
-      (λ r. r .access ∷ r .variant ∷ r .pd ∷ r .start ∷ r .length ∷ r .virt ∷ []) (λ r. refl);
-}
-
--- 4 receives for each queue pair, each in the receive record's layout
-unfoldable pub receiveT : Table ReceiveRecord
-unfolding within clear apart
-receiveT = record { base = receiveBase; count = receiveCount; codec = receiveCodec }
+cqT = record { base = cqBase; count = cqCount; codec = queueCodec }
 
 -- 16 completions for each completion queue, each in the completion's layout
 unfoldable pub entryT : Table Completion
-unfolding within clear apart
 entryT = record { base = entryBase; count = entryCount; codec = completionCodec }
+
+unfoldable pub mrFlagT : Table ℕ
+mrFlagT = record { base = mrFlagBase; count = mrCount; codec = flagCodec }
+
+unfoldable pub mrT : Table Region
+mrT = record { base = mrBase; count = mrCount; codec = regionCodec }
+
+unfoldable pub qpFlagT : Table ℕ
+qpFlagT = record { base = qpFlagBase; count = qpCount; codec = flagCodec }
+
+unfoldable pub qpT : Table QueuePair
+qpT = record { base = qpBase; count = qpCount; codec = pairCodec }
+
+unfoldable pub waitingT : Table WaitingHead
+waitingT = record { base = waitingBase; count = qpCount; codec = waitingCodec }
+
+-- 4 receives for each queue pair, each in the receive record's layout
+unfoldable pub receiveT : Table ReceiveRecord
+receiveT = record { base = receiveBase; count = receiveCount; codec = receiveCodec }

@@ -1,11 +1,9 @@
 // The lower part: the records' layouts and the card's tables in the lent state.
-pub mod accept;
-pub mod find;
-pub mod image;
 pub mod limits;
 pub mod queue;
 pub mod records;
 pub mod reset;
+pub mod rows;
 
 // A scatter/gather entry, document 01's piece: length bytes from the address on, under the key.
 pub struct Sge {
@@ -24,14 +22,15 @@ pub struct Completion {
     pub owner: u32,
 }
 
-// A completion queue without its ring: its places (0 where it is not live), the place of the oldest completion, how many are unread.
+// A completion queue without its ring: its places, the place of the oldest completion, how many are unread.
 pub struct QueueHead {
     pub places: u8,
     pub first: u8,
     pub count: u8,
 }
 
-// A completion queue: its ring of entries, the place of the oldest, how many are unread, and its places.
+// A completion queue: its ring of entries, the place of the oldest, how many are unread, and its places. A call puts into the ring the
+// one entry that it looks at.
 pub struct CompletionQueue {
     pub ring: [Completion; 16],
     pub first: usize,
@@ -41,7 +40,6 @@ pub struct CompletionQueue {
 
 // A queue pair: scq and rcq are its send and its receive completion queue; dest 8 is no destination.
 pub struct QueuePair {
-    pub live: u8,
     pub pd: u8,
     pub signal: u8,
     pub scq: u8,
@@ -70,12 +68,8 @@ pub struct Region {
 pub struct ReceiveRecord {
     pub wr: u64,
     pub count: u32,
-    pub address0: u64,
-    pub length0: u32,
-    pub key0: u32,
-    pub address1: u64,
-    pub length1: u32,
-    pub key1: u32,
+    pub first: Sge,
+    pub second: Sge,
 }
 
 // A send record without its inline bytes and scatter/gather entries. With the inline flag, the low 16 bits of count are the inline length.

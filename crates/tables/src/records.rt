@@ -20,14 +20,15 @@ use crate::limits::MOST_INLINE;
 use crate::limits::MOST_RECEIVE_SGES;
 use crate::limits::MOST_SGES;
 use crate::limits::READ;
+ghost use mathlib.Core.List.{_∷_, []};
 ghost use mathlib.Core.Path.{_≡_};
 ghost use Prim.Native.Nat.{_<_, _≤_, _+_, _^_};
-ghost use lib.ListN.{length, take, drop};
-ghost use Rattle.wire.specs.Fields.{putFields};
+ghost use lib.ListN.{length};
+ghost use Rattle.wire.specs.Codec.{decode, encode, putFields};
 ghost use Rattle.wire.specs.Rows.{rows};
 ghost use Rattle.tables.specs.Limits.{mostSges};
-ghost use Rattle.tables.specs.Reading.{inlinePart, headRead, sgeAt, sendBad, sendSize, numberRead, registerRead, createQpRead, modifyQpRead, ackValues};
-ghost use Rattle.tables.specs.Records.{ackFields, ackLeast, completionCodec, receiveRead, sendCodec, sendRead, sendSge};
+ghost use Rattle.tables.specs.Commands.{ackFields, ackLeast, ackValues, headRead, numberRead, registerRead, createQpRead, modifyQpRead};
+ghost use Rattle.tables.specs.Records.{sgeCodec, sgeAt, completionCodec, resultFields, receiveRead, sendCodec, sendRead, sendSge, sendBad, sendSize, inlineBytes};
 
 // A send record's bytes before its scatter/gather entries, and where its inline bytes begin.
 const SEND_SIZE: usize = 576;
@@ -47,7 +48,7 @@ const SGE_SIZE: usize = 16;
 
 fn send_head(request: &[u8]) -> SendRecord
     requires { ⌜ 576 ≤ length (now request) ⌝ }
-    ensures { λ r. ⌜ r ≡ sendCodec .read (now (request .entry)) 0 ⌝ }
+    ensures { λ r. ⌜ r ≡ decode sendCodec (now (request .entry)) 0 ⌝ }
 {
     SendRecord {
         wr: wire::get64(request, 0),
@@ -101,31 +102,70 @@ pub fn read_send(request: &[u8]) -> SendRead
     SendRead::Record(s)
 }
 
-// The first n bytes from where inline bytes begin, as a part of the record.
-fn inline_first(request: &[u8], n: usize) -> &[u8]
-    ensures { λ r. ⌜ now r ≡ take n (drop 48 (now (request .entry))) ⌝ }
-{
-    let from = INLINE_AT;
-    let all = request.len();
-    if all < from {
-        return &request[all..all];
-    }
-    if all - from <= n {
-        return &request[from..all];
-    }
-    let end = from + n;
-    &request[from..end]
-}
-
 // The inline bytes, as a part of the caller's record.
 pub fn inline_bytes(request: &[u8]) -> &[u8]
-    ensures { λ r. ⌜ now r ≡ inlinePart (now (request .entry)) ⌝ }
+    requires { ⌜ 576 ≤ length (now request) ⌝ }
+    ensures { λ r. ⌜ now r ≡ inlineBytes (now (request .entry)) ⌝ }
 {
-    if request.len() < COUNT_AT + 2 {
-        return inline_first(request, 0);
-    }
     let n = wire::get16(request, COUNT_AT) as usize;
-    inline_first(request, n)
+    wire::part(request, INLINE_AT, n)
+}
+
+// ---- scatter/gather entries and completions at an offset
+
+pub fn get_sge(bytes: &[u8], at: usize) -> Sge
+    requires { ⌜ at + 16 ≤ length (now bytes) ⌝ }
+    ensures { λ r. ⌜ r ≡ decode sgeCodec (now (bytes .entry)) at ⌝ }
+{
+    Sge {
+        address: wire::get64(bytes, at),
+        length: wire::get32(bytes, at + 8),
+        key: wire::get32(bytes, at + 12),
+    }
+}
+
+pub fn put_sge(bytes: &mut [u8], at: usize, s: Sge)
+    requires { ⌜ at + 16 ≤ length (now bytes) ⌝ }
+    ensures { λ _. ⌜ now (bytes .exit) ≡ encode sgeCodec (now (bytes .entry)) at s ⌝ }
+{
+    wire::put64(bytes, at, s.address);
+    wire::put32(bytes, at + 8, s.length);
+    wire::put32(bytes, at + 12, s.key);
+}
+
+pub fn get_completion(bytes: &[u8], at: usize) -> Completion
+    requires { ⌜ at + 24 ≤ length (now bytes) ⌝ }
+    ensures { λ r. ⌜ r ≡ decode completionCodec (now (bytes .entry)) at ⌝ }
+{
+    Completion {
+        wr: wire::get64(bytes, at),
+        status: wire::get8(bytes, at + 8),
+        opcode: wire::get8(bytes, at + 9),
+        length: wire::get32(bytes, at + 12),
+        imm: wire::get32(bytes, at + 16),
+        owner: wire::get32(bytes, at + 20),
+    }
+}
+
+// A completion's bytes after its wr_id: status, opcode and length.
+fn put_result(bytes: &mut [u8], at: usize, c: Completion)
+    requires { ⌜ at + 24 ≤ length (now bytes) ⌝ }
+    ensures { λ _. ⌜ now (bytes .exit) ≡ putFields resultFields (now (bytes .entry)) at (c .status ∷ c .opcode ∷ 0 ∷ c .length ∷ []) ⌝ }
+{
+    wire::put8(bytes, at + 8, c.status);
+    wire::put8(bytes, at + 9, c.opcode);
+    wire::put16(bytes, at + 10, 0);
+    wire::put32(bytes, at + 12, c.length);
+}
+
+pub fn put_completion(bytes: &mut [u8], at: usize, c: Completion)
+    requires { ⌜ at + 24 ≤ length (now bytes) ⌝ }
+    ensures { λ _. ⌜ now (bytes .exit) ≡ encode completionCodec (now (bytes .entry)) at c ⌝ }
+{
+    wire::put64(bytes, at, c.wr);
+    put_result(bytes, at, c);
+    wire::put32(bytes, at + 16, c.imm);
+    wire::put32(bytes, at + 20, c.owner);
 }
 
 // The scatter/gather entry at an offset; one that the record does not have is nothing.
@@ -140,11 +180,7 @@ fn sge_at(request: &[u8], at: usize) -> Sge
             key: 0,
         };
     }
-    Sge {
-        address: wire::get64(request, at),
-        length: wire::get32(request, at + 8),
-        key: wire::get32(request, at + 12),
-    }
+    get_sge(request, at)
 }
 
 // Scatter/gather entry i of a send record.
@@ -185,14 +221,10 @@ pub fn read_receive(request: &[u8]) -> ReceiveRead
     let a = sge_at(request, RECEIVE_HEAD);
     let b = sge_at(request, RECEIVE_HEAD + SGE_SIZE);
     ReceiveRead::Record(ReceiveRecord {
-        wr: wr,
-        count: count,
-        address0: a.address,
-        length0: a.length,
-        key0: a.key,
-        address1: b.address,
-        length1: b.length,
-        key1: b.key,
+        wr,
+        count,
+        first: a,
+        second: b,
     })
 }
 
@@ -291,18 +323,4 @@ pub fn write_ack(ack: &mut [u8], a: Ack)
             wire::put32(ack, 9, key);
         }
     }
-}
-
-// Writes a completion into the first 24 bytes.
-pub fn write_completion(buffer: &mut [u8], c: Completion)
-    requires { ⌜ 24 ≤ length (now buffer) ⌝ }
-    ensures { λ _. ⌜ now (buffer .exit) ≡ completionCodec .put (now (buffer .entry)) 0 c ⌝ }
-{
-    wire::put64(buffer, 0, c.wr);
-    wire::put8(buffer, 8, c.status);
-    wire::put8(buffer, 9, c.opcode);
-    wire::put16(buffer, 10, 0);
-    wire::put32(buffer, 12, c.length);
-    wire::put32(buffer, 16, c.imm);
-    wire::put32(buffer, 20, c.owner);
 }

@@ -1,26 +1,26 @@
 // The state that a reset leaves: specs/Reset.antt.
-use crate::image;
+use crate::rows;
 ghost use mathlib.Core.Path.{_≡_};
 ghost use lib.ListN.{length};
-ghost use Rattle.tables.specs.Layout.{image};
+ghost use Rattle.tables.specs.Layout.{stateSize};
 ghost use Rattle.tables.specs.Reset.{zeros, resetBytes};
 
 // Sets every byte to 0.
-fn clear(img: &mut [u8])
-    ensures { λ _. ⌜ now (img .exit) ≡ zeros (length (now (img .entry))) ⌝ }
+fn clear(state: &mut [u8])
+    ensures { λ _. ⌜ now (state .exit) ≡ zeros (length (now (state .entry))) ⌝ }
 {
     let mut i = 0;
-    while i < img.len() {
-        img[i] = 0;
+    while i < state.len() {
+        state[i] = 0;
         i += 1;
     }
 }
 
 // An empty card over a memory of the given length.
-pub fn reset(img: &mut [u8], memory: u64)
-    requires { ⌜ length (now img) ≡ image ⌝ }
-    ensures { λ _. ⌜ now (img .exit) ≡ resetBytes memory ⌝ }
+pub fn reset(state: &mut [u8], memory: u64)
+    requires { ⌜ length (now state) ≡ stateSize ⌝ }
+    ensures { λ _. ⌜ now (state .exit) ≡ resetBytes memory ⌝ }
 {
-    clear(img);
-    image::store_memory(img, memory);
+    clear(state);
+    rows::store_memory(state, memory);
 }

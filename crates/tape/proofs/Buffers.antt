@@ -7,12 +7,13 @@ use Prim.Native.Nat.{ℕ}
 use lib.Dec.{eqb}
 use lib.ListN.{drop}
 use Rattle.wire.specs.Checks.{Check, _if_, refusal}
-use Rattle.wire.specs.Fields.{within, clear, apart}
+use Rattle.wire.specs.Codec.{within, clear, apart}
 use Rattle.wire.specs.Scan.{all}
-use Rattle.tables.specs.Accept.{accepts}
+use Rattle.validate.specs.Accept.{accepts}
 use Rattle.tables.specs.Card.{Card}
-use Rattle.tables.specs.Image.{card}
-use Rattle.tables.specs.Records.{Command, commandOf, ackLeast, sendChecks, receiveChecks}
+use Rattle.tables.specs.State.{card}
+use Rattle.tables.specs.Commands.{Command, ackLeast, commandOf}
+use Rattle.tables.specs.Records.{sendChecks, receiveChecks}
 use Rattle.tables.specs.Reset.{zeros}
 use Rattle.rules.specs.Call.{Call}
 use Rattle.rules.specs.Calls.{checks, controlChecks, bufferChecks, owedChecks}

@@ -4,15 +4,17 @@ use mathlib.Core.Bool.{true}
 use mathlib.Core.List.{List, [], _∷_, _++_}
 use Prim.Native.Nat.{ℕ}
 use native.Mathlib.Omega.{arith}
-use Rattle.wire.specs.Fields.{putFields}
+use Rattle.wire.specs.Codec.{putFields}
 use Rattle.wire.specs.Le.{leAt, putLe}
 use Rattle.wire.specs.Scan.{lowest, lowestFrom}
-use Rattle.tables.specs.Accept.{accepts}
-use Rattle.tables.specs.Accepted.{accepting}
+use Rattle.validate.specs.Accept.{accepts}
+use Rattle.validate.proofs.AcceptedLaws.{accepting}
 use Rattle.tables.specs.Card.{fresh}
-use Rattle.tables.specs.Image.{card}
-use Rattle.tables.specs.Records.{commandOf, dataSize, ackLeast}
-use Rattle.tables.specs.Reset.{zeros, resetBytes, reset-card, reset-accepted}
+use Rattle.tables.specs.State.{card}
+use Rattle.tables.specs.Commands.{commandOf, dataSize, ackLeast}
+use Rattle.tables.specs.Reset.{zeros, resetBytes}
+use Rattle.validate.proofs.ResetLaws.{reset-accepted}
+use Rattle.tables.proofs.ResetLaws.{reset-card}
 use Rattle.rules.specs.Call.{Call}
 use Rattle.rules.specs.Calls.{checks, controlChecks, statusOf, bufferAfter}
 use Rattle.rules.specs.Control.{commandChecks, commandAck}

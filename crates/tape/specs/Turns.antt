@@ -9,12 +9,13 @@ use lib.Dec.{eqb, ltb, leb}
 use lib.ListN.{length, take, drop, length-take, length-drop, length-append}
 use lib.Seq.{getD-take}
 use borrow.Author.Tests.{le-ltb, lt-ltb, leb-true}
-use Rattle.wire.specs.Le.{leAt, leAt-same}
-use Rattle.wire.specs.Scan.{and-left, and-right}
-use Rattle.tables.specs.Accept.{accepts}
+use Rattle.wire.specs.Le.{leAt}
+use Rattle.wire.proofs.LeLaws.{leAt-same}
+use Rattle.wire.proofs.ScanLaws.{and-left, and-right}
+use Rattle.validate.specs.Accept.{accepts}
 use Rattle.tables.specs.Card.{Card}
-use Rattle.tables.specs.Image.{card}
-use Rattle.tables.specs.Records.{Command, commandOf}
+use Rattle.tables.specs.State.{card}
+use Rattle.tables.specs.Commands.{Command, commandOf}
 use Rattle.rules.specs.Answer.{isDone}
 use Rattle.rules.specs.Call.{Call}
 use Rattle.rules.specs.Calls.{Result, owed}

@@ -11,16 +11,17 @@ use lib.ListN.{length, take, drop, length-append}
 use lib.Seq.{paste, length-take-le, drop-append-add, drop-drop}
 use borrow.Author.Tests.{ltb-false, ne-eqb, eq-eqb}
 use types.Run.{OneOf}
-use Rattle.wire.specs.Checks.{Check, refusal, passed}
+use Rattle.wire.specs.Checks.{Check, refusal}
+use Rattle.wire.proofs.CheckLaws.{passed}
 use Rattle.wire.specs.Le.{leAt}
-use Rattle.tables.specs.Accept.{accepts}
+use Rattle.validate.specs.Accept.{accepts}
 use Rattle.tables.specs.Card.{Card}
-use Rattle.tables.specs.Image.{card}
+use Rattle.tables.specs.State.{card}
 use Rattle.tables.specs.declared.CreateQp.{CreateQp}
 use Rattle.tables.specs.declared.ModifyQp.{ModifyQp}
 use Rattle.tables.specs.declared.Registration.{Registration}
-use Rattle.tables.specs.Records.{ackLeast, Command, commandOf, numberCodec, registerCodec, createQpCodec, modifyQpCodec}
-use Rattle.tables.specs.Layout.{image}
+use Rattle.tables.specs.Commands.{ackLeast, Command, numberCodec, registerCodec, createQpCodec, modifyQpCodec, commandOf}
+use Rattle.tables.specs.Layout.{stateSize}
 use Rattle.tables.specs.Reset.{zeros, resetBytes}
 use Rattle.rules.specs.Answer.{answered, isDone}
 use Rattle.rules.specs.Call.{Call}
@@ -77,7 +78,7 @@ pub ack-size : (c : Card) (k : List ℕ) → ackSize (leAt 1 k 1) ≡ 1 + 4 * le
 unfolding commandOf
 ack-size c k =
     let n = leAt 1 k 1 in
-    picked c (numberCodec .read k 2) (registerCodec .read k 2) (createQpCodec .read k 2) (modifyQpCodec .read k 2)
+    picked c (decode numberCodec k 2) (decode registerCodec k 2) (decode createQpCodec k 2) (decode modifyQpCodec k 2)
     (eqb n 2) (eqb n 3) (eqb n 5) (eqb n 7) (eqb n 8) (eqb n 9) (eqb n 10) (eqb n 12)
 
 same : (x y : Bool) → _≡_ {A = ℕ} 5 (cond x 5 (cond y 5 5))
@@ -139,9 +140,9 @@ answers {l} {l′} {m′} {b′} {out} {out′} {k} {r} o n w size bytes =
     record { count = size ∙ ap length e; bytes = bytes ∙ ap (λ (x : List ℕ). placed x out) e; state = o .bytes }
 
 -- the reset of a tape
-pub started : (l : List ℕ) {r : Answer} {l′ : List ℕ} → length l ≡ image → Owes l (Call.reset tapeMemory) r l′ [] [] → l′ ≡ resetBytes tapeMemory
+pub started : (l : List ℕ) {r : Answer} {l′ : List ℕ} → length l ≡ stateSize → Owes l (Call.reset tapeMemory) r l′ [] [] → l′ ≡ resetBytes tapeMemory
 unfolding checks resetChecks effectBytes
-started l {r} {l′} h o = let e : l′ ≡ bytesAfter l (Call.reset tapeMemory) = o .bytes in rw (eq-eqb (length l) image h) at e
+started l {r} {l′} h o = let e : l′ ≡ bytesAfter l (Call.reset tapeMemory) = o .bytes in rw (eq-eqb (length l) stateSize h) at e
 
 -- ---- the call of each kind
 

@@ -6,8 +6,8 @@ ghost use mathlib.Core.List.{[], _++_};
 ghost use Prim.Native.Nat.{_+_, _*_, _≤_};
 ghost use lib.ListN.{length, take, drop};
 ghost use Rattle.tables.specs.Card.{Card};
-ghost use Rattle.tables.specs.Layout.{image};
-ghost use Rattle.tables.specs.Records.{ackLeast, commandOf};
+ghost use Rattle.tables.specs.Layout.{stateSize};
+ghost use Rattle.tables.specs.Commands.{ackLeast, commandOf};
 ghost use Rattle.tables.specs.Reset.{zeros, resetBytes};
 ghost use Rattle.rules.specs.Answer.{isDone};
 ghost use Rattle.rules.specs.Call.{Call};
@@ -215,7 +215,7 @@ pub fn answer_record(
 
 // Resets the card for a tape: a memory of 4,096 bytes.
 pub fn start(state: &mut [u8])
-    requires { ⌜ length (now state) ≡ image ⌝ }
+    requires { ⌜ length (now state) ≡ stateSize ⌝ }
     ensures { λ _. ⌜ now (state .exit) ≡ resetBytes tapeMemory ⌝ }
 {
     queues::reset(state, MEMORY);

@@ -1,14 +1,26 @@
-// Little-endian numbers of 1, 2, 4 and 8 bytes in a slice, read and written at an offset; bytes copied from one slice to another.
+// Little-endian numbers of 1, 2, 4 and 8 bytes in a slice, read and written at an offset; bytes copied from one slice to another;
+// a part of a slice; a sum that does not wrap; places of a ring.
 ghost use mathlib.Core.Path.{_≡_};
-ghost use Prim.Native.Nat.{_+_, _≤_};
-ghost use lib.ListN.{length, drop};
+ghost use mathlib.Core.List.{_∷_, []};
+ghost use Prim.Native.Nat.{_+_, _^_, _≤_, _<_};
+ghost use lib.Dec.{leb};
+ghost use lib.ListN.{length, take, drop};
 ghost use lib.Seq.{paste};
 ghost use Rattle.wire.specs.Le.{leAt, putLe};
+ghost use Rattle.wire.specs.Codec.{bytesFrom, fieldsAt, putFields, packed, Bytes};
+ghost use Rattle.wire.specs.Ring.{ringPlace};
+ghost use Rattle.wire.specs.Scan.{lowest, clearAt};
 
 fn wide16(x: u8) -> u16
-    ensures { λ r. ⌜ r ≡ x ⌝ }
+    ensures { λ r. ⌜ (r ≡ x) × (r < 256) ⌝ }
 {
     x as u16
+}
+
+fn wide32(x: u8) -> u32
+    ensures { λ r. ⌜ (r ≡ x) × (r < 256) ⌝ }
+{
+    x as u32
 }
 
 pub fn get8(s: &[u8], at: usize) -> u8
@@ -70,6 +82,87 @@ pub fn put64(s: &mut [u8], at: usize, v: u64)
     put32(s, at + 4, (v / 4294967296) as u32);
 }
 
+// ---- the bytes of one word, read and written together
+
+pub fn get_bytes2(s: &[u8], at: usize) -> [u8; 2]
+    requires { ⌜ at + 2 ≤ length (now s) ⌝ }
+    ensures { λ r. ⌜ r ≡ fieldsAt (bytesFrom 2 0) (now (s .entry)) at ⌝ }
+{
+    let w = get16(s, at);
+    [(w % 256) as u8, (w / 256) as u8]
+}
+
+pub fn get_bytes4(s: &[u8], at: usize) -> [u8; 4]
+    requires { ⌜ at + 4 ≤ length (now s) ⌝ }
+    ensures { λ r. ⌜ r ≡ fieldsAt (bytesFrom 4 0) (now (s .entry)) at ⌝ }
+{
+    let w = get32(s, at);
+    [
+        (w % 256) as u8,
+        (w / 256 % 256) as u8,
+        (w / 65536 % 256) as u8,
+        (w / 16777216) as u8,
+    ]
+}
+
+pub fn get_bytes8(s: &[u8], at: usize) -> [u8; 8]
+    requires { ⌜ at + 8 ≤ length (now s) ⌝ }
+    ensures { λ r. ⌜ r ≡ fieldsAt (bytesFrom 8 0) (now (s .entry)) at ⌝ }
+{
+    let w = get64(s, at);
+    [
+        (w % 256) as u8,
+        (w / 256 % 256) as u8,
+        (w / 65536 % 256) as u8,
+        (w / 16777216 % 256) as u8,
+        (w / 4294967296 % 256) as u8,
+        (w / 1099511627776 % 256) as u8,
+        (w / 281474976710656 % 256) as u8,
+        (w / 72057594037927936) as u8,
+    ]
+}
+
+pub fn put_bytes2(s: &mut [u8], at: usize, b0: u8, b1: u8)
+    requires { ⌜ at + 2 ≤ length (now s) ⌝ }
+    ensures { λ _. ⌜ now (s .exit) ≡ putFields (bytesFrom 2 0) (now (s .entry)) at (b0 ∷ b1 ∷ []) ⌝ }
+{
+    put16(s, at, wide16(b0) + 256 * wide16(b1));
+}
+
+// The number of four bytes.
+fn word4(b0: u8, b1: u8, b2: u8, b3: u8) -> u32
+    ensures { λ r. ⌜ (r ≡ packed (b0 ∷ b1 ∷ b2 ∷ b3 ∷ [])) × Bytes (b0 ∷ b1 ∷ b2 ∷ b3 ∷ []) ⌝ }
+{
+    wide32(b0) + 256 * wide32(b1) + 65536 * wide32(b2) + 16777216 * wide32(b3)
+}
+
+pub fn put_bytes4(s: &mut [u8], at: usize, b0: u8, b1: u8, b2: u8, b3: u8)
+    requires { ⌜ at + 4 ≤ length (now s) ⌝ }
+    ensures { λ _. ⌜ now (s .exit) ≡ putFields (bytesFrom 4 0) (now (s .entry)) at (b0 ∷ b1 ∷ b2 ∷ b3 ∷ []) ⌝ }
+{
+    put32(s, at, word4(b0, b1, b2, b3));
+}
+
+pub fn put_bytes8(
+    s: &mut [u8],
+    at: usize,
+    b0: u8,
+    b1: u8,
+    b2: u8,
+    b3: u8,
+    b4: u8,
+    b5: u8,
+    b6: u8,
+    b7: u8,
+)
+    requires { ⌜ at + 8 ≤ length (now s) ⌝ }
+    ensures { λ _. ⌜ now (s .exit) ≡ putFields (bytesFrom 8 0) (now (s .entry)) at (b0 ∷ b1 ∷ b2 ∷ b3 ∷ b4 ∷ b5 ∷ b6 ∷ b7 ∷ []) ⌝ }
+{
+    let low = word4(b0, b1, b2, b3);
+    let high = word4(b4, b5, b6, b7);
+    put64(s, at, (low as u64) + 4294967296 * (high as u64));
+}
+
 // ---- copies
 
 // Copies n bytes of src, from index from on, into dst from index at on.
@@ -82,4 +175,53 @@ pub fn copy_bytes(dst: &mut [u8], at: usize, src: &[u8], from: usize, n: usize)
         dst[at + i] = src[from + i];
         i += 1;
     }
+}
+
+// ---- parts, sums, rings
+
+// The n bytes from index from on, as a part of the slice; fewer where it ends before.
+pub fn part(s: &[u8], from: usize, n: usize) -> &[u8]
+    ensures { λ r. ⌜ now r ≡ take n (drop from (now (s .entry))) ⌝ }
+{
+    let all = s.len();
+    if all < from {
+        return &s[all..all];
+    }
+    if all - from <= n {
+        return &s[from..all];
+    }
+    let end = from + n;
+    &s[from..end]
+}
+
+// Whether a + b is at most the limit, as whole numbers.
+pub fn sum_within(a: u64, b: u64, limit: u64) -> bool
+    ensures { λ r. ⌜ r ≡ leb (a + b) limit ⌝ }
+{
+    if b <= limit { a <= limit - b } else { false }
+}
+
+// The place k past the place first, in a ring of cap places.
+pub fn ring_place(cap: usize, first: usize, k: usize) -> usize
+    requires { ⌜ (0 < cap) × (cap < 2 ^ 16) × (first < 2 ^ 16) × (k < 2 ^ 16) ⌝ }
+    ensures { λ r. ⌜ r ≡ ringPlace cap first k ⌝ }
+{
+    (first + k) % cap
+}
+
+// ---- searches
+
+// The lowest i below count whose byte, at index at + i, is not 1; count where there is none.
+pub fn lowest_clear(s: &[u8], at: usize, count: usize) -> usize
+    requires { ⌜ at + count ≤ length (now s) ⌝ }
+    ensures { λ r. ⌜ r ≡ lowest count (clearAt (now (s .entry)) at) ⌝ }
+{
+    let mut n = 0;
+    while n < count {
+        if get8(s, at + n) != 1 {
+            return n;
+        }
+        n += 1;
+    }
+    n
 }

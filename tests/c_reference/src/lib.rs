@@ -1,5 +1,7 @@
 //! The reference under the names of the C header, so that C programs can run on it.
 
+#![warn(unsafe_op_in_unsafe_fn)]
+
 use std::slice;
 
 /// # Safety

@@ -1,6 +1,7 @@
 //! Writers of the records that a caller hands in.
 
-use reference::record::{Piece, CONTROL_CLASS, COUNT_AT, INLINE, INLINE_AT, PIECE_BYTES, RECEIVE_BYTES, SEND_BYTES};
+use reference::layout::{INIT, READY_TO_RECEIVE, READY_TO_SEND};
+use reference::record::{Command, Piece, CONTROL_CLASS, COUNT_AT, INLINE, INLINE_AT, PIECE_BYTES, RECEIVE_BYTES, SEND_BYTES};
 
 pub const MASK_STATE: u32 = 1;
 pub const MASK_DESTINATION: u32 = 1 << 15;
@@ -46,23 +47,55 @@ pub fn create_pair(pdn: u32, kind: u8, signal: u8, send_cqn: u32, receive_cqn: u
     record
 }
 
-pub fn modify(qpn: u32, mask: u32, state: u8, padding: [u8; 3], destination: u32) -> Vec<u8> {
-    let mut record = number_command(10, qpn);
-    record.extend(mask.to_le_bytes());
-    record.push(state);
-    record.extend(padding);
-    record.extend(destination.to_le_bytes());
-    record
+/// A modify record to be written. Its layout is in `bytes` alone.
+#[derive(Clone, Copy, Debug, Default, PartialEq, Eq)]
+pub struct Modify {
+    pub qpn: u32,
+    pub mask: u32,
+    pub state: u8,
+    pub padding: [u8; 3],
+    pub destination: u32,
+}
+
+impl Modify {
+    /// What a command asks for, if it is a modify record of the right length.
+    pub fn read(command: &[u8]) -> Option<Modify> {
+        match Command::read(command) {
+            Ok(Command::ModifyPair { number, mask, state, padding, destination }) => {
+                Some(Modify { qpn: number, mask, state, padding, destination })
+            }
+            _ => None,
+        }
+    }
+
+    pub fn bytes(&self) -> Vec<u8> {
+        let mut record = number_command(10, self.qpn);
+        record.extend(self.mask.to_le_bytes());
+        record.push(self.state);
+        record.extend(self.padding);
+        record.extend(self.destination.to_le_bytes());
+        record
+    }
 }
 
 /// A move to a state other than 2.
 pub fn move_to(qpn: u32, state: u8) -> Vec<u8> {
-    modify(qpn, MASK_STATE, state, [0; 3], 0)
+    Modify { qpn, mask: MASK_STATE, state, ..Modify::default() }.bytes()
 }
 
-/// The move to state 2.
+/// The move to state 2, by which a pair gets all that it needs to be a peer.
 pub fn join(qpn: u32, destination: u32) -> Vec<u8> {
-    modify(qpn, MASK_STATE | MASK_DESTINATION, 2, [0; 3], destination)
+    Modify { qpn, mask: MASK_STATE | MASK_DESTINATION, state: READY_TO_RECEIVE, destination, ..Modify::default() }.bytes()
+}
+
+/// The moves of a pair from reset to ready to send.
+pub fn ready(qpn: u32, destination: u32) -> [Vec<u8>; 3] {
+    [move_to(qpn, INIT), join(qpn, destination), move_to(qpn, READY_TO_SEND)]
+}
+
+/// The moves of two pairs from reset to ready to send to each other.
+pub fn ready_both(a: u32, b: u32) -> Vec<Vec<u8>> {
+    [ready(a, b), ready(b, a)].concat()
 }
 
 pub fn destroy_pair(qpn: u32) -> Vec<u8> {

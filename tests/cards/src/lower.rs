@@ -80,18 +80,20 @@ impl Lower for ReferenceLower {
     }
 
     fn free(&self, state: &[u8], table: u32) -> u32 {
-        let mut copy = state.to_vec();
-        let Ok(card) = reference::Card::open(&mut copy) else {
-            return NOT_ACCEPTED;
-        };
-        let (free, count) = match table {
-            0 => (card.free_domain(), DOMAINS),
-            1 => (card.free_queue(), QUEUES),
-            2 => (card.free_region(), REGIONS),
-            _ => (card.free_pair(), PAIRS),
-        };
-        free.unwrap_or(count) as u32
+        free_numbers(state)[table as usize]
     }
+}
+
+/// The lowest free number of each table, or its count; in the order of `Lower::free`.
+pub fn free_numbers(state: &[u8]) -> [u32; 4] {
+    if !reference::accepts(state) {
+        return [NOT_ACCEPTED; 4];
+    }
+    let mut copy = state.to_vec();
+    let card = reference::Card::open(&mut copy).expect("an accepted state");
+    let tables =
+        [(card.free_domain(), DOMAINS), (card.free_queue(), QUEUES), (card.free_region(), REGIONS), (card.free_pair(), PAIRS)];
+    tables.map(|(free, count)| free.unwrap_or(count) as u32)
 }
 
 fn write_send(send: &SendRecord, record: &[u8], out: &mut [u8]) {

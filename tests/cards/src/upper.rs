@@ -1,48 +1,73 @@
-//! The six calls behind one trait.
+//! The calls behind one trait.
 
 use reference::Outcome;
 
+/// A card. It may lack a call: making it then ends the test with a line that says so.
 pub trait Card {
     fn name(&self) -> &'static str;
-    fn reset(&self, state: &mut [u8], memory_length: u64) -> Outcome;
-    fn control(&self, state: &mut [u8], command: &[u8], ack: &mut [u8]) -> Outcome;
-    fn post_send(&self, state: &mut [u8], memory: &mut [u8], qpn: u32, record: &[u8]) -> Outcome;
-    fn post_receive(&self, state: &mut [u8], qpn: u32, record: &[u8]) -> Outcome;
-    fn flush(&self, state: &mut [u8], qpn: u32) -> Outcome;
-    fn poll(&self, state: &mut [u8], cqn: u32, buffer: &mut [u8]) -> Outcome;
+
+    fn reset(&self, _state: &mut [u8], _memory_length: u64) -> Outcome {
+        lacks(self.name(), "reset")
+    }
+
+    fn control(&self, _state: &mut [u8], _command: &[u8], _ack: &mut [u8]) -> Outcome {
+        lacks(self.name(), "control")
+    }
+
+    fn post_send(&self, _state: &mut [u8], _memory: &mut [u8], _qpn: u32, _record: &[u8]) -> Outcome {
+        lacks(self.name(), "post send")
+    }
+
+    fn post_receive(&self, _state: &mut [u8], _qpn: u32, _record: &[u8]) -> Outcome {
+        lacks(self.name(), "post receive")
+    }
+
+    fn flush(&self, _state: &mut [u8], _qpn: u32) -> Outcome {
+        lacks(self.name(), "flush")
+    }
+
+    fn poll(&self, _state: &mut [u8], _cqn: u32, _buffer: &mut [u8]) -> Outcome {
+        lacks(self.name(), "poll")
+    }
+}
+
+fn lacks(card: &str, call: &str) -> Outcome {
+    panic!("{card} has no {call}")
+}
+
+/// Makes a type a card by the functions of a module: the reference, or a copy of it with results of its own type.
+#[macro_export]
+macro_rules! card_of {
+    ($type:ident, $name:expr, $module:ident) => {
+        impl $crate::Card for $type {
+            fn name(&self) -> &'static str {
+                $name
+            }
+            fn reset(&self, state: &mut [u8], memory_length: u64) -> $crate::Outcome {
+                $crate::Outcome::from_bits($module::reset(state, memory_length).to_bits())
+            }
+            fn control(&self, state: &mut [u8], command: &[u8], ack: &mut [u8]) -> $crate::Outcome {
+                $crate::Outcome::from_bits($module::control(state, command, ack).to_bits())
+            }
+            fn post_send(&self, state: &mut [u8], memory: &mut [u8], qpn: u32, record: &[u8]) -> $crate::Outcome {
+                $crate::Outcome::from_bits($module::post_send(state, memory, qpn, record).to_bits())
+            }
+            fn post_receive(&self, state: &mut [u8], qpn: u32, record: &[u8]) -> $crate::Outcome {
+                $crate::Outcome::from_bits($module::post_receive(state, qpn, record).to_bits())
+            }
+            fn flush(&self, state: &mut [u8], qpn: u32) -> $crate::Outcome {
+                $crate::Outcome::from_bits($module::flush(state, qpn).to_bits())
+            }
+            fn poll(&self, state: &mut [u8], cqn: u32, buffer: &mut [u8]) -> $crate::Outcome {
+                $crate::Outcome::from_bits($module::poll(state, cqn, buffer).to_bits())
+            }
+        }
+    };
 }
 
 pub struct Reference;
 
-impl Card for Reference {
-    fn name(&self) -> &'static str {
-        "reference"
-    }
-
-    fn reset(&self, state: &mut [u8], memory_length: u64) -> Outcome {
-        reference::reset(state, memory_length)
-    }
-
-    fn control(&self, state: &mut [u8], command: &[u8], ack: &mut [u8]) -> Outcome {
-        reference::control(state, command, ack)
-    }
-
-    fn post_send(&self, state: &mut [u8], memory: &mut [u8], qpn: u32, record: &[u8]) -> Outcome {
-        reference::post_send(state, memory, qpn, record)
-    }
-
-    fn post_receive(&self, state: &mut [u8], qpn: u32, record: &[u8]) -> Outcome {
-        reference::post_receive(state, qpn, record)
-    }
-
-    fn flush(&self, state: &mut [u8], qpn: u32) -> Outcome {
-        reference::flush(state, qpn)
-    }
-
-    fn poll(&self, state: &mut [u8], cqn: u32, buffer: &mut [u8]) -> Outcome {
-        reference::poll(state, cqn, buffer)
-    }
-}
+card_of!(Reference, "reference", reference);
 
 /// The proved library, if it is linked.
 #[cfg(not(has_engine))]

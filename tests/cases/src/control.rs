@@ -216,26 +216,27 @@ fn pairs() -> Vec<Case> {
 
 /// Name, command and answer of modifications of pair 0, which is ready to send.
 fn modify_fields() -> Vec<(&'static str, Vec<u8>, u8)> {
-    let with = MASK_STATE | MASK_DESTINATION;
+    let fails = Modify { mask: MASK_STATE, state: 6, ..Modify::default() };
+    let joins = Modify { mask: MASK_STATE | MASK_DESTINATION, state: 2, destination: 1, ..Modify::default() };
     vec![
-        ("mask-0", modify(0, 0, 6, [0; 3], 0), 4),
-        ("mask-bit-15-alone", modify(0, MASK_DESTINATION, 2, [0; 3], 1), 4),
-        ("mask-bit-1", modify(0, 3, 6, [0; 3], 0), 4),
-        ("mask-bit-2", modify(0, 5, 6, [0; 3], 0), 4),
-        ("mask-bit-14", modify(0, 1 << 14 | 1, 6, [0; 3], 0), 4),
-        ("mask-bit-16", modify(0, 1 << 16 | 1, 6, [0; 3], 0), 4),
-        ("mask-bit-31", modify(0, 1 << 31 | 1, 6, [0; 3], 0), 4),
+        ("mask-0", Modify { mask: 0, ..fails }.bytes(), 4),
+        ("mask-bit-15-alone", Modify { mask: MASK_DESTINATION, ..joins }.bytes(), 4),
+        ("mask-bit-1", Modify { mask: 1 << 1 | 1, ..fails }.bytes(), 4),
+        ("mask-bit-2", Modify { mask: 1 << 2 | 1, ..fails }.bytes(), 4),
+        ("mask-bit-14", Modify { mask: 1 << 14 | 1, ..fails }.bytes(), 4),
+        ("mask-bit-16", Modify { mask: 1 << 16 | 1, ..fails }.bytes(), 4),
+        ("mask-bit-31", Modify { mask: 1 << 31 | 1, ..fails }.bytes(), 4),
         ("state-4", move_to(0, 4), 4),
         ("state-5", move_to(0, 5), 4),
         ("state-7", move_to(0, 7), 4),
         ("state-255", move_to(0, 255), 4),
-        ("padding-0", modify(0, 1, 6, [1, 0, 0], 0), 4),
-        ("padding-1", modify(0, 1, 6, [0, 1, 0], 0), 4),
-        ("padding-2", modify(0, 1, 6, [0, 0, 128], 0), 4),
-        ("bit-15-to-0", modify(0, with, 0, [0; 3], 1), 4),
-        ("bit-15-to-1", modify(0, with, 1, [0; 3], 1), 4),
-        ("bit-15-to-3", modify(0, with, 3, [0; 3], 1), 4),
-        ("bit-15-to-6", modify(0, with, 6, [0; 3], 1), 4),
+        ("padding-0", Modify { padding: [1, 0, 0], ..fails }.bytes(), 4),
+        ("padding-1", Modify { padding: [0, 1, 0], ..fails }.bytes(), 4),
+        ("padding-2", Modify { padding: [0, 0, 128], ..fails }.bytes(), 4),
+        ("bit-15-to-0", Modify { state: 0, ..joins }.bytes(), 4),
+        ("bit-15-to-1", Modify { state: 1, ..joins }.bytes(), 4),
+        ("bit-15-to-3", Modify { state: 3, ..joins }.bytes(), 4),
+        ("bit-15-to-6", Modify { state: 6, ..joins }.bytes(), 4),
         ("to-2-without-bit-15", move_to(0, 2), 4),
         ("destination-8", join(0, 8), 4),
         ("destination-256", join(0, 256), 4),
@@ -245,7 +246,7 @@ fn modify_fields() -> Vec<(&'static str, Vec<u8>, u8)> {
         ("qp-5-dead-destination-5", join(5, 5), 4),
         ("qp-dead", move_to(2, 6), 2),
         ("qp-2^32-1", move_to(u32::MAX, 6), 2),
-        ("destination-ignored", modify(0, 1, 6, [0; 3], 0), 0),
+        ("destination-ignored", Modify { destination: 0, ..fails }.bytes(), 0),
     ]
 }
 
@@ -256,7 +257,8 @@ fn modifications() -> Vec<Case> {
     }
     let mut order = Script::joined();
     order.create(create_pair(0, 2, 0, 0, 0), 2).done(move_to(2, 1));
-    order.refused(modify(2, MASK_STATE | MASK_DESTINATION, 3, [0; 3], 1), 4).refused(move_to(2, 3), 3);
+    let named = Modify { qpn: 2, mask: MASK_STATE | MASK_DESTINATION, state: 3, destination: 1, ..Modify::default() };
+    order.refused(named.bytes(), 4).refused(move_to(2, 3), 3);
     cases.push(order.named("modify-4-before-3"));
     cases
 }

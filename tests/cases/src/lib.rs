@@ -1,6 +1,7 @@
 //! Named lists of calls with the answers that document 01 gives them. Each runs on any card and can be written as a replay tape.
 
 mod control;
+pub mod lent;
 mod posting;
 mod queues;
 mod run;
@@ -9,7 +10,7 @@ mod tape;
 mod traps;
 
 pub use run::run;
-pub use script::{Case, Script, Step, MEMORY};
+pub use script::{Case, Script, Step, Wanted};
 
 /// Every case; names are unique.
 pub fn all() -> Vec<Case> {

@@ -1,13 +1,14 @@
 //! Runs a case through the calls of a card.
 
-use crate::script::{Case, Step, MEMORY};
-use cards::Card;
-use reference::layout::{COMPLETION_BYTES, STATE_BYTES};
-use reference::Outcome;
+use crate::script::{Case, Step, Wanted};
+use cards::{Call, Card};
+use reference::layout::STATE_BYTES;
+use reference::replay::MEMORY;
 
 /// Filler of the bytes that a call must leave.
 const LEFT: u8 = 0xa5;
 
+/// What is lent to a card: the memory of a tape, zero at first.
 struct Lent {
     state: Vec<u8>,
     memory: Vec<u8>,
@@ -18,65 +19,36 @@ pub fn run(case: &Case, card: &dyn Card) -> Result<(), String> {
     let mut lent = Lent { state: vec![LEFT; STATE_BYTES], memory: vec![0; MEMORY] };
     card.reset(&mut lent.state, MEMORY as u64);
     for (n, step) in case.steps.iter().enumerate() {
-        lent.step(step, card).map_err(|message| format!("{}, step {n}: {message}", case.name))?;
+        let result = match step {
+            Step::Call { call, wanted } => lent.call(call, wanted, card),
+            Step::Memory { at, bytes } => same_bytes("memory", &lent.memory[*at..*at + bytes.len()], bytes),
+            Step::Raw(_) => Ok(()),
+        };
+        result.map_err(|message| format!("{}, step {n}: {message}", case.name))?;
     }
     Ok(())
 }
 
 impl Lent {
-    fn step(&mut self, step: &Step, card: &dyn Card) -> Result<(), String> {
-        let before = (self.state.clone(), self.memory.clone());
-        let refused = match step {
-            Step::Control { command, answer, ack } => {
-                self.control(card, command, *answer, ack)?;
-                *answer != 0
-            }
-            Step::Send { qpn, record, answer, status } => {
-                let outcome = card.post_send(&mut self.state, &mut self.memory, (*qpn).into(), record);
-                same(outcome, *answer, *status)?;
-                *answer != 0
-            }
-            Step::Receive { qpn, record, answer } => {
-                same(card.post_receive(&mut self.state, (*qpn).into(), record), *answer, 0)?;
-                *answer != 0
-            }
-            Step::Flush { qpn, answer } => {
-                same(card.flush(&mut self.state, (*qpn).into()), *answer, 0)?;
-                *answer != 0
-            }
-            Step::Poll { cqn, answer, completion } => {
-                let mut wanted = [LEFT; COMPLETION_BYTES + 1];
-                if let Some(completion) = completion {
-                    completion.write(&mut wanted, 0);
-                }
-                let mut buffer = [LEFT; COMPLETION_BYTES + 1];
-                same(card.poll(&mut self.state, (*cqn).into(), &mut buffer), *answer, 0)?;
-                same_bytes("completion", &buffer, &wanted)?;
-                *answer != 0
-            }
-            Step::Memory { at, bytes } => return same_bytes("memory", &self.memory[*at..*at + bytes.len()], bytes),
-            Step::Raw(_) => return Ok(()),
-        };
-        if refused && before != (self.state.clone(), self.memory.clone()) {
-            return Err("a refused call changed the state or the memory".into());
+    /// A refused call changes neither state nor memory, and no call more of its buffer than it should.
+    fn call(&mut self, call: &Call, wanted: &Wanted, card: &dyn Card) -> Result<(), String> {
+        let refused = wanted.outcome.answer != 0;
+        let before = refused.then(|| (self.state.clone(), self.memory.clone()));
+        let mut buffer = vec![LEFT; call.buffer()];
+        let outcome = call.make(card, &mut self.state, &mut self.memory, &mut buffer);
+        if outcome != wanted.outcome {
+            return Err(format!("{outcome:?}, wanted {:?}", wanted.outcome));
         }
-        Ok(())
+        let mut left = vec![LEFT; call.buffer()];
+        left[..wanted.written.len()].copy_from_slice(&wanted.written);
+        same_bytes("buffer", &buffer, &left)?;
+        match before {
+            Some((state, memory)) if state != self.state || memory != self.memory => {
+                Err("a refused call changed the state or the memory".into())
+            }
+            _ => Ok(()),
+        }
     }
-
-    fn control(&mut self, card: &dyn Card, command: &[u8], answer: u8, ack: &[u8]) -> Result<(), String> {
-        let mut buffer = [LEFT; 14];
-        let mut wanted = buffer;
-        wanted[..ack.len()].copy_from_slice(ack);
-        same(card.control(&mut self.state, command, &mut buffer), answer, 0)?;
-        same_bytes("ack", &buffer, &wanted)
-    }
-}
-
-fn same(outcome: Outcome, answer: u8, status: u8) -> Result<(), String> {
-    if outcome == (Outcome { answer, status }) {
-        return Ok(());
-    }
-    Err(format!("answer {} status {}, wanted {answer} and {status}", outcome.answer, outcome.status))
 }
 
 fn same_bytes(what: &str, found: &[u8], wanted: &[u8]) -> Result<(), String> {

@@ -1,11 +1,11 @@
 //! How a case is written down.
 
 use cards::build::{self, Send};
+use cards::{Call, Outcome};
+use reference::layout::COMPLETION_BYTES;
 use reference::record::{Completion, Piece};
-use reference::replay::{Kind, MARK};
-
-/// The memory that every case runs over, zero at first, as on a tape.
-pub const MEMORY: usize = 4096;
+use reference::replay::MEMORY;
+use reference::ACK_BYTES;
 
 pub struct Case {
     pub name: String,
@@ -13,32 +13,9 @@ pub struct Case {
 }
 
 pub enum Step {
-    /// A control command, its answer and the bytes that it writes to the ack.
-    Control {
-        command: Vec<u8>,
-        answer: u8,
-        ack: Vec<u8>,
-    },
-    Send {
-        qpn: u8,
-        record: Vec<u8>,
-        answer: u8,
-        status: u8,
-    },
-    Receive {
-        qpn: u8,
-        record: Vec<u8>,
-        answer: u8,
-    },
-    Flush {
-        qpn: u8,
-        answer: u8,
-    },
-    /// A poll, and the completion if it is answered 0.
-    Poll {
-        cqn: u8,
-        answer: u8,
-        completion: Option<Completion>,
+    Call {
+        call: Call,
+        wanted: Wanted,
     },
     /// What memory holds from here on; not on a tape.
     Memory {
@@ -49,30 +26,25 @@ pub enum Step {
     Raw(Vec<u8>),
 }
 
+/// What a call must give back, and the bytes that it writes to its ack or completion buffer.
+pub struct Wanted {
+    pub outcome: Outcome,
+    pub written: Vec<u8>,
+}
+
 impl Case {
     /// The calls as a replay tape.
     pub fn tape(&self) -> Vec<u8> {
         let mut tape = Vec::new();
         for step in &self.steps {
             match step {
-                Step::Control { command, .. } => put_record(&mut tape, Kind::Control, 0, command),
-                Step::Send { qpn, record, .. } => put_record(&mut tape, Kind::Send, *qpn, record),
-                Step::Receive { qpn, record, .. } => put_record(&mut tape, Kind::Receive, *qpn, record),
-                Step::Flush { qpn, .. } => put_record(&mut tape, Kind::Flush, *qpn, &[]),
-                Step::Poll { cqn, .. } => put_record(&mut tape, Kind::Poll, *cqn, &[]),
+                Step::Call { call, .. } => tape.extend(call.tape_record().expect("a tape can hold it")),
                 Step::Memory { .. } => {}
                 Step::Raw(bytes) => tape.extend(bytes),
             }
         }
         tape
     }
-}
-
-fn put_record(tape: &mut Vec<u8>, kind: Kind, number: u8, body: &[u8]) {
-    tape.extend(MARK);
-    tape.extend([kind.byte(), number]);
-    tape.extend((body.len() as u16).to_le_bytes());
-    tape.extend(body);
 }
 
 /// Writes a case, step by step.
@@ -126,40 +98,49 @@ impl Script {
         self
     }
 
+    /// A call with its answer, its status and what it writes to its buffer.
+    pub fn call(&mut self, call: Call, answer: u8, status: u8, written: Vec<u8>) -> &mut Script {
+        self.step(Step::Call { call, wanted: Wanted { outcome: Outcome { answer, status }, written } })
+    }
+
     // ---- control
+
+    fn control(&mut self, command: Vec<u8>, answer: u8, ack: Vec<u8>) -> &mut Script {
+        self.call(Call::Control { command, ack: ACK_BYTES + 1 }, answer, 0, ack)
+    }
 
     /// A command answered 0 whose ack has no data.
     pub fn done(&mut self, command: Vec<u8>) -> &mut Script {
-        self.step(Step::Control { command, answer: 0, ack: vec![0] })
+        self.control(command, 0, vec![0])
     }
 
     /// A command answered 0 that gives this number.
     pub fn create(&mut self, command: Vec<u8>, number: u32) -> &mut Script {
         let ack = [&[0][..], &number.to_le_bytes()].concat();
-        self.step(Step::Control { command, answer: 0, ack })
+        self.control(command, 0, ack)
     }
 
     /// A registration answered 0 that gives this key.
     pub fn register(&mut self, pdn: u32, access: u32, start: u64, length: u64, virt: u64, key: u32) -> &mut Script {
         let number = key >> 8;
         let ack = [&[0][..], &number.to_le_bytes(), &key.to_le_bytes(), &key.to_le_bytes()].concat();
-        self.step(Step::Control { command: build::register(pdn, access, start, length, virt), answer: 0, ack })
+        self.control(build::register(pdn, access, start, length, virt), 0, ack)
     }
 
     pub fn refused(&mut self, command: Vec<u8>, answer: u8) -> &mut Script {
-        self.step(Step::Control { command, answer, ack: vec![1] })
+        self.control(command, answer, vec![1])
     }
 
     /// Brings a pair from reset to ready to send.
     pub fn ready(&mut self, qpn: u32, destination: u32) -> &mut Script {
-        self.done(build::move_to(qpn, 1));
-        self.done(build::join(qpn, destination));
-        self.done(build::move_to(qpn, 3))
+        for command in build::ready(qpn, destination) {
+            self.done(command);
+        }
+        self
     }
 
     pub fn join_pairs(&mut self, a: u32, b: u32) -> &mut Script {
-        self.ready(a, b);
-        self.ready(b, a)
+        self.ready(a, b).ready(b, a)
     }
 
     /// Fills a completion queue that nobody else fills, by writes of no bytes on a pair that completes there.
@@ -177,7 +158,7 @@ impl Script {
     }
 
     pub fn send_bytes(&mut self, qpn: u8, record: Vec<u8>, answer: u8, status: u8) -> &mut Script {
-        self.step(Step::Send { qpn, record, answer, status })
+        self.call(Call::Send { qpn: qpn.into(), record, memory: MEMORY }, answer, status, vec![])
     }
 
     pub fn receive(&mut self, qpn: u8, wr_id: u64, pieces: &[Piece], answer: u8) -> &mut Script {
@@ -185,17 +166,21 @@ impl Script {
     }
 
     pub fn receive_bytes(&mut self, qpn: u8, record: Vec<u8>, answer: u8) -> &mut Script {
-        self.step(Step::Receive { qpn, record, answer })
+        self.call(Call::Receive { qpn: qpn.into(), record }, answer, 0, vec![])
     }
 
     pub fn flush(&mut self, qpn: u8, answer: u8) -> &mut Script {
-        self.step(Step::Flush { qpn, answer })
+        self.call(Call::Flush { qpn: qpn.into() }, answer, 0, vec![])
     }
 
     // ---- polling
 
+    fn poll_call(&mut self, cqn: u8, answer: u8, completion: Vec<u8>) -> &mut Script {
+        self.call(Call::Poll { cqn: cqn.into(), buffer: COMPLETION_BYTES + 1 }, answer, 0, completion)
+    }
+
     pub fn poll_refused(&mut self, cqn: u8, answer: u8) -> &mut Script {
-        self.step(Step::Poll { cqn, answer, completion: None })
+        self.poll_call(cqn, answer, vec![])
     }
 
     pub fn poll_empty(&mut self, cqn: u8) -> &mut Script {
@@ -216,8 +201,9 @@ impl Script {
         immediate: u32,
         owner: u32,
     ) -> &mut Script {
-        let completion = Completion { wr_id, status, opcode, length, immediate, owner };
-        self.step(Step::Poll { cqn, answer: 0, completion: Some(completion) })
+        let mut bytes = vec![0; COMPLETION_BYTES];
+        Completion { wr_id, status, opcode, length, immediate, owner }.write(&mut bytes, 0);
+        self.poll_call(cqn, 0, bytes)
     }
 
     // ---- memory

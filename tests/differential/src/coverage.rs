@@ -1,7 +1,7 @@
 //! Which answers, statuses, completions and steps a run has seen.
 
 use crate::side::Done;
-use generator::Call;
+use cards::Call;
 use reference::layout::*;
 use reference::listing::{Listing, PairListing};
 use reference::record::{total, Completion, Local, SendRecord, READ};
@@ -69,7 +69,7 @@ const STEPS: [&str; 21] = [
 impl Coverage {
     pub(crate) fn count(&mut self, card: Option<&Listing>, call: &Call, done: &Done) {
         let answer = done.outcome.answer;
-        self.add(format!("{} answer {answer}", kind(call)));
+        self.add(format!("{} answer {answer}", call.name()));
         match call {
             Call::Control { command, .. } if command.len() >= 2 && command[0] == 6 => {
                 self.add(format!("command {} answer {answer}", command[1]));
@@ -95,8 +95,11 @@ impl Coverage {
     }
 
     fn count_steps(&mut self, card: &Listing, qpn: u32, record: &[u8], answer: u8, status: u8) {
-        let Some(sender) = card.pairs.get(qpn as usize).and_then(Option::as_ref) else { return };
-        let Ok(send) = SendRecord::read(record) else { return };
+        let sender = card.pairs.get(qpn as usize).and_then(Option::as_ref);
+        let (sender, send) = match (sender, SendRecord::read(record)) {
+            (Some(sender), Ok(send)) => (sender, send),
+            _ => return,
+        };
         let peer = card.pairs.get(usize::from(sender.pair.destination)).and_then(Option::as_ref);
         match (answer, peer) {
             (5, _) => self.add(format!("step {}", hold_of_peer(qpn, sender, peer))),
@@ -163,17 +166,6 @@ fn groups() -> Vec<(&'static str, Vec<String>)> {
     ]
 }
 
-fn kind(call: &Call) -> &'static str {
-    match call {
-        Call::Reset { .. } => "reset",
-        Call::Control { .. } => "control",
-        Call::Send { .. } => "send",
-        Call::Receive { .. } => "receive",
-        Call::Flush { .. } => "flush",
-        Call::Poll { .. } => "poll",
-    }
-}
-
 /// Why step 1 holds.
 fn hold_of_peer(qpn: u32, sender: &PairListing, peer: Option<&PairListing>) -> &'static str {
     match peer {
@@ -187,7 +179,7 @@ fn hold_of_peer(qpn: u32, sender: &PairListing, peer: Option<&PairListing>) -> &
 
 /// Why step 2 holds.
 fn hold_of_place(card: &Listing, send: &SendRecord, sender: &PairListing, peer: &PairListing) -> &'static str {
-    let full = |n: u8| card.queues[usize::from(n)].as_ref().is_some_and(|queue| queue.unread.len() == queue.places);
+    let full = |n: u8| card.queues[usize::from(n)].as_ref().map_or(false, |queue| queue.unread.len() == queue.places);
     if full(sender.pair.send_queue) {
         "2 no place in the send queue"
     } else if send.takes_receive() && sender.pair.send_queue == peer.pair.receive_queue {

@@ -1,13 +1,14 @@
 //! Plays long lists of calls on the reference and on another card and compares answer, status, ack, completion, every memory byte
-//! and every object of the state after each call; and that a refused call changed nothing.
+//! and every object of the state after each call; and that a refused call changed nothing. Objects are listed only where the bytes of
+//! the two states differ.
 
 mod coverage;
 mod guarded;
 mod side;
 
-use cards::{Card, Reference};
+use cards::{Call, Card, Reference};
 pub use coverage::Coverage;
-use generator::{damage, forget_destination, Call, Generator};
+use generator::{damage, forget_destination, Generator};
 use reference::layout::STATE_BYTES;
 use reference::listing::Listing;
 use side::Side;
@@ -16,12 +17,16 @@ struct Run {
     generator: Generator,
     first: Side,
     second: Side,
+    /// The objects of the first side's state, if it is accepted.
+    card: Option<Listing>,
     report: Report,
 }
 
 /// What a run has seen.
 pub struct Report {
     pub calls: u64,
+    /// After how many calls answered 0 the two states have the same objects, but other bytes where bytes have no meaning.
+    pub other_bytes: u64,
     pub coverage: Coverage,
     pub differences: Vec<String>,
 }
@@ -30,9 +35,10 @@ pub struct Report {
 pub fn run(other: &'static dyn Card, calls: u64, seed: u64, most: usize) -> Report {
     let mut run = Run {
         generator: Generator::new(seed),
-        report: Report { calls: 0, coverage: Coverage::default(), differences: Vec::new() },
+        report: Report { calls: 0, other_bytes: 0, coverage: Coverage::default(), differences: Vec::new() },
         first: Side::new(&Reference),
         second: Side::new(other),
+        card: None,
     };
     while run.report.calls < calls && run.report.differences.len() < most {
         run.list();
@@ -43,6 +49,7 @@ pub fn run(other: &'static dyn Card, calls: u64, seed: u64, most: usize) -> Repo
 impl Run {
     /// One reset and the calls after it, up to the first difference.
     fn list(&mut self) {
+        let known = self.report.differences.len();
         let memory_length = self.generator.begin();
         let mut held = vec![0; STATE_BYTES];
         let mut memory = vec![0; memory_length as usize];
@@ -50,6 +57,7 @@ impl Run {
         self.generator.rng().fill(&mut memory);
         self.first.begin(&held, &memory);
         self.second.begin(&held, &memory);
+        self.card = Listing::of(&held);
         self.step(&Call::Reset { memory_length });
         if self.generator.rng().percent(2) {
             for call in self.generator.many_variants() {
@@ -57,16 +65,14 @@ impl Run {
             }
         }
         let most = if memory_length > 1 << 16 { 60 } else { 600 };
-        let known = self.report.differences.len();
         for _ in 0..most {
-            let Some(card) = Listing::of(&self.first.state) else { return };
-            if self.report.differences.len() > known {
-                return;
-            }
             if self.generator.rng().percent(5) {
                 self.rewrite_memory();
             }
-            let call = self.generator.next(&card);
+            let call = match &self.card {
+                Some(card) if self.report.differences.len() == known => self.generator.next(card),
+                _ => return,
+            };
             if self.generator.rng().percent(10) {
                 self.damaged(&call);
             }
@@ -86,12 +92,14 @@ impl Run {
 
     fn step(&mut self, call: &Call) {
         self.report.calls += 1;
-        let before = Listing::of(&self.first.state);
-        let result = side::compare(&mut self.first, &mut self.second, call);
-        match result {
+        match side::compare(&mut self.first, &mut self.second, call) {
             Ok(done) => {
                 self.generator.observe(call, done.outcome, &done.written);
-                self.report.coverage.count(before.as_ref(), call, &done);
+                self.report.coverage.count(self.card.as_ref(), call, &done);
+                self.report.other_bytes += u64::from(!done.same_bytes);
+                if done.outcome.answer == 0 {
+                    self.card = Listing::of(&self.first.state);
+                }
             }
             Err(difference) => self.differ(call, difference),
         }
@@ -103,8 +111,8 @@ impl Run {
             Call::Send { qpn, .. } if self.generator.rng().percent(20) => forget_destination(&self.first.state, *qpn),
             _ => damage(self.generator.rng(), &self.first.state),
         };
-        let mut first = self.first.on(&state);
-        let mut second = self.second.on(&state);
+        let mut first = self.first.on(&state, call);
+        let mut second = self.second.on(&state, call);
         match side::compare(&mut first, &mut second, call) {
             Ok(done) => self.report.coverage.count(Listing::of(&state).as_ref(), call, &done),
             Err(difference) => self.differ(call, format!("on a damaged state, {difference}")),
@@ -112,18 +120,6 @@ impl Run {
     }
 
     fn differ(&mut self, call: &Call, difference: String) {
-        self.report.differences.push(format!("call {}: {difference}\n  {}", self.report.calls, describe(call)));
-    }
-}
-
-fn describe(call: &Call) -> String {
-    let hex = |bytes: &[u8]| -> String { bytes.iter().map(|byte| format!("{byte:02x}")).collect() };
-    match call {
-        Call::Reset { memory_length } => format!("reset, memory length {memory_length}"),
-        Call::Control { command, ack } => format!("control {}, ack of {ack} bytes", hex(command)),
-        Call::Send { qpn, record, memory } => format!("send on {qpn}, memory of {memory} bytes, record {}", hex(record)),
-        Call::Receive { qpn, record } => format!("receive on {qpn}, record {}", hex(record)),
-        Call::Flush { qpn } => format!("flush of {qpn}"),
-        Call::Poll { cqn, buffer } => format!("poll of {cqn}, buffer of {buffer} bytes"),
+        self.report.differences.push(format!("call {}: {difference}\n  {call}", self.report.calls));
     }
 }

@@ -1,8 +1,8 @@
-//! One card with what is lent to it, and the comparison of two.
+//! One card with what is lent to it, and the comparison of two. Unless something differs, the cost that grows with state and memory is
+//! that of copying and comparing their bytes, beside the test that each call makes.
 
 use crate::guarded::Guarded;
-use cards::Card;
-use generator::Call;
+use cards::{Call, Card};
 use reference::listing::Listing;
 use reference::{fault, Outcome};
 
@@ -13,17 +13,21 @@ pub struct Side {
     card: &'static dyn Card,
     pub state: Guarded,
     pub memory: Guarded,
+    /// State and, if the call is lent it, memory before the call.
+    before: (Vec<u8>, Vec<u8>),
 }
 
 /// What a call gave back, and its ack or completion buffer.
 pub struct Done {
     pub outcome: Outcome,
     pub written: Guarded,
+    /// Whether the two states are the same in bytes that have no meaning as well.
+    pub same_bytes: bool,
 }
 
 impl Side {
     pub fn new(card: &'static dyn Card) -> Side {
-        Side { card, state: Guarded::new(&[]), memory: Guarded::new(&[]) }
+        Side { card, state: Guarded::new(&[]), memory: Guarded::new(&[]), before: Default::default() }
     }
 
     pub fn begin(&mut self, state: &[u8], memory: &[u8]) {
@@ -31,71 +35,72 @@ impl Side {
         self.memory = Guarded::new(memory);
     }
 
-    /// The same card and memory with another state.
-    pub fn on(&self, state: &[u8]) -> Side {
-        Side { card: self.card, state: Guarded::new(state), memory: self.memory.clone() }
+    /// The same card with another state for this call, and the same memory if the call is lent it.
+    pub fn on(&self, state: &[u8], call: &Call) -> Side {
+        let memory = if self.is_lent(call) { self.memory.clone() } else { Guarded::new(&[]) };
+        Side { state: Guarded::new(state), memory, ..Side::new(self.card) }
+    }
+
+    /// Whether the call is lent the side's memory: another length is another memory.
+    fn is_lent(&self, call: &Call) -> bool {
+        call.memory() == Some(self.memory.len())
     }
 
     /// Makes the call; nothing beside the lent buffers may change, and with a refusal nothing but the ack byte that document 01 names.
     fn play(&mut self, call: &Call) -> Result<Done, String> {
-        let (state, memory) = (self.state.to_vec(), self.memory.to_vec());
+        self.keep(call);
         let (done, other) = self.call(call);
         let (name, answer) = (self.card.name(), done.outcome.answer);
         if !(self.state.intact() && self.memory.intact() && done.written.intact() && other.intact()) {
             return Err(format!("{name} answers {answer} and writes beside a lent buffer"));
         }
-        if other.iter().any(|&byte| byte != LEFT) {
+        if !other.holds_only(LEFT) {
             return Err(format!("{name} writes to a memory of another length"));
         }
         if answer == 0 {
             return Ok(done);
         }
-        if self.state[..] != state || self.memory[..] != memory {
+        if self.state[..] != self.before.0 || self.is_lent(call) && self.memory[..] != self.before.1 {
             return Err(format!("{name} answers {answer} and changes state or memory"));
         }
-        let ack = matches!(call, Call::Control { .. }) && !matches!(answer, 12 | 15);
-        let mut wanted = vec![LEFT; done.written.len()];
-        if ack {
+        let mut wanted = Guarded::filled(LEFT, done.written.len());
+        if call.has_ack() && !matches!(answer, 12 | 15) {
             wanted[0] = 1;
         }
-        if done.written[..] != wanted {
+        if done.written[..] != wanted[..] {
             return Err(format!("{name} answers {answer} and writes {:?}", &done.written[..]));
         }
         Ok(done)
     }
 
+    fn keep(&mut self, call: &Call) {
+        self.before.0.clear();
+        self.before.0.extend_from_slice(&self.state);
+        self.before.1.clear();
+        if self.is_lent(call) {
+            self.before.1.extend_from_slice(&self.memory);
+        }
+    }
+
     /// What the call gave back, and the memory of another length if it was lent one.
     fn call(&mut self, call: &Call) -> (Done, Guarded) {
-        let mut written = Guarded::new(&[]);
+        let mut written = Guarded::filled(LEFT, call.buffer());
         let mut other = Guarded::new(&[]);
-        let state = &mut self.state;
-        let outcome = match call {
-            Call::Reset { memory_length } => self.card.reset(state, *memory_length),
-            Call::Control { command, ack } => {
-                written = Guarded::filled(LEFT, *ack);
-                self.card.control(state, command, &mut written)
+        let memory = match call.memory() {
+            Some(length) if length != self.memory.len() => {
+                other = Guarded::filled(LEFT, length);
+                &mut other
             }
-            Call::Send { qpn, record, memory } if *memory == self.memory.len() => {
-                self.card.post_send(state, &mut self.memory, *qpn, record)
-            }
-            Call::Send { qpn, record, memory } => {
-                other = Guarded::filled(LEFT, *memory);
-                self.card.post_send(state, &mut other, *qpn, record)
-            }
-            Call::Receive { qpn, record } => self.card.post_receive(state, *qpn, record),
-            Call::Flush { qpn } => self.card.flush(state, *qpn),
-            Call::Poll { cqn, buffer } => {
-                written = Guarded::filled(LEFT, *buffer);
-                self.card.poll(state, *cqn, &mut written)
-            }
+            _ => &mut self.memory,
         };
-        (Done { outcome, written }, other)
+        let outcome = call.make(self.card, &mut self.state, memory, &mut written);
+        (Done { outcome, written, same_bytes: true }, other)
     }
 }
 
 /// Makes the call on both; the error says what differs.
 pub fn compare(first: &mut Side, second: &mut Side, call: &Call) -> Result<Done, String> {
-    let wanted = first.play(call)?;
+    let mut wanted = first.play(call)?;
     let found = second.play(call)?;
     if found.outcome != wanted.outcome {
         return Err(format!("{:?}, reference {:?} ({:?})", found.outcome, wanted.outcome, fault(&first.state)));
@@ -103,13 +108,25 @@ pub fn compare(first: &mut Side, second: &mut Side, call: &Call) -> Result<Done,
     if found.written[..] != wanted.written[..] {
         return Err(format!("writes {:?}, reference {:?}", &found.written[..], &wanted.written[..]));
     }
-    if let Some(at) = first.memory.iter().zip(second.memory.iter()).position(|(a, b)| a != b) {
-        return Err(format!("memory byte {at} is {}, reference {}", second.memory[at], first.memory[at]));
+    if wanted.outcome.answer != 0 {
+        return Ok(wanted);
     }
-    if wanted.outcome.answer == 0 {
+    if first.memory[..] != second.memory[..] {
+        return Err(differing_byte(&first.memory, &second.memory));
+    }
+    if let Some(fault) = fault(&first.state) {
+        return Err(format!("the reference leaves a state with {fault:?}"));
+    }
+    wanted.same_bytes = first.state[..] == second.state[..];
+    if !wanted.same_bytes {
         same_objects(&first.state, &second.state)?;
     }
     Ok(wanted)
+}
+
+fn differing_byte(wanted: &[u8], found: &[u8]) -> String {
+    let at = wanted.iter().zip(found).position(|(a, b)| a != b).unwrap_or(0);
+    format!("memory byte {at} is {}, reference {}", found[at], wanted[at])
 }
 
 fn same_objects(wanted: &[u8], found: &[u8]) -> Result<(), String> {

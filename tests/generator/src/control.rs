@@ -118,7 +118,10 @@ impl Generator {
         match self.rng.pick(&[0, 1, 2, 3, 6, 6]) {
             2 if self.rng.percent(10) => join(number, number),
             2 => join(number, self.other_pair(number % 8)),
-            state => modify(number, MASK_STATE, state, [0; 3], self.rng.word() as u32),
+            state => {
+                let ignored = self.rng.word() as u32;
+                Modify { qpn: number, mask: MASK_STATE, state, destination: ignored, ..Modify::default() }.bytes()
+            }
         }
     }
 

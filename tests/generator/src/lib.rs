@@ -5,23 +5,12 @@ mod damage;
 mod mutate;
 mod work;
 
-pub use damage::{damage, fields, forget_destination, Field};
+pub use damage::{damage, fields, forget_destination, region_slots, Field};
 
-use cards::{build, Rng};
+use cards::{build, Call, Reference, Rng};
 use reference::layout::*;
 use reference::listing::{Listing, PairListing, QueueListing};
 use reference::Outcome;
-
-/// One call with all that is lent to it but the state and the memory's content.
-#[derive(Clone, Debug)]
-pub enum Call {
-    Reset { memory_length: u64 },
-    Control { command: Vec<u8>, ack: usize },
-    Send { qpn: u32, record: Vec<u8>, memory: usize },
-    Receive { qpn: u32, record: Vec<u8> },
-    Flush { qpn: u32 },
-    Poll { cqn: u32, buffer: usize },
-}
 
 pub struct Generator {
     rng: Rng,
@@ -172,40 +161,28 @@ fn control(command: Vec<u8>) -> Call {
 
 /// The numbers of the live queues that fit.
 fn queues_where(card: &Listing, fits: impl Fn(&QueueListing) -> bool) -> Vec<usize> {
-    (0..QUEUES).filter(|&n| card.queues[n].as_ref().is_some_and(&fits)).collect()
+    (0..QUEUES).filter(|&n| card.queues[n].as_ref().map_or(false, &fits)).collect()
 }
 
 /// The numbers of the live pairs that fit.
 fn pairs_where(card: &Listing, fits: impl Fn(&PairListing) -> bool) -> Vec<usize> {
-    (0..PAIRS).filter(|&n| card.pairs[n].as_ref().is_some_and(&fits)).collect()
+    (0..PAIRS).filter(|&n| card.pairs[n].as_ref().map_or(false, &fits)).collect()
 }
 
 /// The slots of the live regions in a domain with these rights.
 fn regions_of(card: &Listing, domain: u8, right: u8) -> Vec<usize> {
-    let fits = |n: &usize| card.regions[*n].is_some_and(|region| region.domain == domain && region.access & right == right);
+    let fits = |n: &usize| card.regions[*n].map_or(false, |region| region.domain == domain && region.access & right == right);
     (0..REGIONS).filter(fits).collect()
 }
 
 /// Makes a call on the reference card; gives back what it wrote to the ack or the completion buffer.
 pub fn play(call: &Call, state: &mut [u8], memory: &mut [u8]) -> (Outcome, Vec<u8>) {
-    match call {
-        Call::Reset { memory_length } => (reference::reset(state, *memory_length), vec![]),
-        Call::Control { command, ack } => {
-            let mut bytes = vec![0; *ack];
-            (reference::control(state, command, &mut bytes), bytes)
-        }
-        Call::Send { qpn, record, memory: length } => {
-            let mut other = vec![0; *length];
-            let lent = if *length == memory.len() { memory } else { &mut other };
-            (reference::post_send(state, lent, *qpn, record), vec![])
-        }
-        Call::Receive { qpn, record } => (reference::post_receive(state, *qpn, record), vec![]),
-        Call::Flush { qpn } => (reference::flush(state, *qpn), vec![]),
-        Call::Poll { cqn, buffer } => {
-            let mut bytes = vec![0; *buffer];
-            (reference::poll(state, *cqn, &mut bytes), bytes)
-        }
-    }
+    let mut written = vec![0; call.buffer()];
+    let outcome = match call.memory() {
+        Some(length) if length != memory.len() => call.make(&Reference, state, &mut vec![0; length], &mut written),
+        _ => call.make(&Reference, state, memory, &mut written),
+    };
+    (outcome, written)
 }
 
 /// A state that a list of `calls` calls leaves, played on the reference card.

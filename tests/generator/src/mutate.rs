@@ -1,8 +1,9 @@
 //! Changes at the boundaries: one off, another domain, a missing right, a stale key, an overhang, a wrapping sum, a wrong length.
 
 use crate::work::{key_of, peer_of};
-use crate::{Call, Generator};
-use cards::build::Send;
+use crate::Generator;
+use cards::build::{Modify, Send, MASK_DESTINATION};
+use cards::Call;
 use reference::layout::*;
 use reference::listing::Listing;
 use reference::record::*;
@@ -29,8 +30,9 @@ impl Generator {
 
     /// An address that just misses, or just fits, a range of `length` bytes under the key.
     fn edge_address(&mut self, card: &Listing, key: u32, length: u64) -> u64 {
-        let Some(region) = card.regions.get((key >> 8) as usize).copied().flatten() else {
-            return self.rng.word();
+        let region = match card.regions.get((key >> 8) as usize).copied().flatten() {
+            Some(region) => region,
+            None => return self.rng.word(),
         };
         let end = region.virt + region.length;
         match self.rng.below(7) {
@@ -153,7 +155,7 @@ impl Generator {
                 command[at] = self.rng.pick(&[0, 1, 2, 4, 7, 8, 16, 17, 128, 255]);
             }
             _ if command[1] == 7 && command.len() == 34 => self.change_registration(&mut command, card),
-            _ if command[1] == 10 && command.len() == 18 => self.change_modification(&mut command),
+            _ if Modify::read(&command).is_some() => self.change_modification(&mut command),
             5 if command.len() > 2 => {
                 let at = 2 + self.rng.index(command.len() - 2);
                 command[at] ^= 1 << self.rng.below(8);
@@ -178,15 +180,20 @@ impl Generator {
     }
 
     /// Mask, state, padding and destination at both sides of their limits.
-    fn change_modification(&mut self, command: &mut [u8]) {
+    fn change_modification(&mut self, command: &mut Vec<u8>) {
+        let mut modify = Modify::read(command).unwrap_or_default();
         match self.rng.below(6) {
-            0 => put32(command, 6, get32(command, 6) ^ 1 << 15),
-            1 => put32(command, 6, get32(command, 6) ^ 1 << self.rng.below(32)),
-            2 => command[10] = self.rng.below(8) as u8,
-            3 => command[11 + self.rng.index(3)] = self.rng.word() as u8,
-            4 => put32(command, 14, self.rng.pick(&[7, 8, 256, u32::MAX])),
-            _ => put32(command, 14, get32(command, 2)),
+            0 => modify.mask ^= MASK_DESTINATION,
+            1 => modify.mask ^= 1 << self.rng.below(32),
+            2 => modify.state = self.rng.below(8) as u8,
+            3 => {
+                let byte = self.rng.word() as u8;
+                modify.padding[self.rng.index(3)] = byte;
+            }
+            4 => modify.destination = self.rng.pick(&[7, 8, 256, u32::MAX]),
+            _ => modify.destination = modify.qpn,
         }
+        *command = modify.bytes();
     }
 
     /// Lent lengths and numbers that do not fit.

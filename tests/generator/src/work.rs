@@ -1,7 +1,8 @@
 //! Sends and receives that the card can deliver.
 
-use crate::{pairs_where, regions_of, Call, Generator};
+use crate::{pairs_where, regions_of, Generator};
 use cards::build::{receive, Send};
+use cards::Call;
 use reference::layout::*;
 use reference::listing::{Listing, PairListing};
 use reference::record::*;
@@ -43,8 +44,9 @@ impl Generator {
         let mut send = Send::new(self.next_wr_id(), opcode);
         send.flags = self.rng.below(8) as u8;
         send.immediate = self.rng.word() as u32;
-        let (Some(sender), Some(peer)) = (&card.pairs[number], peer) else {
-            return send.remote(self.rng.word(), self.rng.word() as u32);
+        let (sender, peer) = match (&card.pairs[number], peer) {
+            (Some(sender), Some(peer)) => (sender, peer),
+            _ => return send.remote(self.rng.word(), self.rng.word() as u32),
         };
         let mut limit = MOST_MESSAGE as u64;
         let right = match opcode {
@@ -102,8 +104,14 @@ impl Generator {
         let mut pieces = Vec::new();
         let mut left = bytes;
         for n in 0..count {
-            let Some(slot) = self.rng.choose(&slots) else { break };
-            let Some(region) = card.regions[slot] else { break };
+            let slot = match self.rng.choose(&slots) {
+                Some(slot) => slot,
+                None => break,
+            };
+            let region = match card.regions[slot] {
+                Some(region) => region,
+                None => break,
+            };
             let wanted = if n + 1 == count { left } else { self.rng.below(left + 1) };
             let length = wanted.min(region.length);
             pieces.push(Piece { address: self.address_in(&region, length), length: length as u32, key: key_of(slot, &region) });

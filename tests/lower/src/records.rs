@@ -1,7 +1,7 @@
 //! The readers of send, receive and command records, on built, changed and random records of every length.
 
 use crate::tally::Tally;
-use cards::build::{create_pair, modify, number_command, receive, register, Send};
+use cards::build::{create_pair, number_command, receive, register, Modify, Send};
 use cards::c::{COMMAND_OUT, RECEIVE_OUT, SEND_OUT};
 use cards::{Lower, ReferenceLower, Rng};
 use reference::record::{Piece, COUNT_AT, INLINE, SEND_BYTES};
@@ -180,7 +180,10 @@ fn commands(other: &dyn Lower, rng: &mut Rng, tally: &mut Tally) {
         let record = match rng.below(4) {
             0 => register(a, b, rng.word(), rng.word(), rng.word()),
             1 => create_pair(a, rng.word() as u8, rng.word() as u8, b, rng.word() as u32),
-            2 => modify(a, b, rng.word() as u8, [rng.word() as u8, 0, 1], rng.word() as u32),
+            2 => {
+                let (state, padding) = (rng.word() as u8, [rng.word() as u8, 0, 1]);
+                Modify { qpn: a, mask: b, state, padding, destination: rng.word() as u32 }.bytes()
+            }
             _ => number_command(rng.pick(&[2, 3, 5, 8, 12]), a),
         };
         COMMAND.check(other, &record, tally);

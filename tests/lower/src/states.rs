@@ -1,8 +1,9 @@
 //! The test of answer 15 and the search for a free number, on reached, damaged and random states.
 
 use crate::tally::Tally;
-use cards::{Lower, ReferenceLower, Rng};
-use generator::{damage, fields, reached_state};
+use cards::c::NOT_ACCEPTED;
+use cards::{free_numbers, Lower, Rng};
+use generator::{damage, fields, reached_state, region_slots};
 use reference::layout::*;
 use reference::{fault, Fault};
 
@@ -25,7 +26,7 @@ pub fn compare(other: &dyn Lower, rng: &mut Rng, tally: &mut Tally) {
     for n in 0..REACHED {
         let state = reached_state(rng.word(), if n % 4 == 0 { 20 * n } else { 10 + 5 * n });
         one(other, &state, tally);
-        each_field(other, &state, tally);
+        each_field(other, &state, &region_slots(rng, &state), tally);
         for _ in 0..DAMAGED {
             one(other, &damage(rng, &state), tally);
         }
@@ -37,9 +38,7 @@ pub fn compare(other: &dyn Lower, rng: &mut Rng, tally: &mut Tally) {
 
 fn one(other: &dyn Lower, state: &[u8], tally: &mut Tally) {
     accepted(other, state, tally);
-    for table in 0..4 {
-        free(other, state, table, tally);
-    }
+    free(other, state, tally);
 }
 
 fn accepted(other: &dyn Lower, state: &[u8], tally: &mut Tally) {
@@ -48,30 +47,30 @@ fn accepted(other: &dyn Lower, state: &[u8], tally: &mut Tally) {
     tally.same("accepts", other.accepts(state), wanted.is_none(), || format!("a state with {wanted:?}"));
 }
 
-fn free(other: &dyn Lower, state: &[u8], table: usize, tally: &mut Tally) {
-    let (name, count) = TABLES[table];
-    let wanted = ReferenceLower.free(state, table as u32);
-    tally.count(
-        "free",
-        match wanted as usize {
-            255 => "not accepted".into(),
-            n if n == count => format!("{name} none"),
-            n => format!("{name} {n}"),
-        },
-    );
-    tally.same("free", other.free(state, table as u32), wanted, || format!("table {name}"));
+fn free(other: &dyn Lower, state: &[u8], tally: &mut Tally) {
+    for (table, ((name, count), wanted)) in TABLES.into_iter().zip(free_numbers(state)).enumerate() {
+        tally.count(
+            "free",
+            match wanted as usize {
+                _ if wanted == NOT_ACCEPTED => "not accepted".into(),
+                n if n == count => format!("{name} none"),
+                n => format!("{name} {n}"),
+            },
+        );
+        tally.same("free", other.free(state, table as u32), wanted, || format!("table {name}"));
+    }
 }
 
-/// Each field in turn at each of its values, with the rest as it is.
-fn each_field(other: &dyn Lower, state: &[u8], tally: &mut Tally) {
+/// Each field in turn at each of its values, with the rest as it is; of regions those of the given slots.
+fn each_field(other: &dyn Lower, state: &[u8], slots: &[usize], tally: &mut Tally) {
     let mut copy = state.to_vec();
-    for field in fields(state) {
-        for &value in &field.values {
+    fields(state, slots, &mut |field| {
+        for &value in field.values {
             field.set(&mut copy, value);
             accepted(other, &copy, tally);
         }
         copy[field.at..field.at + field.width].copy_from_slice(&state[field.at..field.at + field.width]);
-    }
+    });
 }
 
 /// Tables with their first `n` numbers live, and with all live but number `n`.
@@ -114,7 +113,7 @@ fn lengths(other: &dyn Lower, state: &[u8], tally: &mut Tally) {
     for length in 0..=longer.len() {
         accepted(other, &longer[..length], tally);
     }
-    free(other, &longer[..STATE_BYTES - 1], 2, tally);
+    free(other, &longer[..STATE_BYTES - 1], tally);
 }
 
 fn random(other: &dyn Lower, rng: &mut Rng, tally: &mut Tally) {
@@ -123,12 +122,12 @@ fn random(other: &dyn Lower, rng: &mut Rng, tally: &mut Tally) {
         rng.fill(&mut state);
         if n % 2 == 0 {
             put64(&mut state, MEMORY_LENGTH, 1 + rng.below(MOST_MEMORY));
-            for byte in &mut state[DOMAIN_FLAGS..QUEUE_ROWS] {
-                *byte &= 1;
+            for flags in [DOMAIN_FLAGS..DOMAIN_FLAGS + DOMAINS, REGION_FLAGS..REGION_FLAGS + REGIONS] {
+                state[flags].iter_mut().for_each(|byte| *byte &= 1);
             }
         }
         if n % 4 == 0 {
-            state[QUEUE_ROWS..PAIR_ROWS].fill(0);
+            state[QUEUE_ROWS..][..QUEUES * QUEUE_ROW].fill(0);
         }
         accepted(other, &state, tally);
     }

@@ -43,7 +43,7 @@ impl Tally {
             }
         }
         let missing =
-            |(check, outcome): &&(&'static str, String)| !self.counts.get(check).is_some_and(|seen| seen.contains_key(outcome));
+            |(check, outcome): &&(&'static str, String)| !self.counts.get(check).map_or(false, |seen| seen.contains_key(outcome));
         let missing: Vec<_> = self.required.iter().filter(missing).collect();
         for (check, outcome) in &missing {
             println!("NEVER SEEN {check}: {outcome}");

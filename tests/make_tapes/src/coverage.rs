@@ -24,7 +24,8 @@ const COMPLETIONS: [(u8, &[u8]); 5] = [(0, &[0, 1, 3, 7]), (1, &[0, 1, 3, 8]), (
 impl Coverage {
     pub fn count(&mut self, tape: &[u8], output: &[u8]) {
         let (mut calls, mut answers) = (tape, output);
-        while let Some((header, rest)) = answers.split_at_checked(HEADER_BYTES) {
+        while answers.len() >= HEADER_BYTES {
+            let (header, rest) = answers.split_at(HEADER_BYTES);
             let (bytes, rest) = rest.split_at(get16(header, 4).into());
             answers = rest;
             let (answer, status) = (header[2], header[3]);

@@ -82,7 +82,7 @@ fn differing_files(folder: &Path, tapes: &Tapes) -> io::Result<usize> {
     for entry in fs::read_dir(folder)? {
         let file = entry?.file_name().to_string_lossy().into_owned();
         let name = file.strip_suffix(".tape").or(file.strip_suffix(".out"));
-        if !name.is_some_and(|name| tapes.contains_key(name)) {
+        if !name.map_or(false, |name| tapes.contains_key(name)) {
             say(&file);
         }
     }

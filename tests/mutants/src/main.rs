@@ -1,66 +1,103 @@
-//! Plays the comparison and the named cases on wrong cards; each must be found out.
+//! Plays the named cases, the checks of lent states and the comparison on wrong cards; each must be found out.
+//!
+//! usage: mutants               each card up to what finds it out first, in that order
+//!        mutants --all [TEXT]  each card, or those with the text in their names, through all: what fails, and after how many calls
+//!        mutants --trace FILE  whether what the lines of docs/TRACE.md name fails on the cards that break them
 
-use cards::Card;
-use reference::Outcome;
+mod trace;
+
+use cards::{card_of, Card};
 use std::panic::{catch_unwind, set_hook, AssertUnwindSafe};
 use std::process::ExitCode;
 
 const CALLS: u64 = 200_000;
 
-macro_rules! mutant {
-    ($module:ident, $name:ident, $text:literal) => {
-        struct $name;
-
-        impl Card for $name {
-            fn name(&self) -> &'static str {
-                $text
-            }
-            fn reset(&self, state: &mut [u8], memory_length: u64) -> Outcome {
-                Outcome::from_bits($module::reset(state, memory_length).to_bits())
-            }
-            fn control(&self, state: &mut [u8], command: &[u8], ack: &mut [u8]) -> Outcome {
-                Outcome::from_bits($module::control(state, command, ack).to_bits())
-            }
-            fn post_send(&self, state: &mut [u8], memory: &mut [u8], qpn: u32, record: &[u8]) -> Outcome {
-                Outcome::from_bits($module::post_send(state, memory, qpn, record).to_bits())
-            }
-            fn post_receive(&self, state: &mut [u8], qpn: u32, record: &[u8]) -> Outcome {
-                Outcome::from_bits($module::post_receive(state, qpn, record).to_bits())
-            }
-            fn flush(&self, state: &mut [u8], qpn: u32) -> Outcome {
-                Outcome::from_bits($module::flush(state, qpn).to_bits())
-            }
-            fn poll(&self, state: &mut [u8], cqn: u32, buffer: &mut [u8]) -> Outcome {
-                Outcome::from_bits($module::poll(state, cqn, buffer).to_bits())
-            }
-        }
-    };
-}
-
 include!(concat!(env!("OUT_DIR"), "/all.rs"));
 
-fn main() -> ExitCode {
-    // A wrong card may stop with a panic, which finds it out as well.
-    set_hook(Box::new(|_| {}));
-    let named = cases::all();
-    let mut survivors = 0;
-    println!("{:<48}{:>18}{:>14}", "wrong card", "found after calls", "failed cases");
-    for &card in ALL {
-        // A card has no state of its own, so a panic leaves none broken.
-        let found = match catch_unwind(AssertUnwindSafe(|| differential::run(card, CALLS, 1, 1))) {
-            Ok(report) => report.differences.first().map(|difference| first_call(difference)),
-            Err(_) => Some("panic".into()),
-        };
-        let fails = |case: &&cases::Case| !matches!(catch_unwind(AssertUnwindSafe(|| cases::run(case, card))), Ok(Ok(())));
-        let failed = named.iter().filter(fails).count();
-        survivors += usize::from(found.is_none());
-        println!("{:<48}{:>18}{failed:>14}", card.name(), found.unwrap_or("NOT FOUND".into()));
+/// A named case, or a check of lent lengths and states.
+struct Named {
+    name: String,
+    passes: Box<dyn Fn(&dyn Card) -> bool>,
+}
+
+impl Named {
+    fn all() -> Vec<Named> {
+        let cases = cases::all().into_iter();
+        let cases =
+            cases.map(|case| Named { name: case.name.clone(), passes: Box::new(move |card| cases::run(&case, card).is_ok()) });
+        let checks = cases::lent::CHECKS.into_iter().map(|(name, check)| Named {
+            name: name.into(),
+            passes: Box::new(move |card| {
+                check(card);
+                true
+            }),
+        });
+        cases.chain(checks).collect()
     }
-    println!("{} wrong cards, {survivors} not found", ALL.len());
-    if survivors == 0 {
+
+    /// A panic is a failure too. A card has no state of its own, so it leaves none broken.
+    fn fails(&self, card: &dyn Card) -> bool {
+        !matches!(catch_unwind(AssertUnwindSafe(|| (self.passes)(card))), Ok(true))
+    }
+}
+
+fn main() -> ExitCode {
+    // The message of a panic would only be in the way.
+    set_hook(Box::new(|_| {}));
+    let words: Vec<String> = std::env::args().skip(1).collect();
+    let words: Vec<&str> = words.iter().map(String::as_str).collect();
+    let faults = match words[..] {
+        [] => first(&Named::all()),
+        ["--all"] => all(&Named::all(), ""),
+        ["--all", text] => all(&Named::all(), text),
+        ["--trace", file] => trace::check(file, &Named::all()),
+        _ => {
+            eprintln!("usage: mutants [--all [TEXT] | --trace FILE]");
+            return ExitCode::from(2);
+        }
+    };
+    if faults == 0 {
         ExitCode::SUCCESS
     } else {
         ExitCode::FAILURE
+    }
+}
+
+/// Up to what finds each card out; gives back how many nothing does.
+fn first(named: &[Named]) -> usize {
+    let mut survivors = 0;
+    println!("{:<48}found by", "wrong card");
+    for &(card, _) in ALL {
+        let found = named.iter().find(|named| named.fails(card)).map(|named| named.name.clone());
+        let found = found.or_else(|| compared(card).map(|call| format!("call {call} of the comparison")));
+        survivors += usize::from(found.is_none());
+        println!("{:<48}{}", card.name(), found.unwrap_or("NOT FOUND".into()));
+    }
+    println!("{} wrong cards, {survivors} not found", ALL.len());
+    survivors
+}
+
+/// Through everything; gives back how many the comparison does not find out.
+fn all(named: &[Named], text: &str) -> usize {
+    let cards: Vec<_> = ALL.iter().filter(|(card, _)| card.name().contains(text)).collect();
+    let mut survivors = 0;
+    for &&(card, _) in &cards {
+        let call = compared(card);
+        survivors += usize::from(call.is_none());
+        println!("{}: call {} of the comparison", card.name(), call.unwrap_or("NOT FOUND".into()));
+        for named in named.iter().filter(|named| named.fails(card)) {
+            println!("    {}", named.name);
+        }
+    }
+    println!("{} wrong cards, {survivors} not found by the comparison", cards.len());
+    survivors
+}
+
+/// The call at which the comparison finds the card out.
+fn compared(card: &'static dyn Card) -> Option<String> {
+    match catch_unwind(AssertUnwindSafe(|| differential::run(card, CALLS, 1, 1))) {
+        Ok(report) => report.differences.first().map(|difference| first_call(difference)),
+        Err(_) => Some("with a panic".into()),
     }
 }
 

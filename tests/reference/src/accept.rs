@@ -83,10 +83,10 @@ pub fn fault(state: &[u8]) -> Option<Fault> {
     }
 }
 
-pub(crate) fn check(state: &State) -> Result<(), Fault> {
+pub fn check(state: &State) -> Result<(), Fault> {
     let memory = get64(state, MEMORY_LENGTH);
     ensure((1..=MOST_MEMORY).contains(&memory), Fault::MemoryLength)?;
-    let domains = &state[DOMAIN_FLAGS..REGION_FLAGS];
+    let domains = &state[DOMAIN_FLAGS..][..DOMAINS];
     ensure(domains.iter().all(|&flag| flag <= 1), Fault::DomainFlag)?;
     for number in 0..QUEUES {
         check_queue(state, number)?;

@@ -44,10 +44,12 @@ impl Outcome {
     pub const DONE: Outcome = Outcome { answer: 0, status: 0 };
 
     /// The number that the C functions return: answer in bits 0 to 7, status in bits 8 to 15.
+    #[inline]
     pub fn to_bits(self) -> u32 {
         u32::from(self.answer) | u32::from(self.status) << 8
     }
 
+    #[inline]
     pub fn from_bits(bits: u32) -> Outcome {
         Outcome { answer: bits as u8, status: (bits >> 8) as u8 }
     }

@@ -73,7 +73,7 @@ impl<'a> Card<'a> {
     }
 
     pub fn free_domain(&self) -> Option<usize> {
-        self.bytes[DOMAIN_FLAGS..REGION_FLAGS].iter().position(|&flag| flag == 0)
+        self.bytes[DOMAIN_FLAGS..][..DOMAINS].iter().position(|&flag| flag == 0)
     }
 
     pub fn set_domain(&mut self, number: usize, live: bool) {
@@ -200,11 +200,11 @@ impl<'a> Card<'a> {
         let Pair { domain, signal, send_queue, receive_queue, state, destination } = *pair;
         let fields = [1, domain, signal, send_queue, receive_queue, state, destination];
         self.bytes[row..row + 7].copy_from_slice(&fields);
-        self.drop_receives(number);
+        self.bytes[waiting_row(number)..][..2].fill(0);
     }
 
     pub fn drop_pair(&mut self, number: usize) {
-        self.bytes[pair_row(number)] = 0;
+        self.bytes[pair_row(number)..][..7].fill(0);
     }
 
     pub fn set_pair_state(&mut self, number: usize, state: u8) {
@@ -252,7 +252,7 @@ impl<'a> Card<'a> {
     }
 
     pub fn drop_receives(&mut self, number: usize) {
-        self.bytes[waiting_row(number)..][..2].fill(0);
+        self.bytes[waiting_row(number) + 1] = 0;
     }
 }
 

@@ -111,7 +111,7 @@ fn register(card: &mut Card, domain: u32, access: u32, start: u64, length: u64, 
     }
     let domain = card.domain(domain)?;
     let memory = card.memory_length();
-    let in_memory = start.checked_add(length).is_some_and(|end| end <= memory);
+    let in_memory = start.checked_add(length).map_or(false, |end| end <= memory);
     if length == 0 || !in_memory || virt.checked_add(length).is_none() {
         return Err(Refusal::Range);
     }

@@ -27,7 +27,19 @@ pub const RECEIVE_ROWS: usize = REGION_ROWS + REGIONS * REGION_ROW;
 pub const RECEIVE_ROW: usize = 56;
 pub const COMPLETION_ROWS: usize = RECEIVE_ROWS + PAIRS * MOST_WAITING * RECEIVE_ROW;
 pub const COMPLETION_BYTES: usize = 24;
+/// The length of the lent state. Tests, timing and tools know it by this name alone.
 pub const STATE_BYTES: usize = COMPLETION_ROWS + QUEUES * MOST_PLACES * COMPLETION_BYTES;
+
+/// First byte and length of each table that says what is live, what it names and where its rows stand.
+pub const HEADS: [(usize, usize); 7] = [
+    (MEMORY_LENGTH, 16),
+    (DOMAIN_FLAGS, DOMAINS),
+    (REGION_FLAGS, REGIONS),
+    (QUEUE_ROWS, QUEUES * QUEUE_ROW),
+    (PAIR_ROWS, PAIRS * PAIR_ROW),
+    (WAITING_ROWS, PAIRS * WAITING_ROW),
+    (REGION_ROWS, REGIONS * REGION_ROW),
+];
 
 /// A queue pair's destination that names nobody.
 pub const NO_DESTINATION: u8 = 8;

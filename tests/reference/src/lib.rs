@@ -1,15 +1,15 @@
 //! An ordinary Rust engine for the card of document 01, working on the lent state of docs/STATE.md.
 
-mod accept;
-mod answer;
-mod card;
-mod control;
+pub mod accept;
+pub mod answer;
+pub mod card;
+pub mod control;
 pub mod layout;
 pub mod listing;
-mod queues;
+pub mod queues;
 pub mod record;
 pub mod replay;
-mod send;
+pub mod send;
 
 pub use accept::{accepts, fault, Fault};
 pub use answer::{Outcome, Refusal, Status};

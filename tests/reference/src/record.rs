@@ -205,13 +205,14 @@ pub enum Command {
 
 impl Command {
     pub fn read(record: &[u8]) -> Result<Command, Refusal> {
-        let [class, command, data @ ..] = record else {
-            return Err(Refusal::RecordLength);
+        let (class, command, data) = match record {
+            [class, command, data @ ..] => (*class, *command, data),
+            _ => return Err(Refusal::RecordLength),
         };
-        if *class != CONTROL_CLASS {
+        if class != CONTROL_CLASS {
             return Err(Refusal::Unknown);
         }
-        let size = match *command {
+        let size = match command {
             4 => 0,
             2 | 3 | 5 | 8 | 12 => 4,
             7 => 32,
@@ -221,7 +222,7 @@ impl Command {
         if data.len() != size {
             return Err(Refusal::RecordLength);
         }
-        Ok(match *command {
+        Ok(match command {
             2 => Command::CreateQueue { places: get32(data, 0) },
             3 => Command::DestroyQueue { number: get32(data, 0) },
             4 => Command::CreateDomain,

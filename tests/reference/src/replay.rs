@@ -8,7 +8,7 @@ pub const MARK: [u8; 2] = [0x52, 0x4b];
 pub const ANSWER_MARK: [u8; 2] = [0x72, 0x6b];
 pub const HEADER_BYTES: usize = 6;
 pub const MOST_BODY: usize = 640;
-const MEMORY: usize = 4096;
+pub const MEMORY: usize = 4096;
 
 /// One call of a tape.
 #[derive(Clone, Copy, Debug, PartialEq, Eq)]
@@ -39,7 +39,7 @@ impl Kind {
 
 /// Takes the next record off the tape; None if it is bad or cut.
 pub fn next_record<'a>(tape: &mut &'a [u8]) -> Option<TapeRecord<'a>> {
-    let (header, rest) = tape.split_at_checked(HEADER_BYTES)?;
+    let (header, rest) = split(tape, HEADER_BYTES)?;
     if header[..2] != MARK {
         return None;
     }
@@ -49,9 +49,14 @@ pub fn next_record<'a>(tape: &mut &'a [u8]) -> Option<TapeRecord<'a>> {
     if length > most {
         return None;
     }
-    let (body, rest) = rest.split_at_checked(length)?;
+    let (body, rest) = split(rest, length)?;
     *tape = rest;
     Some(TapeRecord { kind, number: header[3], body })
+}
+
+/// The first `length` bytes and the rest, if there are so many.
+fn split(bytes: &[u8], length: usize) -> Option<(&[u8], &[u8])> {
+    (length <= bytes.len()).then(|| bytes.split_at(length))
 }
 
 /// The answers to a whole tape.
@@ -62,11 +67,13 @@ pub fn replay(tape: &[u8]) -> Vec<u8> {
     let mut rest = tape;
     let mut output = Vec::new();
     while !rest.is_empty() {
-        let Some(record) = next_record(&mut rest) else {
-            write_answer(&mut output, Refusal::BadTapeRecord.into(), &[]);
-            break;
-        };
-        play(&mut state, &mut memory, &record, &mut output);
+        match next_record(&mut rest) {
+            Some(record) => play(&mut state, &mut memory, &record, &mut output),
+            None => {
+                write_answer(&mut output, Refusal::BadTapeRecord.into(), &[]);
+                break;
+            }
+        }
     }
     output
 }

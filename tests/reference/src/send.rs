@@ -91,8 +91,9 @@ impl Request<'_> {
             return self.fail(card, Status::LocalLength);
         }
         let total = total as usize;
-        let Some((local, count)) = self.local_spans(card) else {
-            return self.fail(card, Status::LocalProtection);
+        let (local, count) = match self.local_spans(card) {
+            Some(spans) => spans,
+            None => return self.fail(card, Status::LocalProtection),
         };
         let local = &local[..count];
         match self.record.opcode {
@@ -123,8 +124,9 @@ impl Request<'_> {
     /// Step 3: where the sender's pieces stand. Inline bytes need no key.
     fn local_spans(&self, card: &Card) -> Option<([Span; MOST_PIECES], usize)> {
         let mut spans = [Span::default(); MOST_PIECES];
-        let Local::Pieces { pieces, count } = &self.record.local else {
-            return Some((spans, 0));
+        let (pieces, count) = match &self.record.local {
+            Local::Pieces { pieces, count } => (pieces, count),
+            Local::Inline(_) => return Some((spans, 0)),
         };
         let right = if self.record.opcode == READ { LOCAL_WRITE } else { 0 };
         for (place, piece) in spans.iter_mut().zip(&pieces[..*count]) {

@@ -1,6 +1,6 @@
 //! Answers as text.
 
-use crate::calls::{CONTROL, POLL};
+use crate::calls::{ack_bytes, CONTROL, POLL, SEND};
 use crate::tape::{hex, number, Header, Record};
 
 pub const HEADER: Header =
@@ -25,10 +25,22 @@ const ANSWERS: [&str; 16] = [
     "lent card state not acceptable",
 ];
 
+/// Whether the answer has a status only where a call can have one, and as many bytes as its call writes.
+pub fn fits(call: &Record, answer: &Record) -> bool {
+    let done = answer.first == 0;
+    let written = match call.first {
+        CONTROL if done => ack_bytes(&call.body),
+        CONTROL => 1,
+        POLL if done => 24,
+        _ => 0,
+    };
+    answer.body.len() == written && (answer.second == 0 || done && call.first == SEND)
+}
+
 pub fn describe(call: &Record, answer: &Record) -> String {
     let name = ANSWERS[usize::from(answer.first)];
     let status = match (call.first, answer.first) {
-        (2, 0) => format!(", status {} {}", answer.second, status(answer.second)),
+        (SEND, 0) => format!(", status {} {}", answer.second, status(answer.second)),
         _ if answer.second != 0 => format!(", status {}", answer.second),
         _ => String::new(),
     };

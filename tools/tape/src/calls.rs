@@ -3,6 +3,7 @@
 use crate::tape::{bits, hex, number, Header, Record};
 
 pub const CONTROL: u8 = 1;
+pub const SEND: u8 = 2;
 pub const POLL: u8 = 4;
 
 pub const HEADER: Header = Header { mark: [0x52, 0x4b], fault };
@@ -19,16 +20,26 @@ fn fault(kind: u8, length: usize) -> Option<&'static str> {
 pub fn describe(call: &Record) -> String {
     match call.first {
         CONTROL => format!("control  {}", command(&call.body)),
-        2 => format!("send     QP {}: {}", call.second, send(&call.body)),
+        SEND => format!("send     QP {}: {}", call.second, send(&call.body)),
         3 => format!("receive  QP {}: {}", call.second, receive(&call.body)),
         POLL => format!("poll     CQ {}", call.second),
         _ => format!("flush    QP {}", call.second),
     }
 }
 
+/// How many ack bytes a command writes that is done.
+pub fn ack_bytes(body: &[u8]) -> usize {
+    match body.get(1) {
+        Some(2 | 4 | 9) => 5,
+        Some(7) => 13,
+        _ => 1,
+    }
+}
+
 fn command(body: &[u8]) -> String {
-    let [6, command, data @ ..] = body else {
-        return format!("record of {}", hex(body));
+    let (command, data) = match body {
+        [6, command, data @ ..] => (command, data),
+        _ => return format!("record of {}", hex(body)),
     };
     let single = |name: &str, what: &str| format!("{name} {what} {}", number(data, 0, 4));
     match (command, data.len()) {
@@ -94,7 +105,7 @@ fn send(body: &[u8]) -> String {
     let local = if body[9] & 8 != 0 {
         format!("inline {} bytes", number(body, 560, 2))
     } else {
-        pieces(number(body, 560, 4), &body[576..])
+        entries(number(body, 560, 4), &body[576..])
     };
     format!("{} {opcode} wr_id {} flags {flags}{immediate}{remote} {local}", body[8], number(body, 0, 8))
 }
@@ -103,17 +114,17 @@ fn receive(body: &[u8]) -> String {
     if body.len() < 24 {
         return format!("record of {}", hex(body));
     }
-    format!("wr_id {} {}", number(body, 0, 8), pieces(number(body, 8, 4), &body[24..]))
+    format!("wr_id {} {}", number(body, 0, 8), entries(number(body, 8, 4), &body[24..]))
 }
 
-/// The count as written, and the pieces that the record has.
-fn pieces(count: u64, bytes: &[u8]) -> String {
+/// The count as written, and the scatter/gather entries that the record has.
+fn entries(count: u64, bytes: &[u8]) -> String {
     let list: Vec<String> = bytes
         .chunks(16)
-        .map(|piece| match piece.len() {
-            16 => format!("{:#x}+{} key {}", number(piece, 0, 8), number(piece, 8, 4), number(piece, 12, 4)),
-            _ => hex(piece),
+        .map(|entry| match entry.len() {
+            16 => format!("{:#x}+{} key {}", number(entry, 0, 8), number(entry, 8, 4), number(entry, 12, 4)),
+            _ => hex(entry),
         })
         .collect();
-    format!("pieces {count} [{}]", list.join(", "))
+    format!("entries {count} [{}]", list.join(", "))
 }

@@ -1,6 +1,7 @@
-//! Records of a tape, with the place of each for messages.
+//! Records of a tape, read one after another, with the place of each for messages.
 
-use std::fs;
+use std::fs::File;
+use std::io::{self, BufReader, Read};
 
 /// What a tape's header looks like: two mark bytes, two bytes of its own, a length of 16 bits.
 pub struct Header {
@@ -10,6 +11,7 @@ pub struct Header {
 }
 
 /// One record: the two bytes after the mark, and the body.
+#[derive(PartialEq, Eq)]
 pub struct Record {
     pub first: u8,
     pub second: u8,
@@ -18,52 +20,64 @@ pub struct Record {
 
 pub struct Tape {
     name: String,
-    bytes: Vec<u8>,
-    at: usize,
-    records: usize,
+    input: Box<dyn Read>,
+    header: Header,
+    at: u64,
+    records: u64,
 }
 
 const HEADER_BYTES: usize = 6;
 
 impl Tape {
-    pub fn open(name: &str) -> Result<Tape, String> {
-        let bytes = fs::read(name).map_err(|error| format!("{name}: {error}"))?;
-        Ok(Tape { name: name.into(), bytes, at: 0, records: 0 })
-    }
-
-    pub fn at_end(&self) -> bool {
-        self.at == self.bytes.len()
+    /// A tape by its file's name; `-` is standard input.
+    pub fn open(name: &str, header: Header) -> Result<Tape, String> {
+        let (name, input): (&str, Box<dyn Read>) = match name {
+            "-" => ("standard input", Box::new(io::stdin())),
+            _ => (name, Box::new(File::open(name).map_err(|error| format!("{name}: {error}"))?)),
+        };
+        Ok(Tape { name: name.into(), input: Box::new(BufReader::new(input)), header, at: 0, records: 0 })
     }
 
     /// How many records were taken.
-    pub fn records(&self) -> usize {
+    pub fn records(&self) -> u64 {
         self.records
     }
 
     /// A message about the record that comes next.
-    pub fn fault(&self, reason: &str) -> String {
+    fn fault(&self, reason: &str) -> String {
         format!("{}: record {} at byte {}: {reason}", self.name, self.records, self.at)
     }
 
-    pub fn next(&mut self, wanted: Header) -> Result<Record, String> {
-        let rest = &self.bytes[self.at..];
-        let Some((header, rest)) = rest.split_at_checked(HEADER_BYTES) else {
-            return Err(self.fault(if rest.is_empty() { "the tape ends here" } else { "cut header" }));
-        };
-        if header[..2] != wanted.mark {
+    /// The next record; None at the tape's end.
+    pub fn next(&mut self) -> Result<Option<Record>, String> {
+        let header = self.read(HEADER_BYTES)?;
+        match header.len() {
+            0 => return Ok(None),
+            HEADER_BYTES => {}
+            _ => return Err(self.fault("cut header")),
+        }
+        if header[..2] != self.header.mark {
             return Err(self.fault("bad mark"));
         }
         let length = usize::from(u16::from_le_bytes([header[4], header[5]]));
-        if let Some(reason) = (wanted.fault)(header[2], length) {
+        if let Some(reason) = (self.header.fault)(header[2], length) {
             return Err(self.fault(reason));
         }
-        let Some(body) = rest.get(..length) else {
+        let body = self.read(length)?;
+        if body.len() < length {
             return Err(self.fault("cut body"));
-        };
-        let record = Record { first: header[2], second: header[3], body: body.to_vec() };
-        self.at += HEADER_BYTES + length;
+        }
+        self.at += (HEADER_BYTES + length) as u64;
         self.records += 1;
-        Ok(record)
+        Ok(Some(Record { first: header[2], second: header[3], body }))
+    }
+
+    /// That many bytes, or those before the end.
+    fn read(&mut self, length: usize) -> Result<Vec<u8>, String> {
+        let mut bytes = Vec::with_capacity(length);
+        let read = self.input.by_ref().take(length as u64).read_to_end(&mut bytes);
+        read.map_err(|error| format!("{}: {error}", self.name))?;
+        Ok(bytes)
     }
 }
 

@@ -1,4 +1,4 @@
-use Rattle.wire.specs.Fields.{putFields}
+use Rattle.wire.specs.Codec.{putFields}
 use Rattle.probe.specs.Shown.{putSges}
 use borrow.Author.Needs.{needs}
 use Rattle.probe.proofs.put_receive.Statement.{statement}

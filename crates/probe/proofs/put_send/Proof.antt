@@ -1,4 +1,4 @@
-use Rattle.wire.specs.Fields.{putFields}
+use Rattle.wire.specs.Codec.{putFields}
 use borrow.Author.Needs.{needs}
 use Rattle.probe.proofs.put_send.Statement.{statement}
 use Rattle.probe.proofs.put_send.Tie as tie

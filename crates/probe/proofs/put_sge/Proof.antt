@@ -1,5 +1,5 @@
 use native.Mathlib.Nat.{add-zero}
-use Rattle.wire.specs.Fields.{putFields}
+use Rattle.wire.specs.Codec.{putFields}
 use Rattle.tables.specs.Records.{sgeCodec}
 use borrow.Author.Needs.{needs}
 use Rattle.probe.proofs.put_sge.Statement.{statement}

@@ -1,7 +1,7 @@
 use denote.Ref.{now}
 use borrow.Author.Tests.{eq-eqb, ne-eqb, lt-ltb, le-ltb}
 use lib.ListN.{length}
-use Rattle.wire.specs.Fields.{putFields}
+use Rattle.wire.specs.Codec.{putFields}
 use borrow.Author.Needs.{needs}
 use Rattle.probe.proofs.show_create_pd.Statement.{statement}
 use Rattle.probe.proofs.show_create_pd.Tie as tie

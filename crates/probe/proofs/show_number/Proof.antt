@@ -2,7 +2,7 @@ use denote.Ref.{now}
 use borrow.Author.Tests.{lt-ltb, le-ltb}
 use mathlib.Core.Path.{sym, _∙_}
 use lib.ListN.{length}
-use Rattle.wire.specs.Fields.{putFields}
+use Rattle.wire.specs.Codec.{putFields}
 use borrow.Author.Needs.{needs}
 use Rattle.probe.proofs.show_number.Statement.{statement}
 use Rattle.probe.proofs.show_number.Tie as tie

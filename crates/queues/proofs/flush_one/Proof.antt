@@ -11,9 +11,9 @@ use Rattle.queues.proofs.flush_one.Statement.{statement}
 use Rattle.queues.proofs.flush_one.Tie as tie
 use Rattle.queues.proofs.flush_one.Reads as reads
 use Rattle.queues.proofs.flush_one.Lts as lts
-use Rattle.tables.proofs.image.load_cq.Reads as load-cq-reads
-use Rattle.tables.proofs.image.load_qp.Reads as load-qp-reads
-use Rattle.tables.proofs.image.load_waiting.Reads as load-waiting-reads
+use Rattle.tables.proofs.stateSize.load_cq.Reads as load-cq-reads
+use Rattle.tables.proofs.stateSize.load_qp.Reads as load-qp-reads
+use Rattle.tables.proofs.stateSize.load_waiting.Reads as load-waiting-reads
 use Rattle.tables.proofs.queue.oldest_receive.Reads as oldest-receive-reads
 use Rattle.tables.proofs.queue.push_completion.Reads as push-completion-reads
 use Rattle.tables.proofs.queue.take_receive.Reads as take-receive-reads

@@ -8,8 +8,8 @@ use Rattle.queues.proofs.join.Statement.{statement}
 use Rattle.queues.proofs.join.Tie as tie
 use Rattle.queues.proofs.join.Reads as reads
 use Rattle.queues.proofs.join.Lts as lts
-use Rattle.tables.proofs.image.load_qp.Reads as load-qp-reads
-use Rattle.tables.proofs.image.load_waiting.Reads as load-waiting-reads
+use Rattle.tables.proofs.stateSize.load_qp.Reads as load-qp-reads
+use Rattle.tables.proofs.stateSize.load_waiting.Reads as load-waiting-reads
 use Rattle.tables.proofs.queue.post_receive.Reads as post-receive-reads
 
 returns : tie.Need-returns

@@ -9,7 +9,7 @@ use Rattle.queues.proofs.poll_queue.Statement.{statement}
 use Rattle.queues.proofs.poll_queue.Tie as tie
 use Rattle.queues.proofs.poll_queue.Reads as reads
 use Rattle.queues.proofs.poll_queue.Lts as lts
-use Rattle.tables.proofs.image.load_cq.Reads as load-cq-reads
+use Rattle.tables.proofs.stateSize.load_cq.Reads as load-cq-reads
 use Rattle.tables.proofs.queue.oldest_completion.Reads as oldest-completion-reads
 use Rattle.tables.proofs.queue.pop_completion.Reads as pop-completion-reads
 use Rattle.tables.proofs.records.write_completion.Reads as write-completion-reads

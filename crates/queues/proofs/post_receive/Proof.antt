@@ -2,8 +2,8 @@ use denote.Ref.{now}
 use mathlib.Core.Path.{_≡_, sym, _∙_}
 use borrow.Author.Tests.{not-true, not-false}
 use mathlib.Core.Bool.{true}
-use Rattle.tables.specs.Accept.{accepts}
-use Rattle.tables.specs.Accepted.{accepted}
+use Rattle.validate.specs.Accept.{accepts}
+use Rattle.validate.proofs.AcceptedLaws.{accepted}
 use Rattle.queues.specs.ReceiveLaws.{receive-15, receive-bad}
 use borrow.Author.Needs.{needs}
 use Rattle.queues.proofs.post_receive.Statement.{statement}

@@ -1,5 +1,5 @@
 use Rattle.tape.specs.Written.{answers, done-two}
-use Rattle.tables.specs.Image.{card}
+use Rattle.tables.specs.State.{card}
 use denote.Ref.{now}
 use borrow.Author.Needs.{needs}
 use Rattle.tape.proofs.answer_control.Statement.{statement}

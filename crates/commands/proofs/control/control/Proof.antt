@@ -2,8 +2,8 @@ use denote.Ref.{now}
 use borrow.Author.Tests.{not-true, not-false}
 use mathlib.Core.Path.{_≡_, sym, _∙_}
 use mathlib.Core.Bool.{true}
-use Rattle.tables.specs.Accept.{accepts}
-use Rattle.tables.specs.Accepted.{accepted}
+use Rattle.validate.specs.Accept.{accepts}
+use Rattle.validate.proofs.AcceptedLaws.{accepted}
 use Rattle.commands.specs.ControlCall.{control-state, control-short, control-done}
 use borrow.Author.Needs.{needs}
 use Rattle.commands.proofs.control.control.Statement.{statement}

@@ -8,7 +8,7 @@ use Rattle.commands.proofs.control.create_cq.Reads as reads
 use Rattle.commands.proofs.control.create_cq.Lts as lts
 use Rattle.commands.proofs.control.places_fine.Reads as places-fine-reads
 use Rattle.tables.proofs.find.free_cqn.Reads as free-cqn-reads
-use Rattle.tables.proofs.image.store_cq.Reads as store-cq-reads
+use Rattle.tables.proofs.stateSize.store_cq.Reads as store-cq-reads
 
 enum-known-read : tie.Need-enum-known-read
 enum-known-read c = search needs

@@ -1,5 +1,5 @@
 use denote.Ref.{now}
-use Rattle.tables.specs.Records.{Command}
+use Rattle.tables.specs.Commands.{Command}
 use Rattle.commands.specs.ControlLaws.{bare-wrong, bare-right, create-pd-full, create-pd-done}
 use borrow.Author.Needs.{needs}
 use Rattle.commands.proofs.control.create_pd.Statement.{statement}
@@ -7,7 +7,7 @@ use Rattle.commands.proofs.control.create_pd.Tie as tie
 use Rattle.commands.proofs.control.create_pd.Reads as reads
 use Rattle.commands.proofs.control.create_pd.Lts as lts
 use Rattle.tables.proofs.find.free_pdn.Reads as free-pdn-reads
-use Rattle.tables.proofs.image.store_pd.Reads as store-pd-reads
+use Rattle.tables.proofs.stateSize.store_pd.Reads as store-pd-reads
 
 returns : tie.Need-returns
 returns c = bare-wrong (now (c .before .before .before .args .state)) (now (c .before .before .before .args .command)) Command.createPd (c .if1 .taken)

@@ -1,7 +1,7 @@
 use denote.Ref.{now}
 use borrow.Author.Tests.{not-true, not-false}
 use mathlib.Core.Path.{sym, _∙_}
-use Rattle.tables.specs.Objects.{mr-below}
+use Rattle.tables.proofs.ObjectLaws.{mr-below}
 use Rattle.commands.specs.ControlLaws.{deregister-dead, deregister-done}
 use borrow.Author.Needs.{needs}
 use Rattle.commands.proofs.control.deregister.Statement.{statement}
@@ -9,7 +9,7 @@ use Rattle.commands.proofs.control.deregister.Tie as tie
 use Rattle.commands.proofs.control.deregister.Reads as reads
 use Rattle.commands.proofs.control.deregister.Lts as lts
 use Rattle.commands.proofs.control.mr_live.Reads as mr-live-reads
-use Rattle.tables.proofs.image.store_mr_live.Reads as store-mr-live-reads
+use Rattle.tables.proofs.stateSize.store_mr_live.Reads as store-mr-live-reads
 
 enum-known-read : tie.Need-enum-known-read
 enum-known-read c = search needs

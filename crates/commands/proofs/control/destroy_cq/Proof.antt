@@ -1,7 +1,7 @@
 use denote.Ref.{now}
 use borrow.Author.Tests.{not-true, not-false}
 use mathlib.Core.Path.{sym, _∙_}
-use Rattle.tables.specs.Objects.{cq-below}
+use Rattle.tables.proofs.ObjectLaws.{cq-below}
 use Rattle.commands.specs.ControlLaws.{destroy-cq-dead, destroy-cq-used, destroy-cq-done}
 use borrow.Author.Needs.{needs}
 use Rattle.commands.proofs.control.destroy_cq.Statement.{statement}
@@ -10,7 +10,7 @@ use Rattle.commands.proofs.control.destroy_cq.Reads as reads
 use Rattle.commands.proofs.control.destroy_cq.Lts as lts
 use Rattle.tables.proofs.accept.cq_live.Reads as cq-live-reads
 use Rattle.tables.proofs.find.cq_in_use.Reads as cq-in-use-reads
-use Rattle.tables.proofs.image.store_cq.Reads as store-cq-reads
+use Rattle.tables.proofs.stateSize.store_cq.Reads as store-cq-reads
 
 enum-known-read : tie.Need-enum-known-read
 enum-known-read c = search needs

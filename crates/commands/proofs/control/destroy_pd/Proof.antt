@@ -1,7 +1,7 @@
 use denote.Ref.{now}
 use borrow.Author.Tests.{not-true, not-false}
 use mathlib.Core.Path.{sym, _∙_}
-use Rattle.tables.specs.Objects.{pd-below}
+use Rattle.tables.proofs.ObjectLaws.{pd-below}
 use Rattle.commands.specs.ControlLaws.{destroy-pd-dead, destroy-pd-used, destroy-pd-done}
 use borrow.Author.Needs.{needs}
 use Rattle.commands.proofs.control.destroy_pd.Statement.{statement}
@@ -10,7 +10,7 @@ use Rattle.commands.proofs.control.destroy_pd.Reads as reads
 use Rattle.commands.proofs.control.destroy_pd.Lts as lts
 use Rattle.tables.proofs.accept.pd_live.Reads as pd-live-reads
 use Rattle.tables.proofs.find.pd_in_use.Reads as pd-in-use-reads
-use Rattle.tables.proofs.image.store_pd.Reads as store-pd-reads
+use Rattle.tables.proofs.stateSize.store_pd.Reads as store-pd-reads
 
 enum-known-read : tie.Need-enum-known-read
 enum-known-read c = search needs

@@ -2,7 +2,8 @@ use denote.Ref.{now}
 use mathlib.Core.Path.{sym, _∙_}
 use Rattle.wire.specs.Checks.{refusal}
 use Rattle.wire.specs.Le.{leAt}
-use Rattle.tables.specs.Reading.{headChecks, head-number, head-refused}
+use Rattle.tables.specs.Commands.{headChecks}
+use Rattle.tables.proofs.ReadingLaws.{head-number, head-refused}
 use Rattle.commands.specs.ControlCall.{dispatch-stopped, dispatch-passed}
 use borrow.Author.Needs.{needs}
 use Rattle.commands.proofs.control.dispatch.Statement.{statement}

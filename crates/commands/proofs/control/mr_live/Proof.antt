@@ -1,10 +1,10 @@
-use Rattle.tables.specs.Objects.{mr-live, mr-out}
+use Rattle.tables.proofs.ObjectLaws.{mr-live, mr-out}
 use borrow.Author.Needs.{needs}
 use Rattle.commands.proofs.control.mr_live.Statement.{statement}
 use Rattle.commands.proofs.control.mr_live.Tie as tie
 use Rattle.commands.proofs.control.mr_live.Reads as reads
 use Rattle.commands.proofs.control.mr_live.Lts as lts
-use Rattle.tables.proofs.image.load_mr_live.Reads as load-mr-live-reads
+use Rattle.tables.proofs.stateSize.load_mr_live.Reads as load-mr-live-reads
 
 load-mr-live-requires : tie.Need-load-mr-live-requires
 load-mr-live-requires c κs = search needs

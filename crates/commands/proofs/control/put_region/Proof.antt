@@ -7,9 +7,9 @@ use Rattle.commands.proofs.control.put_region.Tie as tie
 use Rattle.commands.proofs.control.put_region.Reads as reads
 use Rattle.commands.proofs.control.put_region.Lts as lts
 use Rattle.commands.proofs.control.next_variant.Reads as next-variant-reads
-use Rattle.tables.proofs.image.load_mr.Reads as load-mr-reads
-use Rattle.tables.proofs.image.store_mr.Reads as store-mr-reads
-use Rattle.tables.proofs.image.store_mr_live.Reads as store-mr-live-reads
+use Rattle.tables.proofs.stateSize.load_mr.Reads as load-mr-reads
+use Rattle.tables.proofs.stateSize.store_mr.Reads as store-mr-reads
+use Rattle.tables.proofs.stateSize.store_mr_live.Reads as store-mr-live-reads
 
 load-mr-requires : tie.Need-load-mr-requires
 load-mr-requires c κs = search needs

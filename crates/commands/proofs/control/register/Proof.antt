@@ -11,7 +11,7 @@ use Rattle.commands.proofs.control.known_access.Reads as known-access-r
 use Rattle.commands.proofs.control.put_region.Reads as put-region-reads
 use Rattle.tables.proofs.accept.pd_live.Reads as pd-live-reads
 use Rattle.tables.proofs.find.free_mrn.Reads as free-mrn-reads
-use Rattle.tables.proofs.image.load_memory.Reads as load-memory-reads
+use Rattle.tables.proofs.stateSize.load_memory.Reads as load-memory-reads
 
 enum-known-read : tie.Need-enum-known-read
 enum-known-read c = search needs

@@ -1,7 +1,7 @@
 use denote.Ref.{now}
 use borrow.Author.Tests.{not-true, not-false}
 use mathlib.Core.Path.{sym, _∙_}
-use Rattle.tables.specs.Objects.{qp-below}
+use Rattle.tables.proofs.ObjectLaws.{qp-below}
 use Rattle.commands.specs.ControlLaws.{destroy-qp-dead, destroy-qp-done}
 use borrow.Author.Needs.{needs}
 use Rattle.commands.proofs.control_qp.destroy_qp.Statement.{statement}
@@ -9,7 +9,7 @@ use Rattle.commands.proofs.control_qp.destroy_qp.Tie as tie
 use Rattle.commands.proofs.control_qp.destroy_qp.Reads as reads
 use Rattle.commands.proofs.control_qp.destroy_qp.Lts as lts
 use Rattle.commands.proofs.control_qp.qp_live.Reads as qp-live-reads
-use Rattle.tables.proofs.image.store_qp.Reads as store-qp-reads
+use Rattle.tables.proofs.stateSize.store_qp.Reads as store-qp-reads
 
 enum-known-read : tie.Need-enum-known-read
 enum-known-read c = search needs

@@ -1,7 +1,7 @@
 use denote.Ref.{now}
 use borrow.Author.Tests.{not-true, not-false}
 use mathlib.Core.Path.{sym, _∙_}
-use Rattle.tables.specs.Objects.{qp-below}
+use Rattle.tables.proofs.ObjectLaws.{qp-below}
 use Rattle.commands.specs.ControlLaws.{modify-fields, modify-dead, modify-stays, modify-done}
 use borrow.Author.Needs.{needs}
 use Rattle.commands.proofs.control_qp.modify_qp.Statement.{statement}
@@ -12,7 +12,7 @@ use Rattle.commands.proofs.control_qp.is_move.Reads as is-move-reads
 use Rattle.commands.proofs.control_qp.modify_bad.Reads as modify-bad-reads
 use Rattle.commands.proofs.control_qp.move_pair.Reads as move-pair-reads
 use Rattle.commands.proofs.control_qp.qp_live.Reads as qp-live-reads
-use Rattle.tables.proofs.image.load_qp.Reads as load-qp-reads
+use Rattle.tables.proofs.stateSize.load_qp.Reads as load-qp-reads
 
 enum-known-read : tie.Need-enum-known-read
 enum-known-read c = search needs

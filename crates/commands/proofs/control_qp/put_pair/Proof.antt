@@ -4,8 +4,8 @@ use Rattle.commands.proofs.control_qp.put_pair.Tie as tie
 use Rattle.commands.proofs.control_qp.put_pair.Reads as reads
 use Rattle.commands.proofs.control_qp.put_pair.Lts as lts
 use Rattle.commands.proofs.control_qp.new_pair.Reads as new-pair-reads
-use Rattle.tables.proofs.image.store_qp.Reads as store-qp-reads
-use Rattle.tables.proofs.image.store_waiting.Reads as store-waiting-reads
+use Rattle.tables.proofs.stateSize.store_qp.Reads as store-qp-reads
+use Rattle.tables.proofs.stateSize.store_waiting.Reads as store-waiting-reads
 
 store-waiting-requires : tie.Need-store-waiting-requires
 store-waiting-requires c κs = search needs

@@ -1,10 +1,10 @@
-use Rattle.tables.specs.Objects.{qp-live, qp-out}
+use Rattle.tables.proofs.ObjectLaws.{qp-live, qp-out}
 use borrow.Author.Needs.{needs}
 use Rattle.commands.proofs.control_qp.qp_live.Statement.{statement}
 use Rattle.commands.proofs.control_qp.qp_live.Tie as tie
 use Rattle.commands.proofs.control_qp.qp_live.Reads as reads
 use Rattle.commands.proofs.control_qp.qp_live.Lts as lts
-use Rattle.tables.proofs.image.load_qp.Reads as load-qp-reads
+use Rattle.tables.proofs.stateSize.load_qp.Reads as load-qp-reads
 
 load-qp-requires : tie.Need-load-qp-requires
 load-qp-requires c κs = search needs

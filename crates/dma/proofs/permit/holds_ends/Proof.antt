@@ -2,7 +2,7 @@ use mathlib.Core.Path.{_∙_}
 use native.Mathlib.Omega.{arith}
 use Prim.Native.Nat.{_+_, _-_}
 use borrow.Author.Tests.{le-leb, lt-leb}
-use Rattle.wire.specs.Scan.{leb-same}
+use Rattle.wire.proofs.ScanLaws.{leb-same}
 use borrow.Author.Needs.{needs}
 use Rattle.dma.proofs.permit.holds_ends.Statement.{statement}
 use Rattle.dma.proofs.permit.holds_ends.Tie as tie

@@ -1,7 +1,7 @@
 use mathlib.Core.Path.{sym, _∙_}
 use denote.Ref.{now}
 use Prim.Native.Nat.{_-_}
-use Rattle.tables.specs.Image.{card}
+use Rattle.tables.specs.State.{card}
 use Rattle.dma.specs.Grants.{allows}
 use Rattle.dma.specs.Ranges.{empty-range}
 use Rattle.dma.specs.Find.{range-none, range-found}

@@ -2,7 +2,7 @@ use mathlib.Core.Path.{_≡_, sym}
 use denote.Ref.{now}
 use Prim.Native.Nat.{_-_, _/_, _%_}
 use Rattle.wire.specs.Table.{rowAt}
-use Rattle.tables.specs.Layout.{mrLiveT, mrT}
+use Rattle.tables.specs.Layout.{mrFlagT, mrT}
 use Rattle.dma.specs.Find.{found-out, found-free, found-other, found-live}
 use borrow.Author.Needs.{needs}
 use Rattle.dma.proofs.permit.region_of.Statement.{statement}
@@ -31,13 +31,13 @@ cast-if3 c = search needs
 returns-3 : tie.Need-returns-3
 returns-3 c =
     let a = c .before .before .before .before .before .before .before .args in
-    let e : rowAt mrLiveT (now (a .state)) (a .key / 256) ≡ 1 = (cc) in
+    let e : rowAt mrFlagT (now (a .state)) (a .key / 256) ≡ 1 = (cc) in
     sym (found-other (now (a .state)) (a .key) (search needs) e (λ q. c .if3 .taken (cc)))
 
 returns-4 : tie.Need-returns-4
 returns-4 c =
     let a = c .before .before .before .before .before .before .before .args in
-    let e : rowAt mrLiveT (now (a .state)) (a .key / 256) ≡ 1 = (cc) in
+    let e : rowAt mrFlagT (now (a .state)) (a .key / 256) ≡ 1 = (cc) in
     let f : rowAt mrT (now (a .state)) (a .key / 256) .variant ≡ a .key % 256 = (cc) in
     rw (found-live (now (a .state)) (a .key) (search needs) e f) (cc)
 

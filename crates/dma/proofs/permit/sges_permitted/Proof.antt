@@ -5,7 +5,7 @@ use lib.ListN.{length, take, drop}
 use Prim.Native.Nat.{_-_, _≤_}
 use denote.Ref.{now}
 use borrow.Author.Tests.{not-true, not-false}
-use Rattle.tables.specs.Image.{card}
+use Rattle.tables.specs.State.{card}
 use Rattle.rules.specs.Touch.{sgeBytes}
 use Rattle.dma.specs.Grants.{allows, allowsAll}
 use Rattle.dma.specs.Sges.{left-tests, none-tests}

@@ -3,7 +3,7 @@ use native.Mathlib.Omega.{arith}
 use denote.Ref.{now}
 use lib.ListN.{length, getD, take, drop}
 use Prim.Native.Nat.{_+_, _-_, _≤_}
-use Rattle.tables.specs.Image.{card}
+use Rattle.tables.specs.State.{card}
 use mathlib.Core.Bool.{true}
 use mathlib.Core.List.{_++_}
 use Rattle.rules.specs.Touch.{sgeBytes, sgeTotal}

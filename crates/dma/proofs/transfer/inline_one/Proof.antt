@@ -1,7 +1,7 @@
 use native.Mathlib.Omega.{arith}
 use denote.Ref.{now}
 use Prim.Native.Nat.{_-_}
-use Rattle.tables.specs.Image.{card}
+use Rattle.tables.specs.State.{card}
 use Rattle.dma.specs.Places.{lies, place-asks, room}
 use Rattle.dma.specs.Moves.{unwritten, inline-run}
 use borrow.Author.Needs.{needs}

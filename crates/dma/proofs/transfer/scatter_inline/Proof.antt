@@ -3,7 +3,7 @@ use native.Mathlib.Omega.{arith}
 use denote.Ref.{now}
 use lib.ListN.{length}
 use Prim.Native.Nat.{_-_}
-use Rattle.tables.specs.Image.{card}
+use Rattle.tables.specs.State.{card}
 use Rattle.dma.specs.Moves.{inline-single, inline-done}
 use borrow.Author.Needs.{needs}
 use Rattle.dma.proofs.transfer.scatter_inline.Statement.{statement}

@@ -3,10 +3,10 @@ use native.Mathlib.Omega.{arith}
 use denote.Ref.{now}
 use lib.ListN.{length}
 use Prim.Native.Nat.{_-_}
-use Rattle.tables.specs.Image.{card}
+use Rattle.tables.specs.State.{card}
 use lib.Dec.{eqb}
 use borrow.Author.Tests.{eqb-true}
-use Rattle.wire.specs.Scan.{and-left, and-right}
+use Rattle.wire.proofs.ScanLaws.{and-left, and-right}
 use Rattle.dma.specs.Moves.{single, single-done}
 use borrow.Author.Needs.{needs}
 use Rattle.dma.proofs.transfer.transfer.Statement.{statement}

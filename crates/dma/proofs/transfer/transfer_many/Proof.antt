@@ -2,7 +2,7 @@ use native.Mathlib.Omega.{arith}
 use denote.Ref.{now}
 use lib.ListN.{take}
 use Prim.Native.Nat.{_-_}
-use Rattle.tables.specs.Image.{card}
+use Rattle.tables.specs.State.{card}
 use Rattle.dma.specs.Moves.{transferred}
 use borrow.Author.Needs.{needs}
 use Rattle.dma.proofs.transfer.transfer_many.Statement.{statement}

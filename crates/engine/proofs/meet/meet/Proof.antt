@@ -7,7 +7,7 @@ use mathlib.Core.Bool.{true, false}
 use mathlib.Core.List.{List}
 use Prim.Native.Nat.{ℕ, _<_, _≤_}
 use Rattle.wire.specs.Table.{rowAt}
-use Rattle.tables.specs.Accepted.{accepted}
+use Rattle.validate.proofs.AcceptedLaws.{accepted}
 use Rattle.tables.specs.Layout.{qpT}
 use Rattle.tables.specs.Limits.{qpCount}
 use Rattle.tables.specs.declared.QueuePair.{QueuePair}

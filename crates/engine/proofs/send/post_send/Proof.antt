@@ -5,10 +5,10 @@ use mathlib.Core.Bool.{true}
 use mathlib.Core.List.{List}
 use Prim.Native.Nat.{ℕ}
 use lib.ListN.{length}
-use Rattle.tables.specs.Accept.{accepts}
-use Rattle.tables.specs.Accepted.{accepted}
-use Rattle.tables.specs.Image.{card}
-use Rattle.tables.specs.Objects.{memory-is}
+use Rattle.validate.specs.Accept.{accepts}
+use Rattle.validate.proofs.AcceptedLaws.{accepted}
+use Rattle.tables.specs.State.{card}
+use Rattle.tables.proofs.ObjectLaws.{memory-is}
 use Rattle.engine.specs.SendDone.{not-accepted, other-memory, bad-record, ran}
 use Rattle.engine.specs.SendEnd.{posted}
 use borrow.Author.Needs.{needs}

@@ -4,6 +4,10 @@ use Rattle.tables.specs.declared.WaitingHead.{WaitingHead}
 use borrow.Author.Needs.{needs}
 use Rattle.tables.proofs.queue.oldest_receive.Statement.{statement}
 use Rattle.tables.proofs.queue.oldest_receive.Tie as tie
+use Rattle.tables.proofs.queue.oldest_receive.Reads as reads
+use Rattle.tables.proofs.queue.oldest_receive.Lts as lts
+use Rattle.tables.proofs.rows.load_receive.Reads as load-receive-reads
+use Rattle.tables.proofs.rows.load_waiting.Reads as load-waiting-reads
 
 load-waiting-requires : tie.Need-load-waiting-requires
 load-waiting-requires c κs = search needs
@@ -20,10 +24,10 @@ add-load-receive c = search needs
 load-receive-requires : tie.Need-load-receive-requires
 load-receive-requires c κs =
     let e = ap (λ (h : WaitingHead). h .first) (c .before .load-waiting .ensures) in
-    (omega arith, search needs)
+    (omega arith, omega arith)
 
 returns : tie.Need-returns
-returns c = (cc)
+returns c = cc
 
 pub oldest-receive-spec : {M : Type 1} → statement M
 oldest-receive-spec =

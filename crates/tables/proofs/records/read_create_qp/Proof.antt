@@ -1,5 +1,5 @@
-use Rattle.wire.specs.Fields.{fieldsAt}
-use Rattle.tables.specs.Records.{createQpCodec}
+use Rattle.wire.specs.Codec.{fieldsAt}
+use Rattle.tables.specs.Commands.{createQpCodec}
 use denote.Ref.{now}
 use borrow.Author.Tests.{eq-eqb, ne-eqb}
 use lib.ListN.{length}

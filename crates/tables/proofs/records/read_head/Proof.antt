@@ -1,6 +1,6 @@
 use mathlib.Core.Path.{sym, ap, _∙_}
 use denote.Ref.{now}
-use Rattle.tables.specs.Reading.{head-short, head-class, head-right}
+use Rattle.tables.proofs.ReadingLaws.{head-short, head-class, head-right}
 use Rattle.tables.specs.declared.HeadRead.the-variants as head
 use borrow.Author.Needs.{needs}
 use Rattle.tables.proofs.records.read_head.Statement.{statement}

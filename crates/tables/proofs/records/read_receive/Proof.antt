@@ -1,12 +1,17 @@
 use mathlib.Core.Logic.{inl, inr}
 use denote.Ref.{now}
 use mathlib.Core.Path.{refl, _∙_}
-use Rattle.wire.specs.Fields.{fieldsAt, within, clear, apart}
-use Rattle.tables.specs.Records.{sgeCodec}
-use Rattle.tables.specs.Reading.{receive-short, receive-many, receive-wrong, receive-right, receive-sge}
+use Rattle.wire.specs.Codec.{fieldsAt}
+use Rattle.tables.specs.Records.{sgeCodec, receiveCodec}
+use Rattle.tables.proofs.ReadingLaws.{receive-short, receive-many, receive-wrong, receive-right, receive-sge}
 use borrow.Author.Needs.{needs}
 use Rattle.tables.proofs.records.read_receive.Statement.{statement}
 use Rattle.tables.proofs.records.read_receive.Tie as tie
+use Rattle.tables.proofs.records.read_receive.Reads as reads
+use Rattle.tables.proofs.records.read_receive.Lts as lts
+use Rattle.tables.proofs.records.sge_at.Reads as sge-at-reads
+use Rattle.wire.proofs.get32.Reads as get32-reads
+use Rattle.wire.proofs.get64.Reads as get64-reads
 
 returns : tie.Need-returns
 returns c = receive-short (now (c .before .before .args .request)) (c .if1 .taken)
@@ -15,7 +20,7 @@ get32-requires : tie.Need-get32-requires
 get32-requires c κs = search needs
 
 returns-2 : tie.Need-returns-2
-unfolding fieldsAt within clear apart
+unfolding fieldsAt receiveCodec
 returns-2 c = let n = c .before .get32 in receive-many (now (c .before .before .before .before .args .request)) (n .result) (n .ensures) (c .before .before .if1 .left) (c .if2 .taken)
 
 cast-size : tie.Need-cast-size
@@ -28,7 +33,7 @@ add-size : tie.Need-add-size
 add-size c = search needs
 
 returns-3 : tie.Need-returns-3
-unfolding fieldsAt within clear apart
+unfolding fieldsAt receiveCodec
 returns-3 c =
     let n = c .before .before .get32 in
     receive-wrong (now (c .before .before .before .before .before .args .request)) (n .result) (n .ensures) (c .before .before .before .if1 .left) (c .before .if2 .left) (c .if3 .taken)
@@ -46,7 +51,7 @@ sge-at-requires-2 : tie.Need-sge-at-requires-2
 sge-at-requires-2 c κs = search needs
 
 returns-4 : tie.Need-returns-4
-unfolding sgeCodec fieldsAt within clear apart
+unfolding fieldsAt sgeCodec receiveCodec
 returns-4 c =
     let x = now (c .before .before .before .before .before .before .before .before .args .request) in
     let n = c .before .before .before .before .before .get32 in

@@ -1,6 +1,6 @@
 use denote.Ref.{now}
 use mathlib.Core.Path.{sym, _∙_}
-use Rattle.tables.specs.Reading.{send-short, send-refused, send-wrong, send-right}
+use Rattle.tables.proofs.ReadingLaws.{send-short, send-refused, send-wrong, send-right}
 use borrow.Author.Needs.{needs}
 use Rattle.tables.proofs.records.read_send.Statement.{statement}
 use Rattle.tables.proofs.records.read_send.Tie as tie

@@ -1,4 +1,4 @@
-use Rattle.wire.specs.Fields.{fieldsAt}
+use Rattle.wire.specs.Codec.{fieldsAt}
 use Rattle.tables.specs.Records.{sendCodec}
 use borrow.Author.Needs.{needs}
 use Rattle.tables.proofs.records.send_head.Statement.{statement}

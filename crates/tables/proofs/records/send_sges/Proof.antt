@@ -2,6 +2,9 @@ use Rattle.wire.specs.Rows.{rows, rowsFrom}
 use borrow.Author.Needs.{needs}
 use Rattle.tables.proofs.records.send_sges.Statement.{statement}
 use Rattle.tables.proofs.records.send_sges.Tie as tie
+use Rattle.tables.proofs.records.send_sges.Reads as reads
+use Rattle.tables.proofs.records.send_sges.Lts as lts
+use Rattle.tables.proofs.records.send_sge.Reads as send-sge-reads
 
 send-sge-requires : tie.Need-send-sge-requires
 send-sge-requires c κs = search needs
@@ -17,7 +20,7 @@ send-sge-requires-4 c κs = search needs
 
 returns : tie.Need-returns
 unfolding rows rowsFrom
-returns c = (cc)
+returns c = cc
 
 pub send-sges-spec : {M : Type 1} → statement M
 send-sges-spec =

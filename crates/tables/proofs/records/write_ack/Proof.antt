@@ -1,4 +1,4 @@
-use Rattle.wire.specs.Fields.{putFields}
+use Rattle.wire.specs.Codec.{putFields}
 use borrow.Author.Needs.{needs}
 use Rattle.tables.proofs.records.write_ack.Statement.{statement}
 use Rattle.tables.proofs.records.write_ack.Tie as tie

@@ -13,16 +13,16 @@ use Rattle.tables.proofs.reset.clear.Statement.{statement}
 use Rattle.tables.proofs.reset.clear.Tie as tie
 
 abbrev Inv-loop : tie.InvT-loop
-Inv-loop img₀ i₀ img i = (i ≤ length img) × (length img ≡ length img₀) × (img ≡ replicate i 0 ++ drop i img₀)
+Inv-loop state₀ i₀ state i = (i ≤ length state) × (length state ≡ length state₀) × (state ≡ replicate i 0 ++ drop i state₀)
 
 abbrev μ-loop : tie.MeasureT-loop
-μ-loop img₀ i₀ img i = length img₀ - i
+μ-loop state₀ i₀ state i = length state₀ - i
 
 loop-holds : tie.Need-loop-holds Inv-loop μ-loop
 loop-holds c = (search needs, refl, fill-none _ 0)
 
-slice-write-img : tie.Need-slice-write-img Inv-loop μ-loop
-slice-write-img c = search needs
+slice-write-state : tie.Need-slice-write-state Inv-loop μ-loop
+slice-write-state c = search needs
 
 add-i : tie.Need-add-i Inv-loop μ-loop
 add-i c = search needs
@@ -33,9 +33,9 @@ loop-less c = search needs
 loop-again : tie.Need-loop-again Inv-loop μ-loop
 loop-again c =
     let h = c .before .loop in
-    let d = now (c .before .before .args .img) in
-    let n : length (set (h .img) (h .i) 0) ≡ length (h .img) = length-set (h .img) (h .i) 0 in
-    let m : length (h .img) ≡ length d = h .inv .1 in
+    let d = now (c .before .before .args .state) in
+    let n : length (set (h .state) (h .i) 0) ≡ length (h .state) = length-set (h .state) (h .i) 0 in
+    let m : length (h .state) ≡ length d = h .inv .1 in
     (omega arith, n ∙ m, ap (λ (x : List ℕ). set x (h .i) 0) (h .inv .2) ∙ fill-more (h .i) 0 d (omega arith))
 
 same-length : tie.Need-same-length Inv-loop μ-loop
@@ -44,8 +44,8 @@ same-length c = search needs
 returns : tie.Need-returns Inv-loop μ-loop
 returns c =
     let h = c .before .loop in
-    let d = now (c .before .before .args .img) in
-    let m : length (h .img) ≡ length d = h .inv .1 in
+    let d = now (c .before .before .args .state) in
+    let m : length (h .state) ≡ length d = h .inv .1 in
     let e : h .i ≡ length d = omega arith in
     h .inv .2 ∙ rw (e, drop-length) (append-nil (replicate (length d) 0))
 
@@ -56,7 +56,7 @@ clear-spec =
     Inv-loop
     μ-loop
     loop-holds
-    slice-write-img
+    slice-write-state
     add-i
     loop-less
     loop-again

@@ -1,0 +1,56 @@
+-- A region dropped under a waiting receive, or under a remote key, along the list of calls: whatever calls stand between, the work request
+-- that touches it gets what the rules say, and no key of the slot comes back but by a registration that hands it out. Assumes nothing.
+use mathlib.Core.Path.{_≡_}
+use mathlib.Core.Bool.{Bool, true, false, not, _&&_, _||_}
+use mathlib.Core.List.{List, [], _∷_}
+use mathlib.Core.Option.{none, some}
+use Prim.Native.Nat.{ℕ, _/_, _<_}
+use lib.Dec.{eqb}
+use lib.ListN.{length, getD}
+use Rattle.tables.specs.Card.{Card}
+use Rattle.tables.specs.Commands.{Command, commandOf}
+use Rattle.rules.specs.Answer.{isDone}
+use Rattle.rules.specs.Call.{Call, memoryOf}
+use Rattle.rules.specs.declared.Answer.the-variants.{Done}
+use Rattle.rules.specs.Dropped.{Lost}
+use Rattle.judge.specs.Log.{Log, Note, KeyNote}
+use Rattle.judge.specs.Judge.{standing, Work, far, fitsReceive, nearPasses}
+use Rattle.judge.specs.Demand3.{noByte, Seen, Claim, work, Ran, Linked}
+
+-- the slot of the key k, which is k / 256, was dropped, and no registration since then handed the key out
+abbrev pub droppedBy : KeyNote → (k : ℕ) → Bool → Bool
+droppedBy (KeyNote.registered m lkey rkey g) k b = not (eqb lkey k || eqb rkey k) && b
+droppedBy (KeyNote.deregistered m) k b = eqb m (k / 256) || b
+
+unfoldable pub dropped : Log → (k : ℕ) → Bool
+dropped [] k = false
+dropped (Note.ofKey n ∷ l) k = droppedBy n k (dropped l k)
+dropped (Note.ofPair q n ∷ l) k = dropped l k
+dropped (Note.other ∷ l) k = dropped l k
+
+-- at each call of the list, such a key's registration does not stand
+abbrev pub Gone : Claim
+Gone st l x = (k : ℕ) → dropped l k ≡ true → standing l k ≡ none
+
+-- all tests before that of the peer's bytes pass, and byte i of them is named under a key whose registration does not stand
+pub record Stale (l : Log) (w : Work) (i : ℕ) : Type 0 where
+  pub near : nearPasses l w ≡ true
+  pub fits : fitsReceive l w ≡ true
+  pub within : i < length (far l w .bytes)
+  pub gone : standing l (getD (far l w .bytes) i noByte .key) ≡ none
+
+-- a work request then gets the status 7, its receiver 3, and the receive goes, or it gets the status 8; no byte is moved. c and c′ are the
+-- cards before and after it.
+abbrev pub Loses : (l : Log) → (c c′ : Card) → Work → (s : ℕ) → (m m′ : List ℕ) → Type 0
+Loses l c c′ w s m m′ = (i : ℕ) → Stale l w i → Lost c c′ (w .qpn) (w .request) (Done s) m m′
+
+abbrev pub Fruitless : (cardOf : List ℕ → Card) → Claim
+Fruitless cardOf st l x =
+    Ran (λ w s. Loses l (cardOf st) (cardOf (x .left .state)) w s (memoryOf (x .call)) (x .left .memory)) (work l x) (x .left .answer)
+
+-- a post send that was refused or held gets the same answer again when a region is dropped in between: it stays held
+unfoldable pub StaysHeld : (Made : (st : List ℕ) → Seen → Type 0) → Type 0
+StaysHeld Made =
+    (q n : ℕ) (s m k a st : List ℕ) (x y z : Seen) → Linked Made st (x ∷ y ∷ z ∷ []) →
+    x .call ≡ Call.send q s m → isDone (x .left .answer) ≡ false → y .call ≡ Call.control k a → commandOf k ≡ some (Command.deregister n) → z .call ≡ x .call →
+    z .left .answer ≡ x .left .answer

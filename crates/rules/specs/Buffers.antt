@@ -1,0 +1,23 @@
+-- What a call that is done leaves of its answer buffer: "On OK the ack byte and its data are written, later bytes stay"; a completion
+-- "fills the first 24 bytes". Assumes nothing.
+use mathlib.Core.Path.{_≡_}
+use mathlib.Core.List.{List, []}
+use Prim.Native.Nat.{ℕ, _+_, _*_, _≤_}
+use lib.ListN.{length, getD}
+use Rattle.tables.specs.Card.{Card}
+use Rattle.tables.specs.Commands.{commandOf}
+use Rattle.tables.specs.Records.{completionCodec}
+use Rattle.rules.specs.Call.{Call}
+use Rattle.rules.specs.Calls.{bufferAfter}
+use Rattle.rules.specs.Control.{commandAck}
+use Rattle.rules.specs.Lists.{maybe}
+
+-- the buffer b after a call that wrote its first n bytes into the buffer a
+pub record Wrote (n : ℕ) (a b : List ℕ) : Type 0 where
+  pub sized : length b ≡ length a
+  pub later : (j : ℕ) → n ≤ j → getD b j 0 ≡ getD a j 0
+
+pub record LaterStay : Type 0 where
+  -- the ack byte, and four bytes for each number of its data
+  pub control : (c : Card) (k a : List ℕ) → Wrote (1 + 4 * length (maybe [] (commandAck c) (commandOf k))) a (bufferAfter c (Call.control k a))
+  pub poll : (c : Card) (n : ℕ) (b : List ℕ) → Wrote (completionCodec .size) b (bufferAfter c (Call.poll n b))

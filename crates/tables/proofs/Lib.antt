@@ -1,0 +1,6 @@
+pub mod ReadingLaws
+pub mod KindLaws
+pub mod StoreLaws
+pub mod ObjectLaws
+pub mod ResetLaws
+pub mod Pins

@@ -1,0 +1,186 @@
+-- Document 01, "Control commands": "Class byte 6, command byte, data. The ack buffer". Each command's data by its layout, the command that
+-- a record is, and the acks. Laws: proofs/ReadingLaws.antt. Assumes nothing.
+use mathlib.Core.Path.{refl}
+use mathlib.Core.Bool.{cond, not}
+use mathlib.Core.Option.{Option, none, some}
+use mathlib.Core.List.{List, [], _∷_}
+use Prim.Native.Nat.{ℕ, _+_}
+use lib.Dec.{eqb, ltb}
+use lib.ListN.{length, getD}
+use Rattle.wire.specs.Checks.{Check, _if_, refusal}
+use Rattle.wire.specs.Codec.{Codec, Field, field, line, decode, within, clear, apart}
+use Rattle.wire.specs.Le.{leAt}
+use Rattle.tables.specs.declared.Ack.{Ack}
+use Rattle.tables.specs.declared.Ack.the-variants.{Error, Done, Number, Keys}
+use Rattle.tables.specs.declared.CreateQp.{CreateQp}
+use Rattle.tables.specs.declared.CreateQpRead.{CreateQpRead}
+use Rattle.tables.specs.declared.CreateQpRead.the-variants as create
+use Rattle.tables.specs.declared.HeadRead.{HeadRead}
+use Rattle.tables.specs.declared.HeadRead.the-variants as head
+use Rattle.tables.specs.declared.ModifyQp.{ModifyQp}
+use Rattle.tables.specs.declared.ModifyQpRead.{ModifyQpRead}
+use Rattle.tables.specs.declared.ModifyQpRead.the-variants as modify
+use Rattle.tables.specs.declared.NumberRead.{NumberRead}
+use Rattle.tables.specs.declared.NumberRead.the-variants as number
+use Rattle.tables.specs.declared.RegisterRead.{RegisterRead}
+use Rattle.tables.specs.declared.RegisterRead.the-variants as reg
+use Rattle.tables.specs.declared.Registration.{Registration}
+
+abbrev pub controlClass : ℕ
+controlClass = 6
+
+-- ---- data, which begins at byte 2
+
+-- one number of 32 bits: places, cqn, pdn, mrn or qpn
+unfoldable pub numberCodec : Codec ℕ
+unfolding within clear apart
+numberCodec = record { size = 4; lines = line 0 4 (λ n. n) ∷ []; make = λ vs. getD vs 0 0; ends = tt; clears = tt; back = λ n. refl }
+
+-- "7 register MR (house, 32 bytes): pdn, access, start 64, length 64, virt 64"
+unfoldable pub registerCodec : Codec Registration
+unfolding within clear apart
+registerCodec = record {
+  size = 32;
+  lines =
+      line 0 4 (λ r. r .pd) ∷
+      line 4 4 (λ r. r .access) ∷
+      line 8 8 (λ r. r .start) ∷
+      line 16 8 (λ r. r .length) ∷
+      line 24 8 (λ r. r .virt) ∷
+      [];
+  make = λ vs. record { pd = getD vs 0 0; access = getD vs 1 0; start = getD vs 2 0; length = getD vs 3 0; virt = getD vs 4 0 };
+  ends = tt;
+  clears = tt;
+  back = λ r. refl;
+}
+
+-- "9 create QP (house, 16 bytes): pdn, type u8, signal u8, 2 ignored, send cqn, receive cqn"
+unfoldable pub createQpCodec : Codec CreateQp
+unfolding within clear apart
+createQpCodec = record {
+  size = 16;
+  lines =
+      line 0 4 (λ r. r .pd) ∷
+      line 4 1 (λ r. r .kind) ∷
+      line 5 1 (λ r. r .signal) ∷
+      line 8 4 (λ r. r .scq) ∷
+      line 12 4 (λ r. r .rcq) ∷
+      [];
+  make = λ vs. record { pd = getD vs 0 0; kind = getD vs 1 0; signal = getD vs 2 0; scq = getD vs 3 0; rcq = getD vs 4 0 };
+  ends = tt;
+  clears = tt;
+  back = λ r. refl;
+}
+
+-- "10 modify QP (house, 16 bytes): qpn, mask, state u8, 3 zero bytes, destination qpn"
+unfoldable pub modifyQpCodec : Codec ModifyQp
+unfolding within clear apart
+modifyQpCodec = record {
+  size = 16;
+  lines =
+      line 0 4 (λ r. r .qpn) ∷
+      line 4 4 (λ r. r .mask) ∷
+      line 8 1 (λ r. r .state) ∷
+      line 9 1 (λ r. r .pad0) ∷
+      line 10 1 (λ r. r .pad1) ∷
+      line 11 1 (λ r. r .pad2) ∷
+      line 12 4 (λ r. r .dest) ∷
+      [];
+  make = λ vs. record {
+    qpn = getD vs 0 0;
+    mask = getD vs 1 0;
+    state = getD vs 2 0;
+    pad0 = getD vs 3 0;
+    pad1 = getD vs 4 0;
+    pad2 = getD vs 5 0;
+    dest = getD vs 6 0;
+  };
+  ends = tt;
+  clears = tt;
+  back = λ r. refl;
+}
+
+-- ---- commands
+
+-- a control command and its data, in the order of 01's table
+pub data Command : Type 0 where
+  createCq : (places : ℕ) → Command
+  destroyCq : (cqn : ℕ) → Command
+  createPd : Command
+  destroyPd : (pdn : ℕ) → Command
+  register : Registration → Command
+  deregister : (mrn : ℕ) → Command
+  createQp : CreateQp → Command
+  modifyQp : ModifyQp → Command
+  destroyQp : (qpn : ℕ) → Command
+
+-- "class byte, command byte, data": the command that a record is by its command byte; none for a number that is not in 01's table
+unfoldable pub commandOf : (k : List ℕ) → Option Command
+commandOf k =
+    let n : ℕ = leAt 1 k 1 in
+    let x : ℕ = decode numberCodec k 2 in
+    cond (eqb n 2) (some (createCq x))
+    (cond (eqb n 3) (some (destroyCq x))
+    (cond (eqb n 4) (some createPd)
+    (cond (eqb n 5) (some (destroyPd x))
+    (cond (eqb n 7) (some (register (decode registerCodec k 2)))
+    (cond (eqb n 8) (some (deregister x))
+    (cond (eqb n 9) (some (createQp (decode createQpCodec k 2)))
+    (cond (eqb n 10) (some (modifyQp (decode modifyQpCodec k 2)))
+    (cond (eqb n 12) (some (destroyQp x)) none))))))))
+
+-- the length of a command's data
+unfoldable pub dataSize : Command → ℕ
+dataSize (createCq n) = numberCodec .size
+dataSize (destroyCq n) = numberCodec .size
+dataSize createPd = 0
+dataSize (destroyPd n) = numberCodec .size
+dataSize (register g) = registerCodec .size
+dataSize (deregister n) = numberCodec .size
+dataSize (createQp r) = createQpCodec .size
+dataSize (modifyQp r) = modifyQpCodec .size
+dataSize (destroyQp q) = numberCodec .size
+
+-- ---- reading
+
+-- "fewer than two bytes 1; 13"
+abbrev pub headChecks : List ℕ → List Check
+headChecks k = 1 if ltb (length k) 2 ∷ 13 if not (eqb (leAt 1 k 0) controlClass) ∷ []
+
+abbrev pub headReadBy : Option ℕ → ℕ → HeadRead
+headReadBy none n = head.Number n
+headReadBy (some n) v = head.Refused n
+
+-- the class and the command byte
+abbrev pub headRead : List ℕ → HeadRead
+headRead k = headReadBy (refusal (headChecks k)) (leAt 1 k 1)
+
+-- "data length 1": the data is wrong where the command does not have its exact length
+abbrev pub numberRead : List ℕ → NumberRead
+numberRead k = cond (eqb (length k) (2 + numberCodec .size)) (number.Value (decode numberCodec k 2)) number.Wrong
+
+abbrev pub registerRead : List ℕ → RegisterRead
+registerRead k = cond (eqb (length k) (2 + registerCodec .size)) (reg.Value (decode registerCodec k 2)) reg.Wrong
+
+abbrev pub createQpRead : List ℕ → CreateQpRead
+createQpRead k = cond (eqb (length k) (2 + createQpCodec .size)) (create.Value (decode createQpCodec k 2)) create.Wrong
+
+abbrev pub modifyQpRead : List ℕ → ModifyQpRead
+modifyQpRead k = cond (eqb (length k) (2 + modifyQpCodec .size)) (modify.Value (decode modifyQpCodec k 2)) modify.Wrong
+
+-- ---- acks
+
+-- "ack 0 is OK, 1 is error": the ack byte, then up to three numbers. A writer stops where its values stop.
+abbrev pub ackFields : List Field
+ackFields = field 0 1 ∷ field 1 4 ∷ field 5 4 ∷ field 9 4 ∷ []
+
+-- "The ack buffer has at least 13 bytes"
+abbrev pub ackLeast : ℕ
+ackLeast = 13
+
+-- the values of an ack: the ack byte, then its numbers
+abbrev pub ackValues : Ack → List ℕ
+ackValues Error = 1 ∷ []
+ackValues Done = 0 ∷ []
+ackValues (Number n) = 0 ∷ n ∷ []
+ackValues (Keys n key) = 0 ∷ n ∷ key ∷ key ∷ []

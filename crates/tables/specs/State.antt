@@ -1,0 +1,117 @@
+-- What a state means: the card whose objects it lists. Past the end of a table nothing is live, and an object that is not live
+-- means the free object whatever else its rows hold, but for the variant of a region slot, which stays. Assumes nothing.
+use mathlib.Core.Bool.{Bool, true, false, cond}
+use mathlib.Core.List.{List, map}
+use mathlib.Core.Option.{Option, none, some}
+use Prim.Native.Nat.{ℕ, _+_, _*_}
+use lib.Dec.{eqb}
+use Rattle.wire.specs.Ring.{ringList}
+use Rattle.wire.specs.Rows.{rows}
+use Rattle.wire.specs.Slots.{slots}
+use Rattle.wire.specs.Table.{rowAt}
+use Rattle.tables.specs.Card.{Card, Cq, Mr, Qp, receiveOf, noRegistration, freeMr, freeQp, freeCq}
+use Rattle.tables.specs.Layout.{memoryT, pdFlagT, mrFlagT, mrT, cqFlagT, cqT, entryT, qpFlagT, qpT, waitingT, receiveT}
+use Rattle.tables.specs.Limits.{pdCount, cqCount, mrCount, qpCount, mostPlaces, mostWaiting}
+use Rattle.tables.specs.declared.Completion.{Completion}
+use Rattle.tables.specs.declared.QueueHead.{QueueHead}
+use Rattle.tables.specs.declared.QueuePair.{QueuePair}
+use Rattle.tables.specs.declared.ReceiveRecord.{ReceiveRecord}
+use Rattle.tables.specs.declared.Region.{Region}
+use Rattle.tables.specs.declared.Registration.{Registration}
+use Rattle.tables.specs.declared.WaitingHead.{WaitingHead}
+
+-- ---- the rows of one object
+
+-- a completion queue: its flag, its head, and the 16 places of its ring as they stand
+pub record QueueRows : Type 0 where
+  pub flag : ℕ
+  pub head : QueueHead
+  pub ring : List Completion
+
+pub record RegionRows : Type 0 where
+  pub flag : ℕ
+  pub row : Region
+
+-- a queue pair: its flag, its row, where its receives stand, and their 4 places as they stand
+pub record PairRows : Type 0 where
+  pub flag : ℕ
+  pub row : QueuePair
+  pub head : WaitingHead
+  pub ring : List ReceiveRecord
+
+unfoldable pub ringAt : List ℕ → ℕ → List Completion
+ringAt l n = rows mostPlaces (λ k. rowAt entryT l (mostPlaces * n + k))
+
+unfoldable pub receivesAt : List ℕ → ℕ → List ReceiveRecord
+receivesAt l n = rows mostWaiting (λ k. rowAt receiveT l (mostWaiting * n + k))
+
+unfoldable pub queueAt : List ℕ → ℕ → QueueRows
+queueAt l n = record { flag = rowAt cqFlagT l n; head = rowAt cqT l n; ring = ringAt l n }
+
+unfoldable pub regionAt : List ℕ → ℕ → RegionRows
+regionAt l n = record { flag = rowAt mrFlagT l n; row = rowAt mrT l n }
+
+unfoldable pub pairAt : List ℕ → ℕ → PairRows
+pairAt l n = record { flag = rowAt qpFlagT l n; row = rowAt qpT l n; head = rowAt waitingT l n; ring = receivesAt l n }
+
+-- ---- rows to objects
+
+abbrev pub isLive : ℕ → Bool
+isLive flag = eqb flag 1
+
+abbrev pub registrationOf : Region → Registration
+registrationOf r = record { pd = r .pd; access = r .access; start = r .start; length = r .length; virt = r .virt }
+
+unfoldable pub mrOf : RegionRows → Mr
+mrOf r =
+    record { live = isLive (r .flag); variant = r .row .variant; reg = cond (isLive (r .flag)) (registrationOf (r .row)) noRegistration }
+
+-- what stands at a place of no ring
+abbrev pub noCompletion : Completion
+noCompletion = record { wr = 0; status = 0; opcode = 0; length = 0; imm = 0; owner = 0 }
+
+abbrev pub noRecord : ReceiveRecord
+noRecord = record { wr = 0; count = 0; first = record { address = 0; length = 0; key = 0 }; second = record { address = 0; length = 0; key = 0 } }
+
+-- a completion queue's unread completions, and a queue pair's waiting receives: the ring from its first place on, the oldest first
+abbrev pub unread : QueueRows → List Completion
+unread r = ringList noCompletion mostPlaces (r .ring) (r .head .first) (r .head .count)
+
+abbrev pub posted : PairRows → List ReceiveRecord
+posted r = ringList noRecord mostWaiting (r .ring) (r .head .first) (r .head .count)
+
+unfoldable pub cqOf : QueueRows → Cq
+cqOf r = cond (isLive (r .flag)) (record { live = true; places = r .head .places; entries = unread r }) freeCq
+
+-- destination 8 is none
+abbrev pub destOf : ℕ → Option ℕ
+destOf d = cond (eqb d qpCount) none (some d)
+
+abbrev pub liveQp : PairRows → Qp
+liveQp r =
+    record {
+      live = true;
+      pd = r .row .pd;
+      signal = r .row .signal;
+      scq = r .row .scq;
+      rcq = r .row .rcq;
+      state = r .row .state;
+      dest = destOf (r .row .dest);
+      waiting = map receiveOf (posted r);
+    }
+
+unfoldable pub qpOf : PairRows → Qp
+qpOf r = cond (isLive (r .flag)) (liveQp r) freeQp
+
+-- ---- the card
+
+-- "An accepted state means the objects it lists."
+unfoldable pub card : List ℕ → Card
+card l =
+    record {
+      memory = rowAt memoryT l 0;
+      pd = slots pdCount false (λ n. isLive (rowAt pdFlagT l n));
+      cq = slots cqCount freeCq (λ n. cqOf (queueAt l n));
+      mr = slots mrCount (freeMr 0) (λ n. mrOf (regionAt l n));
+      qp = slots qpCount freeQp (λ n. qpOf (pairAt l n));
+    }

@@ -1,0 +1,198 @@
+-- What an accepted state shows of each number, and that this is all the test asks. Assumes nothing.
+use mathlib.Core.Path.{_≡_}
+use mathlib.Core.Bool.{Bool, true, _&&_, _||_}
+use mathlib.Core.List.{List}
+use Prim.Native.Nat.{ℕ, _+_, _≤_, _<_}
+use lib.ListN.{length}
+use lib.Dec.{eqb, ltb, leb}
+use borrow.Author.Tests.{eq-eqb, ne-eqb, eqb-true, ltb-true, leb-true, lt-ltb, le-leb}
+use Rattle.wire.specs.Scan.{all, allBelow}
+use Rattle.wire.specs.Table.{rowAt}
+use Rattle.wire.proofs.ScanLaws.{all-at, all-each, and-left, and-right, or-true}
+use Rattle.tables.specs.Layout.{stateSize, memoryT}
+use Rattle.tables.specs.Limits.{pdCount, cqCount, mrCount, qpCount, mostPlaces, mostWaiting, mostMemory, mostAddress, mostAccess}
+use Rattle.tables.specs.State.{QueueRows, RegionRows, PairRows, unread, posted}
+use Rattle.tables.specs.declared.QueueHead.{QueueHead}
+use Rattle.tables.specs.declared.Region.{Region}
+use Rattle.tables.specs.declared.WaitingHead.{WaitingHead}
+use Rattle.validate.specs.Accept.{accepts, memoryOk, completionOk, receiveOk, queueOk, regionOk, pairOk, namesOk, receivesOk, pdOk, cqSound, cqOk, mrSound, mrOk, qpSound, qpOk}
+
+pub record Accepted (l : List ℕ) : Type 0 where
+  pub sized : length l ≡ stateSize
+  pub memory : memoryOk (rowAt memoryT l 0) ≡ true
+  pub pds : (n : ℕ) → n < pdCount → pdOk l n ≡ true
+  pub cqs : (n : ℕ) → n < cqCount → cqOk l n ≡ true
+  pub mrs : (n : ℕ) → n < mrCount → mrOk l n ≡ true
+  pub qps : (n : ℕ) → n < qpCount → qpOk l n ≡ true
+
+module _ (l : List ℕ) where
+  pub accepted : accepts l ≡ true → Accepted l
+  unfolding accepts
+  accepted e =
+      let m : Bool = memoryOk (rowAt memoryT l 0) in
+      let p : Bool = allBelow pdCount (pdOk l) in
+      let c : Bool = allBelow cqCount (cqOk l) in
+      let r : Bool = allBelow mrCount (mrOk l) in
+      let q : Bool = allBelow qpCount (qpOk l) in
+      let e4 : (m && p && c && r && q) ≡ true = and-right (eqb (length l) stateSize) _ e in
+      let e3 : (m && p && c && r) ≡ true = and-left (m && p && c && r) q e4 in
+      let e2 : (m && p && c) ≡ true = and-left (m && p && c) r e3 in
+      let e1 : (m && p) ≡ true = and-left (m && p) c e2 in
+      record {
+        sized = eqb-true (length l) stateSize (and-left (eqb (length l) stateSize) _ e);
+        memory = and-left m p e1;
+        pds = λ n h. all-at pdCount (pdOk l) n h (and-right m p e1);
+        cqs = λ n h. all-at cqCount (cqOk l) n h (and-right (m && p) c e2);
+        mrs = λ n h. all-at mrCount (mrOk l) n h (and-right (m && p && c) r e3);
+        qps = λ n h. all-at qpCount (qpOk l) n h (and-right (m && p && c && r) q e4);
+      }
+
+  pub memory-most : Accepted l → rowAt memoryT l 0 ≤ mostMemory
+  memory-most ok =
+      leb-true (rowAt memoryT l 0) mostMemory (and-right (leb 1 (rowAt memoryT l 0)) (leb (rowAt memoryT l 0) mostMemory) (ok .memory))
+
+  pub accepting : Accepted l → accepts l ≡ true
+  unfolding accepts
+  accepting a =
+      rw (eq-eqb (length l) stateSize (a .sized), a .memory, all-each pdCount (pdOk l) (a .pds), all-each cqCount (cqOk l) (a .cqs), all-each mrCount (mrOk l) (a .mrs), all-each qpCount (qpOk l) (a .qps))
+
+-- ---- an object that is not free passes the rest of its test
+
+rest : (flag : ℕ) (b : Bool) → (eqb flag 0 || (eqb flag 1 && b)) ≡ true → (flag ≡ 0 → ⊥) → (flag ≡ 1) × (b ≡ true)
+rest flag b e live =
+    let f : (eqb flag 1 && b) ≡ true = rw (ne-eqb flag 0 live) at e in
+    (eqb-true flag 1 (and-left (eqb flag 1) b f), and-right (eqb flag 1) b f)
+
+resting : (flag : ℕ) (b : Bool) → flag ≡ 1 → b ≡ true → (eqb flag 0 || (eqb flag 1 && b)) ≡ true
+resting flag b e f = rw (e, f)
+
+-- ---- what a live object shows, by name
+
+-- a completion queue
+pub record Queued (r : QueueRows) : Type 0 where
+  pub live : r .flag ≡ 1
+  pub least : 1 ≤ r .head .places
+  pub most : r .head .places ≤ mostPlaces
+  pub first : r .head .first < mostPlaces
+  pub count : r .head .count ≤ r .head .places
+  pub entries : all completionOk (unread r) ≡ true
+
+module _ (r : QueueRows) where
+  abbrev h : QueueHead
+  h = r .head
+
+  pub queued : cqSound r ≡ true → (r .flag ≡ 0 → ⊥) → Queued r
+  queued e live =
+      let a : Bool = leb 1 (h .places) in
+      let b : Bool = leb (h .places) mostPlaces in
+      let c : Bool = ltb (h .first) mostPlaces in
+      let d : Bool = leb (h .count) (h .places) in
+      let w : Bool = all completionOk (unread r) in
+      let f = rest (r .flag) (a && b && c && d && w) e live in
+      let e3 : (a && b && c && d) ≡ true = and-left (a && b && c && d) w (f .1) in
+      let e2 : (a && b && c) ≡ true = and-left (a && b && c) d e3 in
+      let e1 : (a && b) ≡ true = and-left (a && b) c e2 in
+      record {
+        live = f .0;
+        least = leb-true _ _ (and-left a b e1);
+        most = leb-true _ _ (and-right a b e1);
+        first = ltb-true _ _ (and-right (a && b) c e2);
+        count = leb-true _ _ (and-right (a && b && c) d e3);
+        entries = and-right (a && b && c && d) w (f .1);
+      }
+
+  pub queueing : Queued r → cqSound r ≡ true
+  queueing q =
+      resting (r .flag) (queueOk h && all completionOk (unread r)) (q .live)
+      (rw (le-leb 1 (h .places) (q .least), le-leb (h .places) mostPlaces (q .most), lt-ltb (h .first) mostPlaces (q .first), le-leb (h .count) (h .places) (q .count), q .entries))
+
+-- a region
+pub record Registered (pd : ℕ → Bool) (memory : ℕ) (r : RegionRows) : Type 0 where
+  pub live : r .flag ≡ 1
+  pub domain : pd (r .row .pd) ≡ true
+  pub limits : regionOk memory (r .row) ≡ true
+
+module _ (pd : ℕ → Bool) (memory : ℕ) (r : RegionRows) where
+  pub registered : mrSound pd memory r ≡ true → (r .flag ≡ 0 → ⊥) → Registered pd memory r
+  registered e live =
+      let a : Bool = eqb (r .flag) 1 in
+      let b : Bool = pd (r .row .pd) in
+      let w : Bool = regionOk memory (r .row) in
+      let f : (a && b && w) ≡ true = rw (ne-eqb (r .flag) 0 live) at e in
+      let g : (a && b) ≡ true = and-left (a && b) w f in
+      record { live = eqb-true (r .flag) 1 (and-left a b g); domain = and-right a b g; limits = and-right (a && b) w f }
+
+  pub registering : Registered pd memory r → mrSound pd memory r ≡ true
+  registering q = rw (eq-eqb (r .flag) 1 (q .live), q .domain, q .limits) (or-true (eqb (r .flag) 0))
+
+-- the region's range, as whole numbers
+pub record Ranged (memory : ℕ) (r : Region) : Type 0 where
+  pub access : r .access ≤ mostAccess
+  pub variant : 1 ≤ r .variant
+  pub size : 1 ≤ r .length
+  pub inside : r .start + r .length ≤ memory
+  pub space : r .virt + r .length ≤ mostAddress
+
+pub ranged : (memory : ℕ) (r : Region) → regionOk memory r ≡ true → Ranged memory r
+ranged memory r e =
+    let a : Bool = leb (r .access) mostAccess in
+    let b : Bool = leb 1 (r .variant) in
+    let c : Bool = leb 1 (r .length) in
+    let d : Bool = leb (r .start + r .length) memory in
+    let f : Bool = leb (r .virt + r .length) mostAddress in
+    let e3 : (a && b && c && d) ≡ true = and-left (a && b && c && d) f e in
+    let e2 : (a && b && c) ≡ true = and-left (a && b && c) d e3 in
+    let e1 : (a && b) ≡ true = and-left (a && b) c e2 in
+    record {
+      access = leb-true (r .access) mostAccess (and-left a b e1);
+      variant = leb-true 1 (r .variant) (and-right a b e1);
+      size = leb-true 1 (r .length) (and-right (a && b) c e2);
+      inside = leb-true (r .start + r .length) memory (and-right (a && b && c) d e3);
+      space = leb-true (r .virt + r .length) mostAddress (and-right (a && b && c && d) f e);
+    }
+
+-- a queue pair
+pub record Paired (pd cq : ℕ → Bool) (n : ℕ) (r : PairRows) : Type 0 where
+  pub live : r .flag ≡ 1
+  pub domain : pd (r .row .pd) ≡ true
+  pub sends : cq (r .row .scq) ≡ true
+  pub receives : cq (r .row .rcq) ≡ true
+  pub limits : pairOk n (r .row) ≡ true
+  pub first : r .head .first < mostWaiting
+  pub count : r .head .count ≤ mostWaiting
+  pub waiting : all receiveOk (posted r) ≡ true
+
+module _ (pd cq : ℕ → Bool) (n : ℕ) (r : PairRows) where
+  abbrev w : WaitingHead
+  w = r .head
+
+  pub paired : qpSound pd cq n r ≡ true → (r .flag ≡ 0 → ⊥) → Paired pd cq n r
+  paired e live =
+      let a : Bool = pd (r .row .pd) in
+      let b : Bool = cq (r .row .scq) in
+      let c : Bool = cq (r .row .rcq) in
+      let d : Bool = pairOk n (r .row) in
+      let g : Bool = ltb (w .first) mostWaiting in
+      let k : Bool = leb (w .count) mostWaiting in
+      let x : Bool = all receiveOk (posted r) in
+      let f = rest (r .flag) (a && b && c && d && (g && k && x)) e live in
+      let e3 : (a && b && c && d) ≡ true = and-left (a && b && c && d) (g && k && x) (f .1) in
+      let e2 : (a && b && c) ≡ true = and-left (a && b && c) d e3 in
+      let e1 : (a && b) ≡ true = and-left (a && b) c e2 in
+      let z : (g && k && x) ≡ true = and-right (a && b && c && d) (g && k && x) (f .1) in
+      let y : (g && k) ≡ true = and-left (g && k) x z in
+      record {
+        live = f .0;
+        domain = and-left a b e1;
+        sends = and-right a b e1;
+        receives = and-right (a && b) c e2;
+        limits = and-right (a && b && c) d e3;
+        first = ltb-true (w .first) mostWaiting (and-left g k y);
+        count = leb-true (w .count) mostWaiting (and-right g k y);
+        waiting = and-right (g && k) x z;
+      }
+
+  pub pairing : Paired pd cq n r → qpSound pd cq n r ≡ true
+  pairing q =
+      resting (r .flag) (namesOk pd cq (r .row) && pairOk n (r .row) && receivesOk r) (q .live)
+      (rw (q .domain, q .sends, q .receives, q .limits, lt-ltb (w .first) mostWaiting (q .first), le-leb (w .count) mostWaiting (q .count), q .waiting))

@@ -1,0 +1,104 @@
+-- The ways in which each object's test ends, for the code that makes it. Assumes nothing.
+use mathlib.Core.Path.{_≡_, _∙_}
+use mathlib.Core.Bool.{Bool, true, false, _&&_, _||_}
+use mathlib.Core.List.{List}
+use Prim.Native.Nat.{ℕ, _+_, _*_, _≤_, _<_}
+use native.Mathlib.Nat.{mul-one, add-zero}
+use native.Mathlib.Omega.{arith}
+use lib.Dec.{eqb, ltb, leb}
+use borrow.Author.Tests.{eq-eqb, ne-eqb, ltb-true, lt-ltb, le-ltb, lt-leb, le-leb}
+use Rattle.wire.specs.Codec.{fieldsAt}
+use Rattle.wire.specs.Le.{leAt}
+use Rattle.wire.specs.Scan.{all, allBelow}
+use Rattle.wire.specs.Table.{rowAt, place}
+use Rattle.wire.proofs.LeLaws.{zero-word}
+use Rattle.wire.proofs.ScanLaws.{all-at, block-more, and-left, and-right}
+use Rattle.tables.specs.Card.{cqLive}
+use Rattle.tables.specs.Layout.{memoryT, mrFlagT, mrFlagBase, mrT, cqFlagT, cqT, qpFlagT, qpT, flagCodec}
+use Rattle.tables.specs.Limits.{mostPlaces, mostWaiting}
+use Rattle.tables.specs.State.{PairRows, card, queueAt, regionAt, pairAt, unread, posted}
+use Rattle.tables.specs.declared.QueueHead.{QueueHead}
+use Rattle.validate.specs.Accept.{cqOk, mrOk, qpOk, completionOk, receiveOk, queueOk, regionOk, pairOk, namesOk, receivesOk}
+
+-- a flag, and the rest of the test
+module _ (flag : ℕ) (b : Bool) where
+  flag-free : flag ≡ 0 → (eqb flag 0 || (eqb flag 1 && b)) ≡ true
+  flag-free e = rw e
+
+  flag-wrong : (flag ≡ 0 → ⊥) → (flag ≡ 1 → ⊥) → (eqb flag 0 || (eqb flag 1 && b)) ≡ false
+  flag-wrong e f = rw (ne-eqb flag 0 e, ne-eqb flag 1 f)
+
+  flag-live : flag ≡ 1 → (eqb flag 0 || (eqb flag 1 && b)) ≡ b
+  flag-live e = rw e
+
+module _ (l : List ℕ) (n : ℕ) where
+  pub cq-off : rowAt cqFlagT l n ≡ 0 → cqOk l n ≡ true
+  unfolding cqOk queueAt
+  cq-off e = flag-free (rowAt cqFlagT l n) _ e
+
+  pub cq-flag : (rowAt cqFlagT l n ≡ 0 → ⊥) → (rowAt cqFlagT l n ≡ 1 → ⊥) → cqOk l n ≡ false
+  unfolding cqOk queueAt
+  cq-flag e f = flag-wrong (rowAt cqFlagT l n) _ e f
+
+  pub cq-rest : rowAt cqFlagT l n ≡ 1 → cqOk l n ≡ (queueOk (rowAt cqT l n) && all completionOk (unread (queueAt l n)))
+  unfolding cqOk queueAt
+  cq-rest e = flag-live (rowAt cqFlagT l n) _ e
+
+  pub mr-off : rowAt mrFlagT l n ≡ 0 → mrOk l n ≡ true
+  unfolding mrOk regionAt
+  mr-off e = rw (eq-eqb (rowAt mrFlagT l n) 0 e)
+
+  pub mr-rest : (rowAt mrFlagT l n ≡ 0 → ⊥)
+      → mrOk l n ≡ (eqb (rowAt mrFlagT l n) 1 && card l .pd (rowAt mrT l n .pd) && regionOk (rowAt memoryT l 0) (rowAt mrT l n))
+  unfolding mrOk regionAt
+  mr-rest e = rw (ne-eqb (rowAt mrFlagT l n) 0 e)
+
+  pub qp-off : rowAt qpFlagT l n ≡ 0 → qpOk l n ≡ true
+  unfolding qpOk pairAt
+  qp-off e = flag-free (rowAt qpFlagT l n) _ e
+
+  pub qp-flag : (rowAt qpFlagT l n ≡ 0 → ⊥) → (rowAt qpFlagT l n ≡ 1 → ⊥) → qpOk l n ≡ false
+  unfolding qpOk pairAt
+  qp-flag e f = flag-wrong (rowAt qpFlagT l n) _ e f
+
+  -- the tests of a live queue pair: what it names, its own fields, its receives
+  pub qp-rest : rowAt qpFlagT l n ≡ 1
+      → qpOk l n ≡ (namesOk (card l .pd) (cqLive (card l)) (rowAt qpT l n) && pairOk n (rowAt qpT l n) && receivesOk (pairAt l n))
+  unfolding qpOk pairAt
+  qp-rest e = flag-live (rowAt qpFlagT l n) _ e
+
+-- where a sound queue's oldest completion stands
+pub head-first : (h : QueueHead) → queueOk h ≡ true → h .first < mostPlaces
+head-first h e =
+    let a : Bool = leb 1 (h .places) && leb (h .places) mostPlaces in
+    let b : Bool = ltb (h .first) mostPlaces in
+    ltb-true (h .first) mostPlaces (and-right a b (and-left (a && b) (leb (h .count) (h .places)) e))
+
+module _ (r : PairRows) where
+  pub waiting-first : mostWaiting ≤ r .head .first → receivesOk r ≡ false
+  waiting-first b = rw (le-ltb (r .head .first) mostWaiting b)
+
+  pub waiting-count : r .head .first < mostWaiting → mostWaiting < r .head .count → receivesOk r ≡ false
+  waiting-count b d = rw (lt-ltb (r .head .first) mostWaiting b, lt-leb (r .head .count) mostWaiting d)
+
+  pub waiting-rest : r .head .first < mostWaiting → r .head .count ≤ mostWaiting → receivesOk r ≡ all receiveOk (posted r)
+  waiting-rest b d = rw (lt-ltb (r .head .first) mostWaiting b, le-leb (r .head .count) mostWaiting d)
+
+-- eight slots more: their flags are one zero word, or each was tested
+module _ (l : List ℕ) (g : ℕ) (before : allBelow (8 * g) (mrOk l) ≡ true) where
+  flag-is : (n : ℕ) → rowAt mrFlagT l n ≡ leAt 1 l (mrFlagBase + n)
+  unfolding rowAt mrFlagT flagCodec fieldsAt place
+  flag-is n = rw (mul-one, add-zero)
+
+  pub eight-free : leAt 8 l (mrFlagBase + 8 * g) ≡ 0 → allBelow (8 * (g + 1)) (mrOk l) ≡ true
+  eight-free e =
+      let z : 8 * (g + 1) ≡ 8 * g + 8 = omega arith in
+      rw z
+      (block-more (mrOk l) (8 * g) 8 before
+      (λ i h. mr-off l (8 * g + i)
+      (let a : mrFlagBase + (8 * g + i) ≡ mrFlagBase + 8 * g + i = omega arith in flag-is (8 * g + i) ∙ rw a (zero-word 8 l (mrFlagBase + 8 * g) e i h))))
+
+  pub eight-tested : allBelow 8 (λ i. mrOk l (8 * g + i)) ≡ true → allBelow (8 * (g + 1)) (mrOk l) ≡ true
+  eight-tested e =
+      let z : 8 * (g + 1) ≡ 8 * g + 8 = omega arith in
+      rw z (block-more (mrOk l) (8 * g) 8 before (λ i h. all-at 8 (λ i. mrOk l (8 * g + i)) i h e))

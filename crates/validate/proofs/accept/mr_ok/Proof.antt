@@ -1,0 +1,69 @@
+use borrow.Author.Tests.{eq-eqb, ne-eqb, not-true, not-false}
+use mathlib.Core.Path.{_≡_, sym, _∙_}
+use mathlib.Core.Bool.{true, false}
+use denote.Ref.{now}
+use Rattle.wire.specs.Table.{rowAt}
+use Rattle.tables.specs.Layout.{mrFlagT, mrT}
+use Rattle.tables.specs.State.{card}
+use Rattle.validate.proofs.TestLaws.{mr-off, mr-rest}
+use borrow.Author.Needs.{needs}
+use Rattle.validate.proofs.accept.mr_ok.Statement.{statement}
+use Rattle.validate.proofs.accept.mr_ok.Tie as tie
+
+load-mr-flag-requires : tie.Need-load-mr-flag-requires
+load-mr-flag-requires c κs = search needs
+
+returns : tie.Need-returns
+returns c = let a = c .before .before .before .args in let e : rowAt mrFlagT (now (a .state)) (a .n) ≡ 0 = (cc) in sym (mr-off (now (a .state)) (a .n) e)
+
+returns-2 : tie.Need-returns-2
+returns-2 c =
+    let a = c .before .before .before .before .args in
+    let q = c .before .before .load-mr-flag .ensures in
+    let e : rowAt mrFlagT (now (a .state)) (a .n) ≡ 0 → ⊥ = rw q at (c .before .if1 .left) in
+    let f : rowAt mrFlagT (now (a .state)) (a .n) ≡ 1 → ⊥ = rw q at (c .if2 .taken) in
+    rw (mr-rest (now (a .state)) (a .n) e, ne-eqb (rowAt mrFlagT (now (a .state)) (a .n)) 1 f)
+
+load-mr-requires : tie.Need-load-mr-requires
+load-mr-requires c κs = search needs
+
+cast-pd-live : tie.Need-cast-pd-live
+cast-pd-live c = search needs
+
+pd-live-requires : tie.Need-pd-live-requires
+pd-live-requires c κs = search needs
+
+returns-3 : tie.Need-returns-3
+returns-3 c =
+    let a = c .before .before .before .before .before .before .before .before .args in
+    let q = c .before .before .before .before .before .before .load-mr-flag .ensures in
+    let e : rowAt mrFlagT (now (a .state)) (a .n) ≡ 0 → ⊥ = rw q at (c .before .before .before .before .before .if1 .left) in
+    let f : rowAt mrFlagT (now (a .state)) (a .n) ≡ 1 = (cc) in
+    let d : card (now (a .state)) .pd (rowAt mrT (now (a .state)) (a .n) .pd) ≡ false = rw (← c .before .before .before .load-mr .ensures) (sym (c .before .pd-live .ensures) ∙ not-true _ (c .if3 .taken)) in
+    rw (mr-rest (now (a .state)) (a .n) e, eq-eqb (rowAt mrFlagT (now (a .state)) (a .n)) 1 f, d)
+
+region-ok-requires : tie.Need-region-ok-requires
+region-ok-requires c κs = search needs
+
+returns-4 : tie.Need-returns-4
+returns-4 c =
+    let a = c .before .before .before .before .before .before .before .before .before .args in
+    let q = c .before .before .before .before .before .before .before .load-mr-flag .ensures in
+    let e : rowAt mrFlagT (now (a .state)) (a .n) ≡ 0 → ⊥ = rw q at (c .before .before .before .before .before .before .if1 .left) in
+    let f : rowAt mrFlagT (now (a .state)) (a .n) ≡ 1 = (cc) in
+    let d : card (now (a .state)) .pd (rowAt mrT (now (a .state)) (a .n) .pd) ≡ true = rw (← c .before .before .before .before .load-mr .ensures) (sym (c .before .before .pd-live .ensures) ∙ not-false _ (c .before .if3 .left)) in
+    rw (mr-rest (now (a .state)) (a .n) e, eq-eqb (rowAt mrFlagT (now (a .state)) (a .n)) 1 f, d) (cc)
+
+pub mr-ok-spec : {M : Type 1} → statement M
+mr-ok-spec =
+    tie.close
+    (tie.spec
+    load-mr-flag-requires
+    returns
+    returns-2
+    load-mr-requires
+    cast-pd-live
+    pd-live-requires
+    returns-3
+    region-ok-requires
+    returns-4)

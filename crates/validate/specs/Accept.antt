@@ -1,0 +1,100 @@
+-- The state test, document 01: "15 exactly if its length is wrong, a stored number, count, QP state, access or region range is outside
+-- this paper's limits (so is a QP that names itself as destination), or a live object names a PD or CQ that isn't live."
+-- What is not live is not looked at. Executable. Assumes nothing.
+use mathlib.Core.Bool.{Bool, not, _&&_, _||_}
+use mathlib.Core.List.{List}
+use Prim.Native.Nat.{ℕ, _+_}
+use lib.ListN.{length}
+use lib.Dec.{eqb, ltb, leb}
+use Rattle.wire.specs.Scan.{all, allBelow}
+use Rattle.wire.specs.Table.{rowAt}
+use Rattle.tables.specs.Card.{cqLive}
+use Rattle.tables.specs.State.{QueueRows, RegionRows, PairRows, queueAt, regionAt, pairAt, unread, posted, card}
+use Rattle.tables.specs.Layout.{stateSize, memoryT, pdFlagT}
+use Rattle.tables.specs.Limits.{pdCount, cqCount, mrCount, qpCount, mostPlaces, mostWaiting, mostMemory, mostAddress, mostAccess, mostMessage, mostReceiveSges}
+use Rattle.tables.specs.declared.Completion.{Completion}
+use Rattle.tables.specs.declared.QueueHead.{QueueHead}
+use Rattle.tables.specs.declared.QueuePair.{QueuePair}
+use Rattle.tables.specs.declared.ReceiveRecord.{ReceiveRecord}
+use Rattle.tables.specs.declared.Region.{Region}
+use Rattle.tables.specs.declared.WaitingHead.{WaitingHead}
+
+-- "1 to 1,048,576"
+abbrev pub memoryOk : ℕ → Bool
+memoryOk n = leb 1 n && leb n mostMemory
+
+abbrev pub flagOk : ℕ → Bool
+flagOk f = leb f 1
+
+-- "Statuses: 0 success, 1 local length, 3 local protection, 4 flushed, 7 remote invalid request, 8 remote access."
+abbrev pub isStatus : ℕ → Bool
+isStatus s = leb s 1 || eqb s 3 || eqb s 4 || eqb s 7 || eqb s 8
+
+-- "States 0 reset, 1 init, 2 ready to receive (RTR), 3 ready to send (RTS), 6 error."
+abbrev pub isState : ℕ → Bool
+isState s = leb s 3 || eqb s 6
+
+-- an unread completion
+abbrev pub completionOk : Completion → Bool
+completionOk e = isStatus (e .status) && leb (e .opcode) 4 && leb (e .length) mostMessage && ltb (e .owner) qpCount
+
+-- a live completion queue: "of 1 to 16 places"
+abbrev pub queueOk : QueueHead → Bool
+queueOk h = leb 1 (h .places) && leb (h .places) mostPlaces && ltb (h .first) mostPlaces && leb (h .count) (h .places)
+
+-- a live region: its access, its variant, its range in the memory and in the addresses
+abbrev pub regionOk : ℕ → Region → Bool
+regionOk memory r =
+    leb (r .access) mostAccess && leb 1 (r .variant) && leb 1 (r .length) && leb (r .start + r .length) memory && leb (r .virt + r .length) mostAddress
+
+-- a live queue pair n: "QP state", and "(so is a QP that names itself as destination)"
+abbrev pub pairOk : ℕ → QueuePair → Bool
+pairOk n p = leb (p .signal) 1 && isState (p .state) && leb (p .dest) qpCount && not (eqb (p .dest) n)
+
+-- "each with up to 4 waiting receives"
+abbrev pub waitingOk : WaitingHead → Bool
+waitingOk h = ltb (h .first) mostWaiting && leb (h .count) mostWaiting
+
+-- "at most two" pieces
+abbrev pub receiveOk : ReceiveRecord → Bool
+receiveOk r = leb (r .count) mostReceiveSges
+
+-- ---- the object numbered n of each table: free, or within its limits and naming live objects only; a flag is 0 or 1
+
+unfoldable pub pdOk : List ℕ → ℕ → Bool
+pdOk l n = flagOk (rowAt pdFlagT l n)
+
+abbrev pub cqSound : QueueRows → Bool
+cqSound r = eqb (r .flag) 0 || (eqb (r .flag) 1 && (queueOk (r .head) && all completionOk (unread r)))
+
+unfoldable pub cqOk : List ℕ → ℕ → Bool
+cqOk l n = cqSound (queueAt l n)
+
+-- pd tells the live domains
+abbrev pub mrSound : (pd : ℕ → Bool) → (memory : ℕ) → RegionRows → Bool
+mrSound pd memory r = eqb (r .flag) 0 || (eqb (r .flag) 1 && pd (r .row .pd) && regionOk memory (r .row))
+
+unfoldable pub mrOk : List ℕ → ℕ → Bool
+mrOk l n = mrSound (card l .pd) (rowAt memoryT l 0) (regionAt l n)
+
+-- the domain and the completion queues that a queue pair names, where pd and cq tell the live ones
+abbrev pub namesOk : (pd cq : ℕ → Bool) → QueuePair → Bool
+namesOk pd cq p = pd (p .pd) && cq (p .scq) && cq (p .rcq)
+
+-- its waiting receives
+abbrev pub receivesOk : PairRows → Bool
+receivesOk r = waitingOk (r .head) && all receiveOk (posted r)
+
+abbrev pub qpSound : (pd cq : ℕ → Bool) → ℕ → PairRows → Bool
+qpSound pd cq n r = eqb (r .flag) 0 || (eqb (r .flag) 1 && (namesOk pd cq (r .row) && pairOk n (r .row) && receivesOk r))
+
+unfoldable pub qpOk : List ℕ → ℕ → Bool
+qpOk l n = qpSound (card l .pd) (cqLive (card l)) n (pairAt l n)
+
+-- ---- the test
+
+unfoldable pub accepts : List ℕ → Bool
+accepts l =
+    eqb (length l) stateSize
+    && (memoryOk (rowAt memoryT l 0) && allBelow pdCount (pdOk l) && allBelow cqCount (cqOk l) && allBelow mrCount (mrOk l)
+    && allBelow qpCount (qpOk l))

@@ -1,0 +1,3 @@
+// The state test of answer 15, and look-ups in the tables.
+pub mod accept;
+pub mod find;

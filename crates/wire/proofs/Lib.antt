@@ -1,0 +1,11 @@
+pub mod LeLaws
+pub mod CodecLaws
+pub mod ScanLaws
+pub mod RowLaws
+pub mod RingLaws
+pub mod SlotLaws
+pub mod CheckLaws
+pub mod CopyLaws
+pub mod TableLaws
+pub mod PartLaws
+pub mod WordLaws

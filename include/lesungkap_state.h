@@ -1,0 +1,212 @@
+/* What a lent state holds, read without a call, so that a monitor keeps no copy of its own. Included by lesungkap.h. docs/STATE.md has the
+ * layout in words.
+ *
+ *   unsigned lesungkap_peek_X(const uint8_t *state, size_t state_len, uint32_t number, .., struct lesungkap_X *x)
+ *       reads object `number` into x and returns LESUNGKAP_DONE; else x stays as it was, and the answer is LESUNGKAP_BAD_STATE where
+ *       state_len isn't LESUNGKAP_STATE_BYTES, LESUNGKAP_NOT_LIVE where there is no such object, LESUNGKAP_NOTHING where a ring has no
+ *       entry of this index.
+ *
+ * A peek writes nothing but x, and never reads outside the state. It makes no test of the content: what it says is true of a state that
+ * a call has left.
+ */
+#ifndef LESUNGKAP_STATE_H
+#define LESUNGKAP_STATE_H
+
+#include "lesungkap_records.h"
+
+#ifdef __cplusplus
+extern "C" {
+#endif
+
+/* The layout: a row of each table, where each table begins, where its live bytes stand and how far apart (not 0: live), and the fields of
+ * a row. Nothing below this block knows an offset. */
+enum {
+    LESUNGKAP_STATE_CQ_ROW = 4,
+    LESUNGKAP_STATE_QP_ROW = 8,
+    LESUNGKAP_STATE_WAITING_ROW = 2,
+    LESUNGKAP_STATE_MR_ROW = 32,
+    LESUNGKAP_STATE_RECEIVE_ROW = LESUNGKAP_RECEIVE_MOST_BYTES,  /* a receive record */
+    LESUNGKAP_STATE_COMPLETION_ROW = LESUNGKAP_COMPLETION_BYTES, /* a completion */
+
+    LESUNGKAP_STATE_MEMORY_AT = 0,
+    LESUNGKAP_STATE_PD_LIVE_AT = 16,
+    LESUNGKAP_STATE_MR_LIVE_AT = LESUNGKAP_STATE_PD_LIVE_AT + LESUNGKAP_PD_COUNT,
+    LESUNGKAP_STATE_CQS_AT = LESUNGKAP_STATE_MR_LIVE_AT + LESUNGKAP_MR_COUNT,
+    LESUNGKAP_STATE_QPS_AT = LESUNGKAP_STATE_CQS_AT + LESUNGKAP_CQ_COUNT * LESUNGKAP_STATE_CQ_ROW,
+    LESUNGKAP_STATE_WAITING_AT = LESUNGKAP_STATE_QPS_AT + LESUNGKAP_QP_COUNT * LESUNGKAP_STATE_QP_ROW,
+    LESUNGKAP_STATE_MRS_AT = LESUNGKAP_STATE_WAITING_AT + LESUNGKAP_QP_COUNT * LESUNGKAP_STATE_WAITING_ROW,
+    LESUNGKAP_STATE_RECEIVES_AT = LESUNGKAP_STATE_MRS_AT + LESUNGKAP_MR_COUNT * LESUNGKAP_STATE_MR_ROW,
+    LESUNGKAP_STATE_COMPLETIONS_AT =
+        LESUNGKAP_STATE_RECEIVES_AT + LESUNGKAP_QP_COUNT * LESUNGKAP_QP_MOST_RECEIVES * LESUNGKAP_STATE_RECEIVE_ROW,
+    LESUNGKAP_STATE_BYTES =
+        LESUNGKAP_STATE_COMPLETIONS_AT + LESUNGKAP_CQ_COUNT * LESUNGKAP_CQ_MOST_PLACES * LESUNGKAP_STATE_COMPLETION_ROW,
+
+    LESUNGKAP_STATE_CQ_LIVE_AT = LESUNGKAP_STATE_CQS_AT, /* the places: a queue with none is not live */
+    LESUNGKAP_STATE_QP_LIVE_AT = LESUNGKAP_STATE_QPS_AT,
+    LESUNGKAP_STATE_PD_LIVE_STEP = 1,
+    LESUNGKAP_STATE_CQ_LIVE_STEP = LESUNGKAP_STATE_CQ_ROW,
+    LESUNGKAP_STATE_MR_LIVE_STEP = 1,
+    LESUNGKAP_STATE_QP_LIVE_STEP = LESUNGKAP_STATE_QP_ROW,
+
+    LESUNGKAP_STATE_CQ_PLACES_AT = 0,
+    LESUNGKAP_STATE_CQ_FIRST_AT = 1,
+    LESUNGKAP_STATE_CQ_UNREAD_AT = 2,
+    LESUNGKAP_STATE_MR_ACCESS_AT = 0,
+    LESUNGKAP_STATE_MR_VARIANT_AT = 1,
+    LESUNGKAP_STATE_MR_PDN_AT = 2,
+    LESUNGKAP_STATE_MR_START_AT = 8,
+    LESUNGKAP_STATE_MR_LENGTH_AT = 16,
+    LESUNGKAP_STATE_MR_VIRT_AT = 24,
+    LESUNGKAP_STATE_QP_PDN_AT = 1,
+    LESUNGKAP_STATE_QP_SIGNAL_AT = 2,
+    LESUNGKAP_STATE_QP_SEND_CQN_AT = 3,
+    LESUNGKAP_STATE_QP_RECEIVE_CQN_AT = 4,
+    LESUNGKAP_STATE_QP_STATE_AT = 5,
+    LESUNGKAP_STATE_QP_DESTINATION_AT = 6,
+    LESUNGKAP_STATE_WAITING_FIRST_AT = 0,
+    LESUNGKAP_STATE_WAITING_COUNT_AT = 1
+};
+
+/* A queue pair's destination where it has none. */
+enum { LESUNGKAP_NO_QP = LESUNGKAP_QP_COUNT };
+
+struct lesungkap_cq {
+    uint8_t places;
+    uint8_t unread; /* completions; the free places are places - unread */
+};
+
+struct lesungkap_mr {
+    uint32_t pdn;
+    uint32_t access;
+    uint32_t key; /* lkey and rkey */
+    uint64_t start;
+    uint64_t length;
+    uint64_t virt;
+};
+
+struct lesungkap_qp {
+    uint32_t pdn;
+    uint8_t signal;
+    uint32_t send_cqn;
+    uint32_t receive_cqn;
+    uint8_t state;        /* LESUNGKAP_QP_RESET and so on */
+    uint32_t destination; /* or LESUNGKAP_NO_QP */
+    uint8_t waiting;      /* receives */
+};
+
+/* ---- peeks; names that end in _ are this header's own */
+
+/* The memory length of the reset. */
+static inline unsigned lesungkap_peek_memory(const uint8_t *state, size_t state_len, uint64_t *memory_len)
+{
+    if (state_len != LESUNGKAP_STATE_BYTES) {
+        return LESUNGKAP_BAD_STATE;
+    }
+    *memory_len = lesungkap_get_le_(state + LESUNGKAP_STATE_MEMORY_AT, 8);
+    return LESUNGKAP_DONE;
+}
+
+/* Whether object `number` of `count` is live, by its byte of those from `at` on, `step` apart. */
+static inline unsigned lesungkap_peek_live_(const uint8_t *state, size_t state_len, size_t at, size_t step, uint32_t count,
+                                            uint32_t number)
+{
+    if (state_len != LESUNGKAP_STATE_BYTES) {
+        return LESUNGKAP_BAD_STATE;
+    }
+    return number < count && state[at + step * number] != 0 ? LESUNGKAP_DONE : LESUNGKAP_NOT_LIVE;
+}
+
+/* Whether the protection domain is live. */
+static inline unsigned lesungkap_peek_pd(const uint8_t *state, size_t state_len, uint32_t pdn)
+{
+    return lesungkap_peek_live_(state, state_len, LESUNGKAP_STATE_PD_LIVE_AT, LESUNGKAP_STATE_PD_LIVE_STEP, LESUNGKAP_PD_COUNT, pdn);
+}
+
+static inline unsigned lesungkap_peek_cq(const uint8_t *state, size_t state_len, uint32_t cqn, struct lesungkap_cq *cq)
+{
+    const unsigned answer =
+        lesungkap_peek_live_(state, state_len, LESUNGKAP_STATE_CQ_LIVE_AT, LESUNGKAP_STATE_CQ_LIVE_STEP, LESUNGKAP_CQ_COUNT, cqn);
+    if (answer == LESUNGKAP_DONE) {
+        const uint8_t *row = state + LESUNGKAP_STATE_CQS_AT + (size_t)LESUNGKAP_STATE_CQ_ROW * cqn;
+        cq->places = row[LESUNGKAP_STATE_CQ_PLACES_AT];
+        cq->unread = row[LESUNGKAP_STATE_CQ_UNREAD_AT];
+    }
+    return answer;
+}
+
+/* Unread completion `index` of a completion queue, the oldest first. */
+static inline unsigned lesungkap_peek_completion(const uint8_t *state, size_t state_len, uint32_t cqn, uint32_t index,
+                                                 struct lesungkap_completion *completion)
+{
+    struct lesungkap_cq cq;
+    const unsigned answer = lesungkap_peek_cq(state, state_len, cqn, &cq);
+    if (answer != LESUNGKAP_DONE) {
+        return answer;
+    }
+    if (index >= cq.unread) {
+        return LESUNGKAP_NOTHING;
+    }
+    const size_t first = state[LESUNGKAP_STATE_CQS_AT + (size_t)LESUNGKAP_STATE_CQ_ROW * cqn + LESUNGKAP_STATE_CQ_FIRST_AT];
+    const size_t row = (size_t)LESUNGKAP_CQ_MOST_PLACES * cqn + (first + index) % LESUNGKAP_CQ_MOST_PLACES;
+    return lesungkap_get_completion(state + LESUNGKAP_STATE_COMPLETIONS_AT + LESUNGKAP_STATE_COMPLETION_ROW * row,
+                                    LESUNGKAP_STATE_COMPLETION_ROW, completion);
+}
+
+static inline unsigned lesungkap_peek_mr(const uint8_t *state, size_t state_len, uint32_t mrn, struct lesungkap_mr *mr)
+{
+    const unsigned answer =
+        lesungkap_peek_live_(state, state_len, LESUNGKAP_STATE_MR_LIVE_AT, LESUNGKAP_STATE_MR_LIVE_STEP, LESUNGKAP_MR_COUNT, mrn);
+    if (answer == LESUNGKAP_DONE) {
+        const uint8_t *row = state + LESUNGKAP_STATE_MRS_AT + (size_t)LESUNGKAP_STATE_MR_ROW * mrn;
+        mr->pdn = row[LESUNGKAP_STATE_MR_PDN_AT];
+        mr->access = row[LESUNGKAP_STATE_MR_ACCESS_AT];
+        mr->key = 256 * mrn + row[LESUNGKAP_STATE_MR_VARIANT_AT];
+        mr->start = lesungkap_get_le_(row + LESUNGKAP_STATE_MR_START_AT, 8);
+        mr->length = lesungkap_get_le_(row + LESUNGKAP_STATE_MR_LENGTH_AT, 8);
+        mr->virt = lesungkap_get_le_(row + LESUNGKAP_STATE_MR_VIRT_AT, 8);
+    }
+    return answer;
+}
+
+static inline unsigned lesungkap_peek_qp(const uint8_t *state, size_t state_len, uint32_t qpn, struct lesungkap_qp *qp)
+{
+    const unsigned answer =
+        lesungkap_peek_live_(state, state_len, LESUNGKAP_STATE_QP_LIVE_AT, LESUNGKAP_STATE_QP_LIVE_STEP, LESUNGKAP_QP_COUNT, qpn);
+    if (answer == LESUNGKAP_DONE) {
+        const uint8_t *row = state + LESUNGKAP_STATE_QPS_AT + (size_t)LESUNGKAP_STATE_QP_ROW * qpn;
+        const uint8_t *waiting = state + LESUNGKAP_STATE_WAITING_AT + (size_t)LESUNGKAP_STATE_WAITING_ROW * qpn;
+        qp->pdn = row[LESUNGKAP_STATE_QP_PDN_AT];
+        qp->signal = row[LESUNGKAP_STATE_QP_SIGNAL_AT];
+        qp->send_cqn = row[LESUNGKAP_STATE_QP_SEND_CQN_AT];
+        qp->receive_cqn = row[LESUNGKAP_STATE_QP_RECEIVE_CQN_AT];
+        qp->state = row[LESUNGKAP_STATE_QP_STATE_AT];
+        qp->destination = row[LESUNGKAP_STATE_QP_DESTINATION_AT];
+        qp->waiting = waiting[LESUNGKAP_STATE_WAITING_COUNT_AT];
+    }
+    return answer;
+}
+
+/* Waiting receive `index` of a queue pair, the oldest first. */
+static inline unsigned lesungkap_peek_receive(const uint8_t *state, size_t state_len, uint32_t qpn, uint32_t index,
+                                              struct lesungkap_receive *receive)
+{
+    struct lesungkap_qp qp;
+    const unsigned answer = lesungkap_peek_qp(state, state_len, qpn, &qp);
+    if (answer != LESUNGKAP_DONE) {
+        return answer;
+    }
+    if (index >= qp.waiting) {
+        return LESUNGKAP_NOTHING;
+    }
+    const size_t first = state[LESUNGKAP_STATE_WAITING_AT + (size_t)LESUNGKAP_STATE_WAITING_ROW * qpn + LESUNGKAP_STATE_WAITING_FIRST_AT];
+    const size_t place = (size_t)LESUNGKAP_QP_MOST_RECEIVES * qpn + (first + index) % LESUNGKAP_QP_MOST_RECEIVES;
+    const uint8_t *row = state + LESUNGKAP_STATE_RECEIVES_AT + LESUNGKAP_STATE_RECEIVE_ROW * place;
+    const size_t count = lesungkap_get_32_(row + LESUNGKAP_RECEIVE_COUNT_AT);
+    return lesungkap_get_receive(row, LESUNGKAP_RECEIVE_BYTES + count * LESUNGKAP_SGE_BYTES, receive);
+}
+
+#ifdef __cplusplus
+}
+#endif
+
+#endif

@@ -1,0 +1,272 @@
+//! Lent lengths and lent states: what no tape can show. Each check panics on a card that does anything else than document 01 says.
+
+use cards::build::*;
+use cards::{Call, Card};
+use reference::layout::*;
+use reference::{accepts, fault, Fault, Outcome, ACK_BYTES};
+
+const LEFT: u8 = 0xa5;
+
+type Check = (&'static str, fn(&dyn Card));
+
+/// Every check by its name.
+pub const CHECKS: [Check; 11] = [
+    ("reset_takes_1_to_1048576", reset_takes_1_to_1048576),
+    ("ack_needs_13_bytes", ack_needs_13_bytes),
+    ("poll_needs_24_bytes", poll_needs_24_bytes),
+    ("memory_has_the_reset_length", memory_has_the_reset_length),
+    ("numbers_past_the_tables_are_not_live", numbers_past_the_tables_are_not_live),
+    ("a_bad_state_comes_before_all_else", a_bad_state_comes_before_all_else),
+    ("a_reset_mends_a_damaged_state", a_reset_mends_a_damaged_state),
+    ("forged_but_acceptable_states", forged_but_acceptable_states),
+    ("each_fault_is_found", each_fault_is_found),
+    ("a_state_without_a_fault_is_taken", a_state_without_a_fault_is_taken),
+    ("a_refused_reset_leaves_the_card", a_refused_reset_leaves_the_card),
+];
+
+fn answer(answer: u8) -> Outcome {
+    Outcome { answer, status: 0 }
+}
+
+/// Two joined pairs with a region each, a waiting receive and an unread completion.
+fn sample(card: &dyn Card) -> Vec<u8> {
+    let mut state = vec![0; STATE_BYTES];
+    let mut memory = vec![0; 4096];
+    card.reset(&mut state, 4096);
+    let mut commands = Vec::new();
+    for n in 0..2 {
+        commands.push(create_domain());
+        commands.push(create_queue(4));
+        commands.push(register(n, 7, 0, 4096, 1 << 32));
+        commands.push(create_pair(n, 2, 0, n, n));
+    }
+    commands.extend(ready_both(0, 1));
+    for command in commands {
+        assert_eq!(card.control(&mut state, &command, &mut [0; 13]), answer(0));
+    }
+    assert_eq!(card.post_receive(&mut state, 1, &receive(5, &[piece(0, 1, 1)])), answer(0));
+    assert_eq!(card.post_send(&mut state, &mut memory, 0, &Send::new(1, 0).bytes()), answer(0));
+    state
+}
+
+pub fn reset_takes_1_to_1048576(card: &dyn Card) {
+    for (length, wanted) in [(0, 11), (1, 0), (4096, 0), (1 << 20, 0), ((1 << 20) + 1, 11), (1 << 32, 11), (u64::MAX, 11)] {
+        let mut state = vec![LEFT; STATE_BYTES];
+        assert_eq!(card.reset(&mut state, length), answer(wanted), "length {length}");
+        assert_eq!(accepts(&state), wanted == 0);
+        assert_eq!(state == vec![LEFT; STATE_BYTES], wanted != 0);
+    }
+    for state_length in [0, 1, STATE_BYTES - 1, STATE_BYTES + 1, 2 * STATE_BYTES] {
+        for length in [0, 4096] {
+            let mut state = vec![LEFT; state_length];
+            assert_eq!(card.reset(&mut state, length), answer(15));
+            assert_eq!(state, vec![LEFT; state_length]);
+        }
+    }
+}
+
+pub fn ack_needs_13_bytes(card: &dyn Card) {
+    let good = sample(card);
+    for (command, wanted) in [(create_domain(), 0), (vec![], 1), (vec![5, 4], 13), (destroy_domain(0), 10)] {
+        for length in 0..16 {
+            let (mut state, mut ack) = (good.clone(), vec![LEFT; length]);
+            let short = length < 13;
+            assert_eq!(card.control(&mut state, &command, &mut ack), answer(if short { 12 } else { wanted }));
+            assert_eq!(state == good, short || wanted != 0);
+            let written = if short {
+                0
+            } else if wanted == 0 {
+                5
+            } else {
+                1
+            };
+            assert!(ack[written..].iter().all(|&byte| byte == LEFT));
+            assert!(short || ack[0] == u8::from(wanted != 0));
+        }
+    }
+}
+
+pub fn poll_needs_24_bytes(card: &dyn Card) {
+    let good = sample(card);
+    for (cqn, wanted) in [(0, 0), (1, 9), (2, 2), (8, 2), (256, 2), (u32::MAX, 2)] {
+        for length in 0..30 {
+            let (mut state, mut buffer) = (good.clone(), vec![LEFT; length]);
+            let short = length < 24;
+            let outcome = card.poll(&mut state, cqn, &mut buffer);
+            assert_eq!(outcome, answer(if short { 12 } else { wanted }));
+            let written = if outcome.answer == 0 { 24 } else { 0 };
+            assert_eq!(state == good, written == 0);
+            assert!(buffer[written..].iter().all(|&byte| byte == LEFT));
+        }
+    }
+}
+
+pub fn memory_has_the_reset_length(card: &dyn Card) {
+    let good = sample(card);
+    for length in [0, 1, 4095, 4096, 4097, 8192] {
+        for (qpn, record, wanted) in [(0, Send::new(1, 0).bytes(), 0), (0, vec![], 1), (9, Send::new(1, 0).bytes(), 2)] {
+            let (mut state, mut memory) = (good.clone(), vec![LEFT; length]);
+            let outcome = card.post_send(&mut state, &mut memory, qpn, &record);
+            assert_eq!(outcome, answer(if length == 4096 { wanted } else { 7 }));
+            assert_eq!(memory, vec![LEFT; length]);
+        }
+    }
+}
+
+pub fn numbers_past_the_tables_are_not_live(card: &dyn Card) {
+    let good = sample(card);
+    for qpn in [2, 8, 255, 256, 1 << 16, u32::MAX] {
+        let mut state = good.clone();
+        assert_eq!(card.post_send(&mut state, &mut vec![0; 4096], qpn, &Send::new(1, 0).bytes()), answer(2));
+        assert_eq!(card.post_receive(&mut state, qpn, &receive(1, &[])), answer(2));
+        assert_eq!(card.flush(&mut state, qpn), answer(2));
+        assert_eq!(state, good);
+    }
+}
+
+pub fn a_bad_state_comes_before_all_else(card: &dyn Card) {
+    let mut bad = sample(card);
+    bad[PAIR_ROWS + 5] = 4;
+    let longer = [&sample(card)[..], &[0]].concat();
+    let shorter = sample(card)[..STATE_BYTES - 1].to_vec();
+    for lent in [bad, longer, shorter, vec![]] {
+        let (mut state, mut ack, mut memory) = (lent.clone(), [LEFT; 12], [LEFT; 5]);
+        assert_eq!(card.control(&mut state, &[5], &mut ack), answer(15));
+        assert_eq!(card.control(&mut state, &[5], &mut [LEFT; 13]), answer(15));
+        assert_eq!(card.post_send(&mut state, &mut memory, 99, &[]), answer(15));
+        assert_eq!(card.post_receive(&mut state, 99, &[]), answer(15));
+        assert_eq!(card.flush(&mut state, 99), answer(15));
+        assert_eq!(card.poll(&mut state, 99, &mut ack[..3]), answer(15));
+        assert_eq!((state, ack, memory), (lent, [LEFT; 12], [LEFT; 5]));
+    }
+}
+
+pub fn a_reset_mends_a_damaged_state(card: &dyn Card) {
+    let mut state = vec![0xff; STATE_BYTES];
+    assert_eq!(card.flush(&mut state, 0), answer(15));
+    assert_eq!(card.reset(&mut state, 0), answer(11));
+    assert_eq!(state, vec![0xff; STATE_BYTES]);
+    assert_eq!(card.reset(&mut state, 1), answer(0));
+    let mut ack = [LEFT; 13];
+    assert_eq!(card.control(&mut state, &register(0, 0, 0, 1, 0), &mut ack), answer(2));
+    assert_eq!(card.control(&mut state, &create_domain(), &mut ack), answer(0));
+    assert_eq!(card.control(&mut state, &register(0, 0, 0, 1, 0), &mut ack), answer(0));
+    assert_eq!(ack, [0, 0, 0, 0, 0, 1, 0, 0, 0, 1, 0, 0, 0]);
+}
+
+pub fn forged_but_acceptable_states(card: &dyn Card) {
+    type Change<'a> = (&'a str, &'a [(usize, u8)], u8);
+    let changes: [Change; 5] = [
+        ("ready to send without destination", &[(PAIR_ROWS + 6, 8)], 5),
+        ("destination not live", &[(PAIR_ROWS + 6, 7)], 5),
+        ("peer in state 0 with a waiting receive", &[(PAIR_ROWS + PAIR_ROW + 5, 0)], 5),
+        ("free slot with any variant", &[(REGION_ROWS + 9 * REGION_ROW + 1, 255)], 0),
+        ("queue's first place past its places", &[(QUEUE_ROWS + 1, 15), (QUEUE_ROWS + 2, 0)], 0),
+    ];
+    for (name, bytes, wanted) in changes {
+        let mut state = sample(card);
+        for &(at, value) in bytes {
+            state[at] = value;
+        }
+        let outcome = card.post_send(&mut state, &mut vec![0; 4096], 0, &Send::new(1, 0).bytes());
+        assert_eq!(outcome, answer(wanted), "{name}");
+    }
+}
+
+/// A fault, and the bytes of the sample that make it. A wrong length is made apart.
+const FAULTS: [(Fault, usize, &[u8]); 34] = [
+    (Fault::MemoryLength, MEMORY_LENGTH, &[0, 0]),
+    (Fault::MemoryLength, MEMORY_LENGTH + 2, &[17]),
+    (Fault::DomainFlag, DOMAIN_FLAGS + 5, &[2]),
+    (Fault::QueuePlaces, QUEUE_ROWS, &[17]),
+    (Fault::QueueFirst, QUEUE_ROWS + 1, &[16]),
+    (Fault::QueueCount, QUEUE_ROWS + 2, &[5]),
+    (Fault::CompletionStatus, COMPLETION_ROWS + 8, &[2]),
+    (Fault::CompletionOpcode, COMPLETION_ROWS + 9, &[5]),
+    (Fault::CompletionLength, COMPLETION_ROWS + 12, &[1, 16]),
+    (Fault::CompletionOwner, COMPLETION_ROWS + 20, &[8]),
+    (Fault::RegionFlag, REGION_FLAGS + 31, &[2]),
+    (Fault::RegionAccess, REGION_ROWS, &[8]),
+    (Fault::RegionVariant, REGION_ROWS + 1, &[0]),
+    (Fault::RegionDomain, REGION_ROWS + 2, &[2]),
+    (Fault::RegionDomain, REGION_ROWS + 2, &[8]),
+    (Fault::RegionEmpty, REGION_ROWS + 16, &[0, 0]),
+    (Fault::RegionMemory, REGION_ROWS + 8, &[1]),
+    (Fault::RegionAddress, REGION_ROWS + 24, &[0, 0xf0, 0xff, 0xff, 0xff, 0xff, 0xff, 0xff]),
+    (Fault::PairFlag, PAIR_ROWS, &[2]),
+    (Fault::PairDomain, PAIR_ROWS + 1, &[2]),
+    (Fault::PairDomain, PAIR_ROWS + 1, &[8]),
+    (Fault::PairSignal, PAIR_ROWS + 2, &[2]),
+    (Fault::PairSendQueue, PAIR_ROWS + 3, &[2]),
+    (Fault::PairSendQueue, PAIR_ROWS + 3, &[8]),
+    (Fault::PairReceiveQueue, PAIR_ROWS + 4, &[2]),
+    (Fault::PairReceiveQueue, PAIR_ROWS + 4, &[255]),
+    (Fault::PairState, PAIR_ROWS + 5, &[4]),
+    (Fault::PairState, PAIR_ROWS + 5, &[5]),
+    (Fault::PairState, PAIR_ROWS + 5, &[7]),
+    (Fault::PairDestination, PAIR_ROWS + 6, &[9]),
+    (Fault::PairNamesItself, PAIR_ROWS + 6, &[0]),
+    (Fault::WaitingFirst, WAITING_ROWS + WAITING_ROW, &[4]),
+    (Fault::WaitingCount, WAITING_ROWS + WAITING_ROW + 1, &[5]),
+    (Fault::ReceivePieces, RECEIVE_ROWS + 4 * RECEIVE_ROW + 8, &[3]),
+];
+
+/// A call of each kind but reset, with all that it is lent in order.
+fn tested_calls() -> [Call; 5] {
+    [
+        Call::Control { command: create_domain(), ack: ACK_BYTES },
+        Call::Send { qpn: 0, record: Send::new(1, 0).bytes(), memory: 4096 },
+        Call::Receive { qpn: 1, record: receive(1, &[]) },
+        Call::Flush { qpn: 1 },
+        Call::Poll { cqn: 0, buffer: COMPLETION_BYTES },
+    ]
+}
+
+/// Every call answers 15 and leaves every byte.
+fn refuses(card: &dyn Card, bad: &[u8], why: Fault) {
+    assert_eq!(fault(bad), Some(why));
+    for call in tested_calls() {
+        let (mut state, mut memory, mut buffer) = (bad.to_vec(), vec![LEFT; 4096], vec![LEFT; call.buffer()]);
+        assert_eq!(call.make(card, &mut state, &mut memory, &mut buffer), answer(15), "{} on {why:?}, {call}", card.name());
+        assert!(state == bad && memory == [LEFT; 4096] && buffer.iter().all(|&byte| byte == LEFT));
+    }
+}
+
+pub fn each_fault_is_found(card: &dyn Card) {
+    let good = sample(card);
+    let mut made = vec![Fault::StateLength];
+    refuses(card, &good[1..], Fault::StateLength);
+    refuses(card, &[&good[..], &[0]].concat(), Fault::StateLength);
+    for (why, at, bytes) in FAULTS {
+        let mut state = good.clone();
+        state[at..at + bytes.len()].copy_from_slice(bytes);
+        refuses(card, &state, why);
+        made.push(why);
+    }
+    assert!(Fault::ALL.iter().all(|fault| made.contains(fault)), "a fault is not made");
+}
+
+pub fn a_state_without_a_fault_is_taken(card: &dyn Card) {
+    let good = sample(card);
+    let mut edge = good.clone();
+    edge[REGION_ROWS + 24..REGION_ROWS + 32].copy_from_slice(&(u64::MAX - 4096).to_le_bytes());
+    for lent in [good, edge] {
+        assert_eq!(fault(&lent), None);
+        let answers =
+            tested_calls().map(|call| call.make(card, &mut lent.clone(), &mut [0; 4096], &mut vec![LEFT; call.buffer()]).answer);
+        assert_eq!(answers, [0, 0, 0, 3, 0], "{}", card.name());
+    }
+}
+
+/// A refused reset in the middle of other calls changes nothing of what they find.
+pub fn a_refused_reset_leaves_the_card(card: &dyn Card) {
+    let good = sample(card);
+    for length in [0, MOST_MEMORY + 1, u64::MAX] {
+        let mut state = good.clone();
+        assert_eq!(card.reset(&mut state, length), answer(11));
+        assert!(state == good);
+        let mut completion = [LEFT; COMPLETION_BYTES];
+        assert_eq!(card.poll(&mut state, 0, &mut completion), answer(0));
+        assert_eq!(card.post_send(&mut state, &mut [0; 4096], 0, &Send::new(2, 0).bytes()), answer(0));
+    }
+}
