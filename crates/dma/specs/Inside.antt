@@ -10,7 +10,7 @@ use Rattle.wire.proofs.ScanLaws.{and-left, and-right}
 use Rattle.wire.specs.Table.{rowAt}
 use Rattle.validate.specs.Accept.{accepts, mrOk}
 use Rattle.validate.proofs.AcceptedLaws.{accepted, memory-most, registered, ranged}
-use Rattle.tables.specs.State.{card, registrationOf}
+use Rattle.tables.specs.State.{card, regionAt, registrationOf}
 use Rattle.tables.specs.Layout.{memoryT, mrFlagT, mrT}
 use Rattle.tables.specs.Limits.{mrCount, mostMemory, mostAddress}
 use Rattle.tables.proofs.ObjectLaws.{memory-is, mr-live, mr-below, mr-row}
@@ -40,11 +40,11 @@ pub record Place (l : List ℕ) (b : Byte) (r : Region) : Type 0 where
 
 module _ (l : List ℕ) (ok : accepts l ≡ true) where
   lies-row : (n : ℕ) → n < mrCount → rowAt mrFlagT l n ≡ 1 → Lies (rowAt memoryT l 0) (registrationOf (rowAt mrT l n))
-  unfolding mrOk
+  unfolding mrOk regionAt
   lies-row n h e =
       let r : Region = rowAt mrT l n in
       let m : ℕ = rowAt memoryT l 0 in
-      let s = registered (card l .pd) m (rowAt mrFlagT l n) r (accepted l ok .mrs n h) (λ z. omega arith) in
+      let s = registered (card l .pd) m (regionAt l n) (accepted l ok .mrs n h) (λ z. omega arith) in
       let g = ranged m r (s .limits) in
       record { room = g .inside; word = g .space }
 

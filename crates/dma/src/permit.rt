@@ -2,8 +2,7 @@
 use tables::Region;
 use tables::Sge;
 use tables::limits::MR_COUNT;
-use tables::stateSize;
-use validate::accept;
+use tables::rows;
 ghost use mathlib.Core.Path.{_≡_};
 ghost use Prim.Native.Nat.{_≤_, min};
 ghost use mathlib.Core.Bool.{_&&_};
@@ -31,7 +30,7 @@ pub fn region_of(state: &[u8], key: u32) -> Found
     if MR_COUNT <= slot {
         return Found::Nothing;
     }
-    if rows::load_mr_live(state, slot) != 1 {
+    if rows::load_mr_flag(state, slot) != 1 {
         return Found::Nothing;
     }
     let r = rows::load_mr(state, slot);

@@ -1,7 +1,7 @@
 // How a request's bytes are moved: all source bytes are read, into a staging array, before any is written. Who may move them is not asked
 // here, only that each byte lies in a live region.
 use tables::Sge;
-use tables::stateSize;
+use tables::rows;
 ghost use mathlib.Core.Path.{_≡_};
 ghost use mathlib.Core.Bool.{true};
 ghost use mathlib.Core.List.{_∷_, [], _++_};

@@ -14,8 +14,8 @@ cast-slot c = search needs
 returns : tie.Need-returns
 returns c = let a = c .before .before .args in sym (found-out (now (a .state)) (a .key) (search needs))
 
-load-mr-live-requires : tie.Need-load-mr-live-requires
-load-mr-live-requires c κs = search needs
+load-mr-flag-requires : tie.Need-load-mr-flag-requires
+load-mr-flag-requires c κs = search needs
 
 returns-2 : tie.Need-returns-2
 returns-2 c =
@@ -47,7 +47,7 @@ region-of-spec =
     (tie.spec
     cast-slot
     returns
-    load-mr-live-requires
+    load-mr-flag-requires
     returns-2
     load-mr-requires
     cast-if3
