@@ -1,11 +1,4 @@
-pub mod SendCard
-pub mod SendLimits
-pub mod SendDone
+pub mod Meet
+pub mod Deliver
+pub mod Settle
 pub mod Send
-pub mod SendMeet
-pub mod SendSettle
-pub mod SendMove
-pub mod SendStatus
-pub mod SendRequest
-pub mod SendWhole
-pub mod SendEnd

@@ -1,5 +1,5 @@
-// Steps 3 to 6 of document 01, "Posting and delivering": the status of a message, and the message moved. Definitions and laws:
-// specs/Send.antt and specs/SendStatus.antt.
+// Steps 3 to 6 of document 01, "Posting and delivering": the status of a message, and the message moved. Definitions:
+// specs/Deliver.antt.
 use crate::meet;
 use crate::meet::Ends;
 use crate::settle;
@@ -32,7 +32,7 @@ ghost use Rattle.tables.specs.Records.{isInline, receiveSges};
 ghost use Rattle.rules.specs.Touch.{fills, sgeTotal};
 ghost use Rattle.dma.specs.Grants.{allowsAll};
 ghost use Rattle.dma.specs.Places.{Ready};
-ghost use Rattle.engine.specs.Send.{takenRow, Sending, Delivery, totalBy, ownMask, ownBy, farCount, farList, farMask, Carries, carried};
+ghost use Rattle.engine.specs.Deliver.{takenRow, Sending, Delivery, totalBy, ownMask, ownBy, farCount, farList, farMask, Carries, carried};
 
 fn is_inline(s: SendRecord) -> bool
     ensures { λ r. ⌜ r ≡ isInline s ⌝ }
@@ -153,15 +153,16 @@ pub fn taken_receive(state: &[u8], d: usize, opcode: u8) -> ReceiveRecord
     if meet::takes_receive(opcode) {
         return queue::oldest_receive(state, d);
     }
+    let none = Sge {
+        address: 0,
+        length: 0,
+        key: 0,
+    };
     ReceiveRecord {
         wr: 0,
         count: 0,
-        address0: 0,
-        length0: 0,
-        key0: 0,
-        address1: 0,
-        length1: 0,
-        key1: 0,
+        first: none,
+        second: none,
     }
 }
 

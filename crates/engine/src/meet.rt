@@ -1,5 +1,4 @@
-// The tests of a sender and its peer: document 01, "QP 2; QP not in RTS 3", and steps 1 and 2. Definitions and laws: specs/Send.antt
-// and specs/SendMeet.antt.
+// The tests of a sender and its peer: document 01, "QP 2; QP not in RTS 3", and steps 1 and 2. Definitions: specs/Meet.antt.
 use rules::Answer;
 use rules::Cause;
 use tables::QueueHead;
@@ -10,7 +9,7 @@ use tables::limits::RTS;
 use tables::limits::SEND;
 use tables::limits::SEND_IMM;
 use tables::limits::WRITE_IMM;
-use tables::stateSize;
+use tables::rows;
 ghost use mathlib.Core.Path.{_≡_};
 ghost use mathlib.Core.Bool.{true, cond};
 ghost use Prim.Native.Nat.{_<_, _≤_, _+_};
@@ -18,10 +17,11 @@ ghost use lib.Dec.{eqb, leb};
 ghost use lib.ListN.{length};
 ghost use Rattle.wire.specs.Table.{rowAt};
 ghost use Rattle.validate.specs.Accept.{accepts};
-ghost use Rattle.tables.specs.Layout.{stateSize, cqT};
+ghost use Rattle.tables.specs.Layout.{stateSize, cqT, qpFlagT};
 ghost use Rattle.tables.specs.Limits.{cqCount, qpCount};
+ghost use Rattle.tables.specs.State.{isLive};
 ghost use Rattle.rules.specs.Touch.{takes, fills};
-ghost use Rattle.engine.specs.Send.{answers, placesBy, peerMeeting, meeting};
+ghost use Rattle.engine.specs.Meet.{answers, placesBy, peerMeeting, meeting, Sender};
 
 // A sender and its peer, whose number is the sender's destination.
 pub struct Ends {
@@ -50,11 +50,19 @@ pub fn fills_receive(opcode: u8) -> bool
     (SEND <= opcode) & (opcode <= SEND_IMM)
 }
 
-// Whether a queue pair is ready and names q back.
-fn answers_to(far: QueuePair, q: usize) -> bool
-    ensures { λ r. ⌜ r ≡ answers far q ⌝ }
+// Whether queue pair n is live.
+fn is_live(state: &[u8], n: usize) -> bool
+    requires { ⌜ (n < qpCount) × (length (now state) ≡ stateSize) ⌝ }
+    ensures { λ r. ⌜ r ≡ isLive (rowAt qpFlagT (now (state .entry)) n) ⌝ }
 {
-    (far.live == 1) & ((far.state == RTR) | (far.state == RTS)) & (far.dest as usize == q)
+    rows::load_qp_flag(state, n) == 1
+}
+
+// Whether a queue pair, live or not, is ready and names q back.
+fn answers_to(live: bool, far: QueuePair, q: usize) -> bool
+    ensures { λ r. ⌜ r ≡ answers live far q ⌝ }
+{
+    live & ((far.state == RTR) | (far.state == RTS)) & (far.dest as usize == q)
 }
 
 // Whether a completion queue has n free places.
@@ -104,6 +112,24 @@ fn meet_peer(state: &[u8], e: Ends, opcode: u8) -> Meeting
     Meeting::Pairs(e)
 }
 
+// The tests of the peer of queue pair q, whose own passed.
+fn meet_far(state: &[u8], q: usize, own: QueuePair, opcode: u8) -> Meeting
+    requires { ⌜ Sender (now state) q own ⌝ }
+    ensures { λ r. ⌜ r ≡ meeting (now (state .entry)) q opcode ⌝ }
+{
+    let d = own.dest as usize;
+    if QP_COUNT <= d {
+        return Meeting::Stopped(Answer::Held(Cause::Peer));
+    }
+    let live = is_live(state, d);
+    let far = rows::load_qp(state, d);
+    if !answers_to(live, far, q) {
+        return Meeting::Stopped(Answer::Held(Cause::Peer));
+    }
+    let e = Ends { q, own, far };
+    meet_peer(state, e, opcode)
+}
+
 // The tests of the two queue pairs.
 pub fn meet(state: &[u8], qpn: u32, opcode: u8) -> Meeting
     requires { ⌜ (accepts (now state) ≡ true) × (length (now state) ≡ stateSize) ⌝ }
@@ -113,21 +139,12 @@ pub fn meet(state: &[u8], qpn: u32, opcode: u8) -> Meeting
     if QP_COUNT <= q {
         return Meeting::Stopped(Answer::Refused(2));
     }
-    let own = rows::load_qp(state, q);
-    if own.live != 1 {
+    if !is_live(state, q) {
         return Meeting::Stopped(Answer::Refused(2));
     }
+    let own = rows::load_qp(state, q);
     if own.state != RTS {
         return Meeting::Stopped(Answer::Refused(3));
     }
-    let d = own.dest as usize;
-    if QP_COUNT <= d {
-        return Meeting::Stopped(Answer::Held(Cause::Peer));
-    }
-    let far = rows::load_qp(state, d);
-    if !answers_to(far, q) {
-        return Meeting::Stopped(Answer::Held(Cause::Peer));
-    }
-    let e = Ends { q, own, far };
-    meet_peer(state, e, opcode)
+    meet_far(state, q, own, opcode)
 }

@@ -1,4 +1,4 @@
-// Post send: document 01, "Posting and delivering". Laws: specs/SendDone.antt and specs/SendEnd.antt.
+// Post send: document 01, "Posting and delivering". Definitions: specs/Send.antt.
 use crate::deliver;
 use crate::meet;
 use crate::meet::Ends;
@@ -10,15 +10,14 @@ use tables::SendRecord;
 use tables::limits::LOCAL_LENGTH;
 use tables::limits::MOST_MESSAGE;
 use tables::records;
-use tables::stateSize;
+use tables::rows;
 use validate::accept;
 ghost use mathlib.Core.List.{[]};
 ghost use Rattle.rules.specs.Call.{Call};
 ghost use Rattle.rules.specs.Touch.{requestOf};
 ghost use Rattle.rules.specs.Contract.{Owes};
-ghost use Rattle.engine.specs.SendDone.{Ran};
 ghost use Rattle.dma.specs.Places.{Ready};
-ghost use Rattle.engine.specs.Send.{Posted, Met, Carried};
+ghost use Rattle.engine.specs.Send.{Posted, Met, Carried, Ran};
 
 // Steps 3 to 6 for two queue pairs that passed the tests: the status, and all that the request leaves.
 fn carry_out(state: &mut [u8], memory: &mut [u8], e: Ends, s: SendRecord, sent: &[u8]) -> u8

@@ -1,5 +1,4 @@
-// What a post send leaves in the state: completions, error states, the receive consumed. Definitions and laws: specs/Send.antt and
-// specs/SendSettle.antt.
+// What a post send leaves in the state: completions, error states, the receive consumed. Definitions: specs/Settle.antt.
 use crate::meet;
 use crate::meet::Ends;
 use dma::permit;
@@ -23,7 +22,7 @@ use tables::limits::SUCCESS;
 use tables::limits::WRITE_IMM;
 use tables::limits::WRITTEN;
 use tables::queue;
-use tables::stateSize;
+use tables::rows;
 ghost use mathlib.Core.Path.{_≡_};
 ghost use mathlib.Core.Bool.{true, cond};
 ghost use Prim.Native.Nat.{_<_, _≤_};
@@ -34,7 +33,7 @@ ghost use Rattle.tables.specs.Limits.{cqCount, qpCount, mostPlaces};
 ghost use Rattle.tables.specs.Records.{receiveSges};
 ghost use Rattle.rules.specs.Send.{senderOpcode, receiverOpcode, consumes};
 ghost use Rattle.rules.specs.Bytes.{pushAll, errorBytes, consumeBytes};
-ghost use Rattle.engine.specs.Send.{receiverStatus, putFirst, putSecond, settled, Settling};
+ghost use Rattle.engine.specs.Settle.{receiverStatus, putFirst, putSecond, settled, Settling};
 
 // x where b holds, else y.
 pub fn choose(b: bool, x: u8, y: u8) -> u8
@@ -84,16 +83,8 @@ pub fn receive_sges(w: ReceiveRecord) -> [Sge; 4]
         length: 0,
         key: 0,
     };
-    let a = Sge {
-        address: w.address0,
-        length: w.length0,
-        key: w.key0,
-    };
-    let b = Sge {
-        address: w.address1,
-        length: w.length1,
-        key: w.key1,
-    };
+    let a = w.first;
+    let b = w.second;
     [a, b, none, none]
 }
 
@@ -174,7 +165,6 @@ fn fail_if(state: &mut [u8], b: bool, q: usize)
     }
     let p = rows::load_qp(state, q);
     let failed = QueuePair {
-        live: p.live,
         pd: p.pd,
         signal: p.signal,
         scq: p.scq,

@@ -5,8 +5,8 @@ use mathlib.Core.List.{List}
 use Prim.Native.Nat.{ℕ}
 use lib.ListN.{take}
 use Rattle.tables.specs.declared.Sge.{Sge}
-use Rattle.engine.specs.Send.{farList}
-use Rattle.engine.specs.SendStatus.{judged, own-refused, too-much, far-refused, all-moved, carries, count-most}
+use Rattle.engine.specs.Deliver.{farList}
+use Rattle.engine.proofs.StatusLaws.{judged, own-refused, too-much, far-refused, all-moved, carries, count-most}
 use borrow.Author.Needs.{needs}
 use Rattle.engine.proofs.deliver.deliver.Statement.{statement}
 use Rattle.engine.proofs.deliver.deliver.Tie as tie

@@ -9,7 +9,7 @@ use borrow.Author.Tests.{eq-eqb, ne-eqb}
 use Rattle.tables.specs.State.{card}
 use Rattle.rules.specs.Lists.{stored}
 use Rattle.dma.specs.Grants.{places}
-use Rattle.engine.specs.SendMove.{there, back}
+use Rattle.engine.proofs.MoveLaws.{there, back}
 use borrow.Author.Needs.{needs}
 use Rattle.engine.proofs.deliver.move_bytes.Statement.{statement}
 use Rattle.engine.proofs.deliver.move_bytes.Tie as tie

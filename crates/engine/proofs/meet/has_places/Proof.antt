@@ -1,6 +1,6 @@
 use lib.Dec.{eqb}
 use mathlib.Core.Bool.{_&&_}
-use Rattle.engine.specs.SendMeet.{needed-most}
+use Rattle.engine.proofs.MeetLaws.{needed-most}
 use borrow.Author.Needs.{needs}
 use Rattle.engine.proofs.meet.has_places.Statement.{statement}
 use Rattle.engine.proofs.meet.has_places.Tie as tie

@@ -1,4 +1,4 @@
-use Rattle.engine.specs.SendMeet.{none-waits, no-place, ends-meet}
+use Rattle.engine.proofs.MeetLaws.{none-waits, no-place, ends-meet}
 use denote.Ref.{now}
 use borrow.Author.Tests.{not-true, not-false}
 use borrow.Author.Needs.{needs}

@@ -5,8 +5,8 @@ use mathlib.Core.List.{List}
 use Prim.Native.Nat.{ℕ}
 use Rattle.rules.specs.Touch.{requestOf}
 use Rattle.engine.specs.Send.{Carried}
-use Rattle.engine.specs.SendRequest.{told}
-use Rattle.engine.specs.SendEnd.{peer-below, head-below, ending}
+use Rattle.engine.proofs.RequestLaws.{told}
+use Rattle.engine.proofs.EndLaws.{peer-below, head-below, ending}
 use borrow.Author.Needs.{needs}
 use Rattle.engine.proofs.send.carry_out.Statement.{statement}
 use Rattle.engine.proofs.send.carry_out.Tie as tie

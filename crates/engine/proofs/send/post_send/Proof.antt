@@ -9,8 +9,8 @@ use Rattle.validate.specs.Accept.{accepts}
 use Rattle.validate.proofs.AcceptedLaws.{accepted}
 use Rattle.tables.specs.State.{card}
 use Rattle.tables.proofs.ObjectLaws.{memory-is}
-use Rattle.engine.specs.SendDone.{not-accepted, other-memory, bad-record, ran}
-use Rattle.engine.specs.SendEnd.{posted}
+use Rattle.engine.proofs.OwedLaws.{not-accepted, other-memory, bad-record, ran}
+use Rattle.engine.proofs.EndLaws.{posted}
 use borrow.Author.Needs.{needs}
 use Rattle.engine.proofs.send.post_send.Statement.{statement}
 use Rattle.engine.proofs.send.post_send.Tie as tie

@@ -3,7 +3,7 @@ use denote.Ref.{now}
 use mathlib.Core.List.{List}
 use Prim.Native.Nat.{ℕ}
 use Rattle.rules.specs.Touch.{requestOf}
-use Rattle.engine.specs.SendEnd.{is-met, ran-on, stopped, opcode-is}
+use Rattle.engine.proofs.EndLaws.{is-met, ran-on, stopped, opcode-is}
 use borrow.Author.Needs.{needs}
 use Rattle.engine.proofs.send.send_checked.Statement.{statement}
 use Rattle.engine.proofs.send.send_checked.Tie as tie

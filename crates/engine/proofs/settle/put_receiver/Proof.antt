@@ -1,5 +1,5 @@
 use mathlib.Core.Path.{sym, _∙_}
-use Rattle.engine.specs.SendSettle.{not-consumed, consumed}
+use Rattle.engine.proofs.SettleLaws.{not-consumed, consumed}
 use denote.Ref.{now}
 use borrow.Author.Tests.{not-true, not-false}
 use borrow.Author.Needs.{needs}

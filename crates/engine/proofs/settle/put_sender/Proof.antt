@@ -1,4 +1,4 @@
-use Rattle.engine.specs.SendSettle.{put-silent, put-told}
+use Rattle.engine.proofs.SettleLaws.{put-silent, put-told}
 use denote.Ref.{now}
 use borrow.Author.Needs.{needs}
 use Rattle.engine.proofs.settle.put_sender.Statement.{statement}

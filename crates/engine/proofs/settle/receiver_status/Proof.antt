@@ -1,5 +1,5 @@
 use mathlib.Core.Path.{ap, _∙_}
-use Rattle.engine.specs.SendSettle.{status-done, status-long, status-refused}
+use Rattle.engine.proofs.SettleLaws.{status-done, status-long, status-refused}
 use Rattle.rules.specs.Touch.{sgeTotal}
 use borrow.Author.Needs.{needs}
 use Rattle.engine.proofs.settle.receiver_status.Statement.{statement}

@@ -4,7 +4,7 @@ use Prim.Native.Nat.{ℕ}
 use lib.Dec.{eqb}
 use Rattle.rules.specs.Send.{consumes}
 use Rattle.rules.specs.Bytes.{pushAll, errorBytes, consumeBytes}
-use Rattle.engine.specs.Send.{putSecond}
+use Rattle.engine.specs.Settle.{putSecond}
 use mathlib.Core.Path.{sym, ap, _∙_}
 use borrow.Author.Needs.{needs}
 use Rattle.engine.proofs.settle.settle.Statement.{statement}

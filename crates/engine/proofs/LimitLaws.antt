@@ -14,14 +14,14 @@ use Rattle.wire.specs.Codec.{Fit, Fits}
 use Rattle.wire.proofs.ScanLaws.{and-left, and-right, and-off}
 use Rattle.validate.specs.Accept.{completionOk, isStatus}
 use Rattle.tables.specs.Card.{Card, Cq, withCq}
-use Rattle.tables.specs.Layout.{entryT}
 use Rattle.tables.specs.Limits.{qpCount, mostMessage}
+use Rattle.tables.specs.Records.{completionCodec}
 use Rattle.tables.specs.declared.Completion.{Completion}
 use Rattle.rules.specs.Lists.{isEmpty, orElse, names}
 use Rattle.rules.specs.Send.{peerOf, takenBy, canReceive, ready, room, hasPlaces, deliveryChecks, statusBy, sendStatus, consumes, pushed, lengthBy, senderPut, receiverPut, sendPuts, ownUse, farUse}
 use Rattle.rules.specs.Permit.{permitsAll}
 use Rattle.rules.specs.Touch.{Request, takes, fills, total, sgeTotal, ownBytes, farBytes}
-use Rattle.engine.specs.SendCard.{Can, CanAll}
+use Rattle.engine.proofs.CardLaws.{Can, CanAll}
 
 -- ---- what the tests tell
 
@@ -103,8 +103,8 @@ imm-small false n h = omega arith
 -- a completion within its limits
 module _ (e : Completion) (wr : e .wr < 2 ^ 64) (status : isStatus (e .status) ≡ true) (small : leb (e .status) 8 ≡ true) (opcode : leb (e .opcode) 4 ≡ true)
     (size : leb (e .length) mostMessage ≡ true) (imm : e .imm < 2 ^ 32) (owner : e .owner < qpCount) where
-  entry-fits : Fits entryT e
-  unfolding entryT Fit
+  entry-fits : Fits completionCodec e
+  unfolding completionCodec Fit
   entry-fits =
       let a = leb-true (e .status) 8 small in
       let b = leb-true (e .opcode) 4 opcode in

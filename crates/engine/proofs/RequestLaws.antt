@@ -11,6 +11,7 @@ use lib.ListN.{length, getD, take, drop, length-drop}
 use lib.Seq.{length-take-le}
 use borrow.Author.Tests.{eqb-true, leb-true, le-leb, lt-leb, ltb-false, not-false}
 use Rattle.wire.specs.Checks.{refusal, Passed}
+use Rattle.wire.specs.Codec.{decode}
 use Rattle.wire.proofs.CheckLaws.{passed}
 use Rattle.wire.specs.Ring.{ringList}
 use Rattle.wire.proofs.RingLaws.{ring-pop}
@@ -21,12 +22,10 @@ use Rattle.wire.specs.Table.{rowAt}
 use Rattle.validate.specs.Accept.{accepts, receiveOk}
 use Rattle.validate.proofs.AcceptedLaws.{Accepted, accepted}
 use Rattle.tables.specs.Card.{Card, Qp, Receive, noReceive, receiveOf}
-use Rattle.tables.specs.State.{card, liveQp, noRecord, posted, receivesAt}
-use Rattle.tables.specs.Layout.{qpT, waitingT, receiveT}
+use Rattle.tables.specs.State.{card, pairAt, liveQp, noRecord, posted, receivesAt}
+use Rattle.tables.specs.Layout.{qpFlagT, qpT, waitingT, receiveT}
 use Rattle.tables.specs.Limits.{qpCount, mostWaiting, mostMessage, mostInline, mostSges, mostReceiveSges}
-use Rattle.tables.proofs.ObjectLaws.{qp-below, qp-row}
-use Rattle.tables.proofs.StoreLaws.{receive-at}
-use Rattle.tables.specs.Reading.{inlinePart, inline-part}
+use Rattle.tables.proofs.ObjectLaws.{qp-below, qp-row, receive-at}
 use Rattle.tables.proofs.ReadingLaws.{inline-length}
 use Rattle.tables.specs.Records.{isSignaled, isInline, inlineLength, inlineBytes, sendCodec, sendChecks, sendSge, receiveSges}
 use Rattle.validate.proofs.WaitingLaws.{pair-sound, first-is}
@@ -43,9 +42,11 @@ use Rattle.rules.proofs.Runs.{cut, cut-bytes, values-at}
 use Rattle.dma.specs.Bridge.{maskOf, allowed-all, placed-all}
 use Rattle.dma.specs.Grants.{allowsAll, places}
 use Rattle.dma.specs.Places.{moved}
-use Rattle.engine.specs.Send.{bare, endsAt, ownMask, farMask, ownBy, farList, totalBy, takenRow, Posted, Sending, statusIn, carried}
-use Rattle.engine.specs.SendCard.{row-live, some-wait}
-use Rattle.engine.specs.SendLimits.{Going, going}
+use Rattle.engine.specs.Meet.{bare, endsAt}
+use Rattle.engine.specs.Deliver.{ownMask, farMask, ownBy, farList, totalBy, takenRow, Sending, statusIn, carried}
+use Rattle.engine.specs.Send.{Posted}
+use Rattle.engine.proofs.CardLaws.{row-live, some-wait}
+use Rattle.engine.proofs.LimitLaws.{Going, going}
 
 -- ---- the record
 
@@ -68,8 +69,8 @@ requestBy s x =
 pub record Told (x : List ℕ) (s : SendRecord) : Type 0 where
   pub request : requestOf x ≡ requestBy s x
   pub plain : isInline s ≡ false → s .count ≤ 4
-  pub short : isInline s ≡ true → (s .count % 65536 ≤ mostInline) × (length (inlinePart x) ≡ s .count % 65536)
-  pub bytes : inlineBytes x ≡ inlinePart x
+  pub size : 576 ≤ length x
+  pub short : isInline s ≡ true → (s .count % 65536 ≤ mostInline) × (length (inlineBytes x) ≡ s .count % 65536)
   pub there : isInline s ≡ true → reads (s .opcode) ≡ false
 
 exact : (x : List ℕ) (n : ℕ) (b : Bool) → not (eqb (length x) (cond b 576 n)) ≡ false → b ≡ true → length x ≡ 576
@@ -82,7 +83,6 @@ told-read x g =
     let s : SendRecord = decode sendCodec x 0 in
     let p = passed (sendChecks x) g in
     let w = inline-length x in
-    let v : inlinePart x ≡ inlineBytes x = inline-part x (let l = ltb-false (length x) 576 (p .0) in omega arith) in
     record {
       request = refl;
       plain = λ i. ltb-false 4 (s .count) (and-off (not (isInline s)) (ltb mostSges (s .count)) (p .1 .1 .1 .1 .1 .0) (rw i));
@@ -90,8 +90,8 @@ told-read x g =
           λ i. (let h : inlineLength x ≤ mostInline = ltb-false mostInline (inlineLength x) (and-off (isInline s) (ltb mostInline (inlineLength x)) (p .1 .1 .1 .1 .0) i) in
           let z : length x ≡ 576 = exact x (576 + 16 * s .count) (isInline s) (p .1 .1 .1 .1 .1 .1 .0) i in
           let y : s .count % 65536 ≤ mostInline = omega arith in
-          (y, ap (λ (k : List ℕ). length k) v ∙ length-take-le (inlineLength x) (drop 48 x) (simp length-drop (omega arith)) ∙ w));
-      bytes = sym v;
+          (y, length-take-le (inlineLength x) (drop 48 x) (simp length-drop (omega arith)) ∙ w));
+      size = ltb-false (length x) 576 (p .0);
       there = λ i. and-off (isInline s) (eqb (s .opcode) 4) (p .1 .1 .1 .0) i;
     }
 
@@ -119,7 +119,7 @@ module _ (x : List ℕ) (s : SendRecord) (t : Told x s) where
   total-is = go (isInline s) refl
     where
       go : (b : Bool) → isInline s ≡ b → cond b (length (inlineBytes x)) (sgeTotal (rows (s .count) (sendSge x))) ≡ cond b (s .count % 65536) (sgeTotal (take (s .count) entries))
-      go true i = ap (λ (l : List ℕ). length l) (t .bytes) ∙ t .short i .1
+      go true i = t .short i .1
       go false i = ap sgeTotal (sym (entries-are i))
 
   own-are : ownBytes (requestBy s x) ≡ ownBy s entries
@@ -133,6 +133,7 @@ module _ (x : List ℕ) (s : SendRecord) (t : Told x s) where
   pub sending : totalBy s entries ≤ mostMessage → Sending s x entries (totalBy s entries)
   sending h =
       record {
+        size = t .size;
         plain = t .plain;
         total = refl;
         most = h;
@@ -212,13 +213,14 @@ module _ (l : List ℕ) (a : accepts l ≡ true) (q : ℕ) (x : List ℕ) (s : S
   pub own-below : q < qpCount
   own-below = qp-below l q (goes .live)
 
-  own-live : own .live ≡ 1
+  own-live : rowAt qpFlagT l q ≡ 1
   own-live = row-live l ok q (goes .live)
 
-  pub own-is : c .qp q ≡ liveQp own (rowAt waitingT l q) (receivesAt l q)
+  pub own-is : c .qp q ≡ liveQp (pairAt l q)
   own-is = qp-row l q own-below own-live
 
   pub peer-is : peerOf c q ≡ d
+  unfolding pairAt
   peer-is = ap (λ (k : Qp). orElse (k .dest) qpCount) own-is ∙ go (eqb d qpCount) refl
     where
       go : (b : Bool) → eqb d qpCount ≡ b → orElse (cond b none (some d)) qpCount ≡ d
@@ -231,13 +233,14 @@ module _ (l : List ℕ) (a : accepts l ≡ true) (q : ℕ) (x : List ℕ) (s : S
   pub far-below : d < qpCount
   far-below = qp-below l d peer-live
 
-  far-live : far .live ≡ 1
+  far-live : rowAt qpFlagT l d ≡ 1
   far-live = row-live l ok d peer-live
 
-  pub far-is : c .qp d ≡ liveQp far (rowAt waitingT l d) (receivesAt l d)
+  pub far-is : c .qp d ≡ liveQp (pairAt l d)
   far-is = qp-row l d far-below far-live
 
   pub first-below : rowAt waitingT l d .first < mostWaiting
+  unfolding pairAt
   first-below = pair-sound l ok d far-below far-live .first
 
   waiting-some : takes o ≡ true → 0 < rowAt waitingT l d .count
@@ -248,13 +251,14 @@ module _ (l : List ℕ) (a : accepts l ≡ true) (q : ℕ) (x : List ℕ) (s : S
   taken-is i = ap (λ (k : ℕ). getD (c .qp k .waiting) 0 noReceive) peer-is ∙ first-is l ok d far-below far-live (waiting-some i) ∙ rw i
 
   pub taken-count : w .count ≤ 2
+  unfolding pairAt
   taken-count = go (takes o) refl
     where
       go : (b : Bool) → takes o ≡ b → (cond {A = ReceiveRecord} b (rowAt receiveT l (mostWaiting * d + rowAt waitingT l d .first)) noRecord) .count ≤ 2
       go true i =
           let h : WaitingHead = rowAt waitingT l d in
           let y = pair-sound l ok d far-below far-live .waiting in
-          let z : posted h (receivesAt l d) ≡ getD (receivesAt l d) (h .first) noRecord ∷ ringList noRecord mostWaiting (receivesAt l d) ((h .first + 1) % mostWaiting) (h .count - 1) =
+          let z : posted (pairAt l d) ≡ getD (receivesAt l d) (h .first) noRecord ∷ ringList noRecord mostWaiting (receivesAt l d) ((h .first + 1) % mostWaiting) (h .count - 1) =
           ring-pop noRecord mostWaiting (receivesAt l d) (h .first) (h .count) (waiting-some i) in
           let u = all-first (getD (receivesAt l d) (h .first) noRecord) (ringList noRecord mostWaiting (receivesAt l d) ((h .first + 1) % mostWaiting) (h .count - 1)) (ap (all receiveOk) (sym z) ∙ y) in
           subst (λ (k : ReceiveRecord). k .count ≤ 2) (receive-at l d (h .first) first-below) u
@@ -272,6 +276,7 @@ module _ (l : List ℕ) (a : accepts l ≡ true) (q : ℕ) (x : List ℕ) (s : S
   theirs = allowsAll c (far .pd) (farMask o) (sgeBytes (farList s w n))
 
   mine-is : permitsAll c q (ownUse o) (ownBytes r) ≡ mine
+  unfolding pairAt
   mine-is =
       sym (allowed-all c q (ownUse o) (ownBytes r))
       ∙ ap (λ (k : Qp). allowsAll c (k .pd) (maskOf (ownUse o)) (ownBytes r)) own-is
@@ -288,6 +293,7 @@ module _ (l : List ℕ) (a : accepts l ≡ true) (q : ℕ) (x : List ℕ) (s : S
       go false i = ap (range (s .address) (s .key)) (total-is x s t) ∙ sym (append-nil (range (s .address) (s .key) n))
 
   theirs-is : permitsAll c (peerOf c q) (farUse o) (farBytes r (takenBy c q)) ≡ theirs
+  unfolding pairAt
   theirs-is =
       ap (λ (k : ℕ). permitsAll c k (farUse o) (farBytes r (takenBy c q))) peer-is
       ∙ sym (allowed-all c d (farUse o) (farBytes r (takenBy c q)))
@@ -340,12 +346,12 @@ module _ (l : List ℕ) (a : accepts l ≡ true) (q : ℕ) (x : List ℕ) (s : S
     moved-is i j = go (isInline s) refl
       where
         go : (b : Bool) → isInline s ≡ b →
-            cond b (stored m (places c (farList s w n)) (inlinePart x))
+            cond b (stored m (places c (farList s w n)) (inlineBytes x))
             (cond (reads o) (moved m (places c (farList s w n)) (places c (take (s .count) (entries x s t)))) (moved m (places c (take (s .count) (entries x s t))) (places c (farList s w n))))
             ≡ stored m (map (place c) (cond (reads o) (ownBytes r) (farBytes r (takenBy c q))))
             (cond b (inlineBytes x) (map (λ k. getD m (place c k) 0) (cond (reads o) (farBytes r (takenBy c q)) (ownBytes r))))
         go true k =
-            rw (t .there k, far-places j, t .bytes)
+            rw (t .there k, far-places j)
         go false k = both-ways (reads o) (farBytes r (takenBy c q)) (ownBytes r) (places c (farList s w n)) (places c (take (s .count) (entries x s t))) (far-places j) (own-places k i)
 
     pub memory-is : n ≤ mostMessage → (st : ℕ) → st ≡ sendStatus c q r → cond (eqb st 0) mem m ≡ sendMemory c q r m

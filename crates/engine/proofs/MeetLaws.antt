@@ -1,5 +1,5 @@
 -- How the tests of a sender and its peer end: one law for each answer. Assumes nothing.
-use mathlib.Core.Path.{_≡_, refl, sym, ap, _∙_}
+use mathlib.Core.Path.{_≡_, refl, sym, ap, subst, _∙_}
 use mathlib.Core.Bool.{Bool, true, false, cond, not, _&&_}
 use mathlib.Core.List.{List, [], _∷_}
 use mathlib.Core.Option.{Option, none, some}
@@ -7,15 +7,15 @@ use Prim.Native.Nat.{ℕ, _+_, _<_, _≤_}
 use native.Mathlib.Omega.{arith}
 use lib.Dec.{eqb, leb}
 use lib.ListN.{length, length-map}
-use borrow.Author.Tests.{eq-eqb, ne-eqb, eqb-true, ltb-true, leb-true}
+use borrow.Author.Tests.{eq-eqb, ne-eqb, eqb-true, leb-true}
 use Rattle.wire.proofs.RingLaws.{ring-length}
 use Rattle.wire.proofs.ScanLaws.{and-left, and-right}
 use Rattle.wire.specs.Table.{rowAt}
 use Rattle.tables.specs.Card.{cqLive, Receive, receiveOf}
 use Rattle.validate.specs.Accept.{isState}
-use Rattle.validate.proofs.AcceptedLaws.{Accepted}
-use Rattle.tables.specs.State.{card, posted, destOf, noCompletion, noRecord, receivesAt, entriesAt}
-use Rattle.tables.specs.Layout.{cqT, qpT, waitingT}
+use Rattle.validate.proofs.AcceptedLaws.{Accepted, accepted}
+use Rattle.tables.specs.State.{card, queueAt, pairAt, ringAt, receivesAt, posted, destOf, isLive, noCompletion, noRecord}
+use Rattle.tables.specs.Layout.{cqFlagT, cqT, qpFlagT, qpT, waitingT}
 use Rattle.tables.specs.Limits.{cqCount, qpCount, mostPlaces, mostWaiting}
 use Rattle.tables.proofs.ObjectLaws.{cq-below, cq-live, qp-out, qp-live, qp-row}
 use Rattle.validate.proofs.QueueLaws.{queue-is}
@@ -27,7 +27,7 @@ use Rattle.rules.specs.Send.{peerOf, deliveryChecks, canReceive, ready, room, h
 use Rattle.rules.specs.Touch.{takes}
 use Rattle.rules.specs.declared.Answer.the-variants.{Refused, Held}
 use Rattle.rules.specs.declared.Cause.the-variants.{Peer, Place}
-use Rattle.engine.specs.Send.{answers, placesBy, peerMeeting, metBy, meeting, endsAt}
+use Rattle.engine.specs.Meet.{answers, placesBy, peerMeeting, metBy, meeting, endsAt, Sender}
 use Rattle.engine.specs.declared.meet.Ends.{Ends}
 use Rattle.engine.specs.declared.meet.Meeting.{Meeting}
 use Rattle.engine.specs.declared.meet.Meeting.the-variants.{Pairs, Stopped}
@@ -79,10 +79,11 @@ module _ (l : List ℕ) (e : Ends) (o : ℕ) (t : Bool) (is : t ≡ takes o) (h 
 module _ (l : List ℕ) (ok : Accepted l) where
   -- the completion queue n, which is live
   room-is : (n k : ℕ) → cqLive (card l) n ≡ true → room (card l .cq n) k ≡ leb (rowAt cqT l n .count + k) (rowAt cqT l n .places)
+  unfolding queueAt
   room-is n k e =
       let b = cq-below l n e in
-      let p = ltb-true 0 (rowAt cqT l n .places) (sym (cq-live l n b) ∙ e) in
-      rw (queue-is l ok n b (λ z. omega arith), ring-length noCompletion mostPlaces (entriesAt l n) (rowAt cqT l n .first) (rowAt cqT l n .count))
+      let p : rowAt cqFlagT l n ≡ 1 = eqb-true (rowAt cqFlagT l n) 1 (sym (cq-live l n b) ∙ e) in
+      rw (queue-is l ok n b p, ring-length noCompletion mostPlaces (ringAt l n) (rowAt cqT l n .first) (rowAt cqT l n .count))
 
   module _ (q o : ℕ) where
     abbrev own : QueuePair
@@ -99,18 +100,21 @@ module _ (l : List ℕ) (ok : Accepted l) where
     no-pair h = rw (qp-out l q h)
 
     module _ (b : q < qpCount) where
-      pub not-live : (own .live ≡ 1 → ⊥) → Stopped (Refused 2) ≡ meeting l q o
+      pub not-live : isLive (rowAt qpFlagT l q) ≡ false → Stopped (Refused 2) ≡ meeting l q o
       unfolding deliveryChecks
-      not-live h = rw (qp-live l q b, ne-eqb (own .live) 1 h)
+      not-live h = rw (qp-live l q b, h)
 
-      module _ (live : own .live ≡ 1) where
+      module _ (is-live : isLive (rowAt qpFlagT l q) ≡ true) where
+        live : rowAt qpFlagT l q ≡ 1
+        live = eqb-true (rowAt qpFlagT l q) 1 is-live
+
         pub not-ready-to-send : (own .state ≡ 3 → ⊥) → Stopped (Refused 3) ≡ meeting l q o
-        unfolding deliveryChecks
+        unfolding deliveryChecks pairAt
         not-ready-to-send h = rw (qp-row l q b live, ne-eqb (own .state) 3 h)
 
         module _ (sending : own .state ≡ 3) where
-          pub no-destination : qpCount ≤ d → Stopped (Held Peer) ≡ meeting l q o
-          unfolding deliveryChecks
+          no-destination : qpCount ≤ d → Stopped (Held Peer) ≡ meeting l q o
+          unfolding deliveryChecks pairAt
           no-destination h =
               let s = pair-sound l ok q b live in
               let x : Bool = leb (own .signal) 1 && isState (own .state) in
@@ -119,36 +123,43 @@ module _ (l : List ℕ) (ok : Accepted l) where
               rw (qp-row l q b live, eq-eqb (own .state) 3 sending, z)
 
           module _ (h : d < qpCount) where
-            ready-is : ready (card l) q (some d) ≡ answers far q
-            ready-is = go (eqb (far .live) 1) refl
+            abbrev there : Bool
+            there = isLive (rowAt qpFlagT l d)
+
+            ready-is : ready (card l) q (some d) ≡ answers there far q
+            unfolding pairAt
+            ready-is = go there refl
               where
-                go : (x : Bool) → eqb (far .live) 1 ≡ x → ready (card l) q (some d) ≡ answers far q
-                go true e = rw (qp-row l d h (eqb-true (far .live) 1 e), e, names-is (far .dest) q b)
+                go : (x : Bool) → there ≡ x → ready (card l) q (some d) ≡ answers there far q
+                go true e = rw (qp-row l d h (eqb-true (rowAt qpFlagT l d) 1 e), e, names-is (far .dest) q b)
                 go false e = rw (qp-live l d h, e)
 
-            pub peer-not-ready : answers far q ≡ false → Stopped (Held Peer) ≡ meeting l q o
-            unfolding deliveryChecks
+            peer-not-ready : answers there far q ≡ false → Stopped (Held Peer) ≡ meeting l q o
+            unfolding deliveryChecks pairAt
             peer-not-ready a = rw (qp-row l q b live, eq-eqb (own .state) 3 sending, ne-eqb d qpCount (λ z. omega arith), ready-is, a)
 
-            module _ (a : answers far q ≡ true) where
-              pub far-live : far .live ≡ 1
+            module _ (a : answers there far q ≡ true) where
+              far-live : rowAt qpFlagT l d ≡ 1
               far-live =
-                  eqb-true (far .live) 1
-                  (and-left (eqb (far .live) 1) (canReceive (far .state)) (and-left (eqb (far .live) 1 && canReceive (far .state)) (eqb (far .dest) q) a))
+                  eqb-true (rowAt qpFlagT l d) 1 (and-left there (canReceive (far .state)) (and-left (there && canReceive (far .state)) (eqb (far .dest) q) a))
 
-              pub send-queue : own .scq < cqCount
+              send-queue : own .scq < cqCount
+              unfolding pairAt
               send-queue = cq-below l (own .scq) (pair-sound l ok q b live .sends)
 
-              pub receive-queue : far .rcq < cqCount
+              receive-queue : far .rcq < cqCount
+              unfolding pairAt
               receive-queue = cq-below l (far .rcq) (pair-sound l ok d h far-live .receives)
 
               waits-is : isEmpty (card l .qp d .waiting) ≡ eqb (rowAt waitingT l d .count) 0
+              unfolding pairAt
               waits-is =
                   empty-is (card l .qp d .waiting) (rowAt waitingT l d .count)
-                  (ap (λ (ws : List Receive). length ws) (waiting-is l ok d h far-live) ∙ length-map (posted (rowAt waitingT l d) (receivesAt l d)) receiveOf
+                  (ap (λ (ws : List Receive). length ws) (waiting-is l ok d h far-live) ∙ length-map (posted (pairAt l d)) receiveOf
                   ∙ ring-length noRecord mostWaiting (receivesAt l d) (rowAt waitingT l d .first) (rowAt waitingT l d .count))
 
               places-are : hasPlaces (card l) q d o ≡ placesBy (rowAt cqT l (own .scq)) (rowAt cqT l (far .rcq)) (eqb (own .scq) (far .rcq)) o
+              unfolding pairAt
               places-are =
                   rw (
                     qp-row l q b live,
@@ -158,13 +169,14 @@ module _ (l : List ℕ) (ok : Accepted l) where
                   )
 
               dest-is : card l .qp q .dest ≡ some d
+              unfolding pairAt
               dest-is = rw (qp-row l q b live, ne-eqb d qpCount (λ z. omega arith))
 
-              pub peer-is : peerOf (card l) q ≡ d
+              peer-is : peerOf (card l) q ≡ d
               peer-is = ap (λ (x : Option ℕ). orElse x qpCount) dest-is
 
-              pub met : peerMeeting l (endsAt l q) o ≡ meeting l q o
-              unfolding deliveryChecks
+              met : peerMeeting l (endsAt l q) o ≡ meeting l q o
+              unfolding deliveryChecks pairAt
               met =
                   both-ends (takes o && eqb (rowAt waitingT l d .count) 0)
                   (not (placesBy (rowAt cqT l (own .scq)) (rowAt cqT l (far .rcq)) (eqb (own .scq) (far .rcq)) o)) (endsAt l q)
@@ -172,8 +184,42 @@ module _ (l : List ℕ) (ok : Accepted l) where
                   (sym (last-two (takes o) (card l .qp q .live) (eqb (card l .qp q .state) 3) (ready (card l) q (card l .qp q .dest))
                   (isEmpty (card l .qp (peerOf (card l) q) .waiting)) (eqb (rowAt waitingT l d .count) 0) (hasPlaces (card l) q (peerOf (card l) q) o)
                   (placesBy (rowAt cqT l (own .scq)) (rowAt cqT l (far .rcq)) (eqb (own .scq) (far .rcq)) o)
-                  (qp-live l q b ∙ eq-eqb (own .live) 1 live)
+                  (qp-live l q b ∙ is-live)
                   (rw (qp-row l q b live) (eq-eqb (own .state) 3 sending))
                   (ap (ready (card l) q) dest-is ∙ ready-is ∙ a)
                   (ap (λ (n : ℕ). isEmpty (card l .qp n .waiting)) peer-is ∙ waits-is)
                   (ap (λ (n : ℕ). hasPlaces (card l) q n o) peer-is ∙ places-are)))
+
+-- ---- the same of the rows that the code has loaded
+
+module _ (l : List ℕ) (q o : ℕ) (own : QueuePair) (s : Sender l q own) where
+  ok : Accepted l
+  ok = accepted l (s .accepted)
+
+  sends : rowAt qpT l q .state ≡ 3
+  sends = subst (λ (p : QueuePair). p .state ≡ 3) (s .row) (s .sends)
+
+  pub no-peer : qpCount ≤ own .dest → Stopped (Held Peer) ≡ meeting l q o
+  no-peer h = no-destination l ok q o (s .below) (s .live) sends (subst (λ (p : QueuePair). qpCount ≤ p .dest) (s .row) h)
+
+  module _ (h : own .dest < qpCount) (live : Bool) (lives : live ≡ isLive (rowAt qpFlagT l (own .dest))) (far : QueuePair)
+      (at : far ≡ rowAt qpT l (own .dest)) where
+    named : rowAt qpT l q .dest < qpCount
+    named = subst (λ (p : QueuePair). p .dest < qpCount) (s .row) h
+
+    seen : answers (isLive (rowAt qpFlagT l (rowAt qpT l q .dest))) (rowAt qpT l (rowAt qpT l q .dest)) q ≡ answers live far q
+    seen = rw (lives, at, s .row)
+
+    pub peer-silent : answers live far q ≡ false → Stopped (Held Peer) ≡ meeting l q o
+    peer-silent a = peer-not-ready l ok q o (s .below) (s .live) sends named (seen ∙ a)
+
+    module _ (a : answers live far q ≡ true) where
+      pub queues-below : (own .scq < cqCount) × (far .rcq < cqCount)
+      queues-below =
+          rw (at, s .row) (
+            send-queue l ok q o (s .below) (s .live) sends named (seen ∙ a),
+            receive-queue l ok q o (s .below) (s .live) sends named (seen ∙ a),
+          )
+
+      pub peer-met : peerMeeting l (record { q = q; own = own; far = far }) o ≡ meeting l q o
+      peer-met = rw (at, s .row) (met l ok q o (s .below) (s .live) sends named (seen ∙ a))

@@ -6,7 +6,7 @@ use Prim.Native.Nat.{ℕ, zero, suc, _<_, _≤_}
 use native.Mathlib.Omega.{arith}
 use lib.Bits.{bitAnd}
 use lib.Dec.{eqb}
-use lib.ListN.{length, take}
+use lib.ListN.{take}
 use borrow.Author.Tests.{eq-eqb, ne-eqb, le-leb, lt-leb}
 use Rattle.tables.specs.Queue.{pushBytes}
 use Rattle.tables.specs.Records.{receiveSges}
@@ -16,19 +16,16 @@ use Rattle.tables.specs.declared.Sge.{Sge}
 use Rattle.rules.specs.Send.{consumes}
 use Rattle.rules.specs.Touch.{sgeTotal}
 use Rattle.rules.specs.Bytes.{pushAll}
-use Rattle.engine.specs.Send.{senderEntry, receiverEntry, receiverStatus, putFirst, putSecond}
+use Rattle.engine.specs.Settle.{senderEntry, receiverEntry, receiverStatus, putFirst, putSecond}
 use Rattle.engine.specs.declared.meet.Ends.{Ends}
 
 -- ---- a receive's entries, in a list of four
 
-pub receive-list : (w : ReceiveRecord) (x y : Sge) → w .count ≤ 2 →
-    take (w .count) (record { address = w .address0; length = w .length0; key = w .key0 } ∷ record { address = w .address1; length = w .length1; key = w .key1 } ∷ x ∷ y ∷ []) ≡ receiveSges w
+pub receive-list : (w : ReceiveRecord) (x y : Sge) → w .count ≤ 2 → take (w .count) (w .first ∷ w .second ∷ x ∷ y ∷ []) ≡ receiveSges w
 unfolding receiveSges
 receive-list w x y h = go (w .count) h
   where
-    go : (n : ℕ) → n ≤ 2 →
-        take n (record { address = w .address0; length = w .length0; key = w .key0 } ∷ record { address = w .address1; length = w .length1; key = w .key1 } ∷ x ∷ y ∷ [])
-        ≡ take n (record { address = w .address0; length = w .length0; key = w .key0 } ∷ record { address = w .address1; length = w .length1; key = w .key1 } ∷ [])
+    go : (n : ℕ) → n ≤ 2 → take n (w .first ∷ w .second ∷ x ∷ y ∷ []) ≡ take n (w .first ∷ w .second ∷ [])
     go zero h = refl
     go (suc zero) h = refl
     go (suc (suc zero)) h = refl

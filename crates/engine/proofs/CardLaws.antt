@@ -3,31 +3,34 @@ use mathlib.Core.Path.{_≡_, refl, sym, ap, subst, _∙_}
 use mathlib.Core.Bool.{Bool, true, false, cond, not, _&&_, false≢true}
 use mathlib.Core.List.{List, [], _∷_}
 use Prim.Native.Nat.{ℕ, _+_, _<_, _≤_}
+use native.Mathlib.Decide.{decLt}
 use native.Mathlib.Omega.{arith}
 use lib.Dec.{eqb, leb}
 use lib.ListN.{length, length-map}
-use borrow.Author.Tests.{eq-eqb, eqb-true, lt-ltb}
+use borrow.Author.Tests.{eq-eqb, eqb-true}
 use Rattle.wire.specs.Codec.{Fit, Fits}
+use Rattle.wire.specs.Table.{rowAt, putRow}
 use Rattle.wire.proofs.RingLaws.{ring-length}
 use Rattle.wire.proofs.ScanLaws.{and-left, and-right}
-use Rattle.wire.specs.Slots.{upd}
-use Rattle.wire.specs.Table.{rowAt}
-use Rattle.tables.specs.Card.{cqLive, Card, Cq, Qp, Receive, withCq, withQp, tail, withWaiting, receiveOf}
-use Rattle.validate.specs.Accept.{completionOk, isState, pairOk}
-use Rattle.validate.proofs.AcceptedLaws.{Accepted, pairing}
-use Rattle.tables.specs.State.{card, cqOf, qpOf, posted, noCompletion, noRecord, receivesAt, entriesAt}
-use Rattle.tables.specs.Kept.{qp-stored}
-use Rattle.tables.specs.Layout.{cqT, entryT, qpT, waitingT}
+use Rattle.wire.proofs.SlotLaws.{slot-out}
+use Rattle.tables.specs.Card.{Card, Cq, Qp, Receive, cqLive, withCq, withQp, tail, withWaiting, receiveOf, freeCq}
+use Rattle.tables.specs.Layout.{cqFlagT, cqT, qpFlagT, qpT, waitingT, pairCodec}
 use Rattle.tables.specs.Limits.{cqCount, qpCount, mostPlaces, mostWaiting}
-use Rattle.tables.proofs.ObjectLaws.{cq-is, cq-below, qp-below, qp-live, qp-row}
 use Rattle.tables.specs.Queue.{pushBytes}
-use Rattle.validate.proofs.QueueLaws.{queue-is, push-card, push-accepted}
-use Rattle.tables.specs.Stores.{card-qp, qp-fits}
-use Rattle.validate.proofs.WaitingLaws.{pair-sound, waiting-is, take-card, take-accepted}
+use Rattle.tables.specs.Records.{completionCodec}
+use Rattle.tables.specs.State.{PairRows, card, cqOf, qpOf, queueAt, pairAt, ringAt, receivesAt, posted, noCompletion, noRecord}
 use Rattle.tables.specs.declared.QueuePair.{QueuePair}
+use Rattle.tables.proofs.KindLaws.{pair-card}
+use Rattle.tables.proofs.ObjectLaws.{cq-is, qp-below, qp-flag, qp-row}
+use Rattle.tables.proofs.StoreLaws.{pair-fits, qp-row-only, qp-row-at}
+use Rattle.validate.specs.Accept.{completionOk, isState, pairOk, qpSound}
+use Rattle.validate.proofs.AcceptedLaws.{Accepted, pairing}
+use Rattle.validate.proofs.KeptLaws.{pair-accepted}
+use Rattle.validate.proofs.QueueLaws.{queue-is, push-card, push-accepted}
+use Rattle.validate.proofs.WaitingLaws.{pair-sound, waiting-is, take-card, take-accepted}
+use Rattle.rules.specs.Bytes.{pushAll, erring, errorBytes, consumeBytes}
 use Rattle.rules.specs.Lists.{isEmpty}
 use Rattle.rules.specs.Send.{Put, pushed, putAll, inError, errorIf, consumeIf}
-use Rattle.rules.specs.Bytes.{pushAll, erring, errorBytes, consumeBytes}
 
 -- the bytes l are accepted and mean the card c
 pub record Stands (l : List ℕ) (c : Card) : Type 0 where
@@ -39,24 +42,43 @@ pub record Stands (l : List ℕ) (c : Card) : Type 0 where
 -- the queue has a free place, and the completion is within its limits
 pub record Can (c : Card) (p : Put) : Type 0 where
   pub room : length (c .cq (p .cqn) .entries) + 1 ≤ c .cq (p .cqn) .places
-  pub fits : Fits entryT (p .entry)
+  pub fits : Fits completionCodec (p .entry)
   pub good : completionOk (p .entry) ≡ true
 
 -- what a queue with a free place is in the state
 pub record Open (l : List ℕ) (n : ℕ) : Type 0 where
   pub below : n < cqCount
-  pub live : rowAt cqT l n .places ≡ 0 → ⊥
+  pub live : rowAt cqFlagT l n ≡ 1
   pub free : rowAt cqT l n .count < rowAt cqT l n .places
+
+cq-out : (l : List ℕ) (n : ℕ) → cqCount ≤ n → card l .cq n ≡ freeCq
+unfolding card
+cq-out l n h = slot-out cqCount freeCq (λ i. cqOf (queueAt l i)) n h
+
+-- a completion queue that has places is live
+has-live : (l : List ℕ) (n : ℕ) → 0 < card l .cq n .places → (n < cqCount) × (rowAt cqFlagT l n ≡ 1)
+unfolding cqOf queueAt
+has-live l n h =
+    elim (decLt n cqCount) [
+      | yes b ↦ (b, eqb-true (rowAt cqFlagT l n) 1 (go b (eqb (rowAt cqFlagT l n) 1) refl))
+      | no b ↦ (let e : card l .cq n .places ≡ 0 = ap (λ (q : Cq). q .places) (cq-out l n (omega arith)) in absurd (omega arith))
+    ]
+  where
+    go : n < cqCount → (b : Bool) → eqb (rowAt cqFlagT l n) 1 ≡ b → b ≡ true
+    go b true e = refl
+    go b false e = let z : card l .cq n .places ≡ 0 = rw (cq-is l n b, e) in absurd (omega arith)
 
 module _ (l : List ℕ) (ok : Accepted l) where
   pub opened : (n : ℕ) → length (card l .cq n .entries) + 1 ≤ card l .cq n .places → Open l n
-  unfolding cqOf
+  unfolding queueAt
   opened n r =
-      let b : n < cqCount = cq-below l n (lt-ltb 0 (card l .cq n .places) (omega arith)) in
-      let p : card l .cq n .places ≡ rowAt cqT l n .places = ap (λ (s : Cq). s .places) (cq-is l n b) in
-      let live : rowAt cqT l n .places ≡ 0 → ⊥ = λ z. omega arith in
+      let s = has-live l n (omega arith) in
+      let b : n < cqCount = s .0 in
+      let live : rowAt cqFlagT l n ≡ 1 = s .1 in
+      let q = queue-is l ok n b live in
+      let p : card l .cq n .places ≡ rowAt cqT l n .places = ap (λ (s : Cq). s .places) q in
       let e : length (card l .cq n .entries) ≡ rowAt cqT l n .count =
-      ap (λ (s : Cq). length (s .entries)) (queue-is l ok n b live) ∙ ring-length noCompletion mostPlaces (entriesAt l n) (rowAt cqT l n .first) (rowAt cqT l n .count) in
+      ap (λ (s : Cq). length (s .entries)) q ∙ ring-length noCompletion mostPlaces (ringAt l n) (rowAt cqT l n .first) (rowAt cqT l n .count) in
       record { below = b; live = live; free = omega arith }
 
   pub push-stands : (p : Put) → Can (card l) p → Stands (pushBytes l (p .cqn) (p .entry)) (withCq (card l) (pushed p (card l .cq)))
@@ -82,11 +104,11 @@ push-all (p ∷ ps) l ok can =
 
 -- ---- a queue pair in error
 
-erring-fits : (l : List ℕ) (n : ℕ) → Fits qpT (erring (rowAt qpT l n))
-unfolding qpT Fit
+erring-fits : (l : List ℕ) (n : ℕ) → Fits pairCodec (erring (rowAt qpT l n))
+unfolding pairCodec Fit
 erring-fits l n =
-    let g = qp-fits l n in
-    (g .0, (g .1 .0, (g .1 .1 .0, (g .1 .1 .1 .0, (g .1 .1 .1 .1 .0, (omega arith, (g .1 .1 .1 .1 .1 .1 .0, tt)))))))
+    let g = pair-fits l n in
+    (g .0, (g .1 .0, (g .1 .1 .0, (g .1 .1 .1 .0, (omega arith, (g .1 .1 .1 .1 .1 .0, (omega arith, (omega arith, tt))))))))
 
 erring-ok : (n : ℕ) (p : QueuePair) → pairOk n p ≡ true → pairOk n (erring p) ≡ true
 erring-ok n p e =
@@ -101,33 +123,42 @@ module _ (l : List ℕ) (ok : Accepted l) (q : ℕ) (live : card l .qp q .live �
   below : q < qpCount
   below = qp-below l q live
 
-  pub row-live : rowAt qpT l q .live ≡ 1
-  row-live = eqb-true (rowAt qpT l q .live) 1 (sym (qp-live l q below) ∙ live)
+  pub row-live : rowAt qpFlagT l q ≡ 1
+  row-live = qp-flag l q live
+
+  -- the rows of the queue pair in error
+  abbrev after : PairRows
+  after = record { flag = rowAt qpFlagT l q; row = erring (rowAt qpT l q); head = rowAt waitingT l q; ring = receivesAt l q }
+
+  after-is : pairAt (putRow qpT l q (erring (rowAt qpT l q))) q ≡ after
+  unfolding pairAt qpT
+  after-is = qp-row-at l q below (erring (rowAt qpT l q)) (ok .sized) (erring-fits l q)
+
+  after-means : qpOf after ≡ inError (card l .qp q)
+  unfolding qpOf pairAt
+  after-means = rw (qp-row l q below row-live, eq-eqb (rowAt qpFlagT l q) 1 row-live)
+
+  after-sound : qpSound (card l .pd) (cqLive (card l)) q after ≡ true
+  unfolding pairAt
+  after-sound =
+      let s = pair-sound l ok q below row-live in
+      pairing (card l .pd) (cqLive (card l)) q after
+      (record {
+        live = s .live;
+        domain = s .domain;
+        sends = s .sends;
+        receives = s .receives;
+        limits = erring-ok q (rowAt qpT l q) (s .limits);
+        first = s .first;
+        count = s .count;
+        waiting = s .waiting;
+      })
 
   pub error-stands : (b : Bool) → Stands (errorBytes b l q) (withQp (card l) (errorIf b q (card l .qp)))
-  unfolding qpOf
   error-stands false = record { is = refl; ok = ok }
   error-stands true =
-      let p : QueuePair = rowAt qpT l q in
-      let s = pair-sound l ok q below row-live in
-      let e : qpOf (erring p) (rowAt waitingT l q) (receivesAt l q) ≡ inError (card l .qp q) =
-      rw (qp-row l q below row-live, eq-eqb (p .live) 1 row-live) in
-      record {
-        is = card-qp l q (ok .sized) (erring p) below (erring-fits l q) ∙ ap (λ (x : Qp). withQp (card l) (upd (card l .qp) q x)) e;
-        ok =
-            qp-stored l ok q (erring p) below (erring-fits l q)
-            (pairing (card l .pd) (cqLive (card l)) q (erring p) (rowAt waitingT l q) (receivesAt l q)
-            (record {
-              live = s .live;
-              domain = s .domain;
-              sends = s .sends;
-              receives = s .receives;
-              limits = erring-ok q p (s .limits);
-              first = s .first;
-              count = s .count;
-              waiting = s .waiting;
-            }));
-      }
+      let o = qp-row-only l q below (erring (rowAt qpT l q)) in
+      record { is = pair-card below o ∙ rw (after-is, after-means); ok = pair-accepted ok o (rw after-is after-sound) }
 
   -- ---- a receive that is consumed
 
@@ -136,9 +167,10 @@ module _ (l : List ℕ) (ok : Accepted l) (q : ℕ) (live : card l .qp q .live �
   some-length (w ∷ ws) e = omega arith
 
   pub some-wait : isEmpty (card l .qp q .waiting) ≡ false → 0 < rowAt waitingT l q .count
+  unfolding pairAt
   some-wait e =
       let n : length (card l .qp q .waiting) ≡ rowAt waitingT l q .count =
-      ap (λ (ws : List Receive). length ws) (waiting-is l ok q below row-live) ∙ length-map (posted (rowAt waitingT l q) (receivesAt l q)) receiveOf
+      ap (λ (ws : List Receive). length ws) (waiting-is l ok q below row-live) ∙ length-map (posted (pairAt l q)) receiveOf
       ∙ ring-length noRecord mostWaiting (receivesAt l q) (rowAt waitingT l q .first) (rowAt waitingT l q .count) in
       let h = some-length (card l .qp q .waiting) e in
       omega arith

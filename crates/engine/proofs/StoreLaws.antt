@@ -14,7 +14,7 @@ use Rattle.wire.specs.Table.{rowAt}
 use Rattle.validate.specs.Accept.{accepts}
 use Rattle.validate.proofs.AcceptedLaws.{Accepted}
 use Rattle.tables.specs.Card.{Card, Qp, withCq, receiveOf}
-use Rattle.tables.specs.State.{card}
+use Rattle.tables.specs.State.{card, queueAt, pairAt}
 use Rattle.tables.specs.Layout.{cqT, qpT, waitingT}
 use Rattle.tables.specs.Limits.{mostPlaces}
 use Rattle.validate.proofs.QueueLaws.{queue-sound}
@@ -24,10 +24,12 @@ use Rattle.tables.specs.declared.SendRecord.{SendRecord}
 use Rattle.rules.specs.Send.{Put, deliveryChecks, sendStatus, consumes, sendPuts, senderPut, receiverPut, putAll, pushed}
 use Rattle.rules.specs.Touch.{Request, requestOf, takes, total}
 use Rattle.rules.specs.Bytes.{pushAll, errorBytes, sendBytes}
-use Rattle.engine.specs.Send.{bare, endsAt, takenRow, senderEntry, receiverEntry, putFirst, putSecond, putBytes, failedBytes, settled, Settling}
-use Rattle.engine.specs.SendCard.{Stands, CanAll, Open, opened, push-all}
-use Rattle.engine.specs.SendDone.{can-put, send-open, waits-then, send-fits}
-use Rattle.engine.specs.SendRequest.{requestBy, Told, entries, ok, tests, own-below, own-is, peer-is, far-below, far-is, taken-is, taken-count}
+use Rattle.engine.specs.Meet.{bare, endsAt}
+use Rattle.engine.specs.Deliver.{takenRow}
+use Rattle.engine.specs.Settle.{senderEntry, receiverEntry, putFirst, putSecond, putBytes, failedBytes, settled, Settling}
+use Rattle.engine.proofs.CardLaws.{Stands, CanAll, Open, opened, push-all}
+use Rattle.engine.proofs.OwedLaws.{can-put, send-open, waits-then, send-fits}
+use Rattle.engine.proofs.RequestLaws.{requestBy, Told, entries, ok, tests, own-below, own-is, peer-is, far-below, far-is, taken-is, taken-count}
 use Rattle.engine.specs.declared.meet.Ends.{Ends}
 
 -- ---- completions in two parts
@@ -49,6 +51,7 @@ can-second (p ∷ ps) qs c k = can-second ps qs (withCq c (pushed p (c .cq))) (k
 
 -- the place that an open queue has
 open-place : (l : List ℕ) → Accepted l → (n : ℕ) → Open l n → rowAt cqT l n .count < mostPlaces
+unfolding queueAt
 open-place l k n o =
     let h = queue-sound l k n (o .below) (o .live) .most in
     let f = o .free in
@@ -85,13 +88,15 @@ module _ (l : List ℕ) (a : accepts l ≡ true) (q : ℕ) (x : List ℕ) (s : S
         go false i = refl
 
     first-is : senderPut c q r st ≡ record { cqn = e .own .scq; entry = senderEntry e s st k }
+    unfolding pairAt
     first-is = rw (own-is l a q x s t good, length-is)
 
     firsts : cond (not (eqb st 0) || eqb (c .qp q .signal) 0 || r .signaled) (senderPut c q r st ∷ []) [] ≡ putFirst e s st k
+    unfolding pairAt
     firsts = rw (first-is, own-is l a q x s t good)
 
     second-is : consumes o st ≡ true → receiverPut c q r st ≡ record { cqn = e .far .rcq; entry = receiverEntry e s w st k }
-    unfolding receiveOf
+    unfolding receiveOf pairAt
     second-is i =
         let y : takes o ≡ true = and-left (takes o) (eqb st 0 || eqb st 7) i in
         let z : total r ≡ k = told (and-right (takes o) (eqb st 0 || eqb st 7) i) in
@@ -148,6 +153,7 @@ module _ (l : List ℕ) (a : accepts l ≡ true) (q : ℕ) (x : List ℕ) (s : S
         (subst (λ (z : Card). length (z .cq (e .far .rcq) .entries) + 1 ≤ z .cq (e .far .rcq) .places) (sym (first-stands .is)) (y .0 .room))
 
     first-open : Open l (e .own .scq)
+    unfolding pairAt
     first-open = subst (λ (y : Qp). Open l (y .scq)) (own-is l a q x s t good) (send-open l (ok l a q x s t good) q r wr imm (tests l a q x s t good))
 
     then-waits : consumes o st ≡ true → 0 < rowAt waitingT (failedBytes l e s w st k) d .count

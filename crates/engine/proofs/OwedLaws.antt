@@ -10,19 +10,19 @@ use lib.ListN.{length}
 use borrow.Author.Tests.{eq-eqb, ne-eqb}
 use Rattle.wire.specs.Checks.{Check, refusal, Passed}
 use Rattle.wire.proofs.CheckLaws.{passed}
-use Rattle.wire.specs.Codec.{Fit, fieldsAt, Fits}
+use Rattle.wire.specs.Codec.{Fit, Fits, fieldsAt, decode}
 use Rattle.wire.proofs.CodecLaws.{fieldsAt-fit}
 use Rattle.wire.proofs.ScanLaws.{and-left, and-right}
 use Rattle.wire.specs.Scan.{all}
 use Rattle.wire.specs.Table.{rowAt}
 use Rattle.validate.specs.Accept.{accepts}
-use Rattle.validate.proofs.AcceptedLaws.{Accepted, accepted, accepting}
+use Rattle.validate.proofs.AcceptedLaws.{Accepted, accepted}
 use Rattle.tables.specs.Card.{Card, Qp, withCq, withQp, receiveOf}
 use Rattle.tables.specs.State.{card}
 use Rattle.tables.specs.Layout.{receiveT, waitingT}
 use Rattle.tables.specs.Limits.{mostWaiting}
 use Rattle.tables.proofs.ObjectLaws.{qp-below}
-use Rattle.tables.specs.Records.{sendCodec, sendChecks, sendRead, sendReadBy}
+use Rattle.tables.specs.Records.{receiveCodec, sendCodec, sendChecks, sendRead, sendReadBy}
 use Rattle.tables.proofs.StoreLaws.{receive-fits}
 use Rattle.validate.proofs.WaitingLaws.{first-is}
 use Rattle.tables.specs.declared.SendRead.the-variants as send
@@ -34,12 +34,13 @@ use Rattle.rules.specs.Calls.{checks, owedChecks, statusOf, effect, memoryAfter
 use Rattle.rules.specs.Lists.{isEmpty}
 use Rattle.rules.specs.Send.{peerOf, takenBy, deliveryChecks, sendStatus, consumes, sendPuts, putAll, errorIf, consumeIf, sendQps, sendEffect, sendMemory}
 use Rattle.rules.specs.Touch.{Request, requestOf, takes}
-use Rattle.rules.proofs.Meeting.{refused-meets, done-meets}
+use Rattle.rules.proofs.Exported.{refused-owes, done-owes}
 use Rattle.rules.proofs.Tests.{firstOf, refusal-append}
 use Rattle.rules.specs.Bytes.{pushAll, errorBytes, consumeBytes, sendBytes, effectBytes}
 use Rattle.rules.specs.Contract.{Owes}
-use Rattle.engine.specs.SendCard.{Stands, CanAll, Open, opened, push-all, row-live, some-wait, error-stands, consume-stands, error-keeps, consume-keeps}
-use Rattle.engine.specs.SendLimits.{Going, going, sender-can, can-all}
+use Rattle.engine.specs.Send.{Ran}
+use Rattle.engine.proofs.CardLaws.{Stands, CanAll, Open, opened, push-all, row-live, some-wait, error-stands, consume-stands, error-keeps, consume-keeps}
+use Rattle.engine.proofs.LimitLaws.{Going, going, sender-can, can-all}
 
 -- ---- the card
 
@@ -61,7 +62,7 @@ module _ (l : List ℕ) (ok : Accepted l) (q : ℕ) (r : Request) (wr : r .wr < 
   g = going c q r p
 
   taken : takes (r .opcode) ≡ true → takenBy c q .wr < 2 ^ 64
-  unfolding receiveOf receiveT Fit
+  unfolding receiveOf receiveT receiveCodec Fit
   taken t =
       let w = some-wait l ok d (g .peer) (g .waits t) in
       let n : ℕ = mostWaiting * d + rowAt waitingT l d .first in
@@ -124,22 +125,6 @@ module _ (l : List ℕ) (ok : Accepted l) (q : ℕ) (r : Request) (wr : r .wr < 
       let z = error-stands l3 (s3 .ok) d (ap (λ (k : Card). k .qp d .live) (s3 .is) ∙ consume-keeps (consumes (r .opcode) s) d f2 d ∙ f2-live) (eqb s 7) in
       record { is = z .is ∙ rw (s3 .is); ok = z .ok }
 
--- ---- the part of a post send after its lent bytes were tested
-
-abbrev pub ranBytes : Option ℕ → List ℕ → ℕ → Request → List ℕ
-ranBytes none l q r = sendBytes l q r
-ranBytes (some n) l q r = l
-
-abbrev pub ranMemory : Option ℕ → List ℕ → ℕ → Request → List ℕ → List ℕ
-ranMemory none l q r m = sendMemory (card l) q r m
-ranMemory (some n) l q r m = m
-
--- the request r on the queue pair q answers a and leaves the state l′ and the memory m′
-pub record Ran (l : List ℕ) (q : ℕ) (r : Request) (m : List ℕ) (a : Answer) (l′ m′ : List ℕ) : Type 0 where
-  pub answer : a ≡ answered (sendStatus (card l) q r) (refusal (deliveryChecks (card l) q r))
-  pub bytes : l′ ≡ ranBytes (refusal (deliveryChecks (card l) q r)) l q r
-  pub memory : m′ ≡ ranMemory (refusal (deliveryChecks (card l) q r)) l q r m
-
 -- ---- each ending
 
 -- none of the tests holds a call
@@ -167,16 +152,13 @@ module _ (l : List ℕ) (q : ℕ) (x m : List ℕ) where
   abbrev k : Call
   k = Call.send q x m
 
-  refused : (n : ℕ) → refusal (owedChecks card accepts l k) ≡ some n → Owes l k (answered 0 (some n)) l m []
-  refused n e = record { meets = refused-meets card accepts l k n e; bytes = rw e }
-
   pub not-accepted : accepts l ≡ false → Owes l k (Refused 15) l m []
-  not-accepted e = refused 15 (rw e)
+  not-accepted e = refused-owes l k 15 (rw e)
 
   module _ (a : accepts l ≡ true) where
     pub other-memory : (length m ≡ card l .memory → ⊥) → Owes l k (Refused 7) l m []
     unfolding checks
-    other-memory e = refused 7 (rw (a, ne-eqb (length m) (card l .memory) e))
+    other-memory e = refused-owes l k 7 (rw (a, ne-eqb (length m) (card l .memory) e))
 
     module _ (whole : length m ≡ card l .memory) where
       rest-is : refusal (owedChecks card accepts l k) ≡ firstOf (refusal (sendChecks x)) (refusal (deliveryChecks (card l) q (requestOf x)))
@@ -196,7 +178,7 @@ module _ (l : List ℕ) (q : ℕ) (x m : List ℕ) where
           go (some i′) i e =
               let z : n ≡ i′ = cc in
               let j : refusal (sendChecks x) ≡ some n = i ∙ ap (λ (y : ℕ). some y) (sym z) in
-              subst (λ y. Owes l k y l m []) (firm-answer n (firm-refusal (sendChecks x) firm-record n j)) (refused n (rest-is ∙ rw j))
+              subst (λ y. Owes l k y l m []) (firm-answer n (firm-refusal (sendChecks x) firm-record n j)) (refused-owes l k n (rest-is ∙ rw j))
 
       module _ (good : refusal (sendChecks x) ≡ none) (r : Answer) (l′ m′ : List ℕ) where
         pub ran : Ran l q (requestOf x) m r l′ m′ → Owes l k r l′ m′ []
@@ -211,10 +193,10 @@ module _ (l : List ℕ) (q : ℕ) (x m : List ℕ) where
                 let er : r ≡ Done (sendStatus (card l) q (requestOf x)) = w .answer ∙ rw e in
                 let el : l′ ≡ sendBytes l q (requestOf x) = w .bytes ∙ rw e in
                 let em : m′ ≡ sendMemory (card l) q (requestOf x) m = w .memory ∙ rw e in
-                rw (er, el, em) (record { meets = done-meets card accepts l k e0 (sendBytes l q (requestOf x)) (z .is) (accepting (sendBytes l q (requestOf x)) (z .ok)); bytes = rw e0 })
+                rw (er, em) (done-owes l k e0 (z .is) (z .ok) l′ el)
             go (some n) e =
                 let e0 : refusal (owedChecks card accepts l k) ≡ some n = rest-is ∙ rw (good, e) in
                 let er : r ≡ answered 0 (some n) = w .answer ∙ rw e in
                 let el : l′ ≡ l = w .bytes ∙ rw e in
                 let em : m′ ≡ m = w .memory ∙ rw e in
-                rw (er, el, em) (refused n e0)
+                rw (er, el, em) (refused-owes l k n e0)

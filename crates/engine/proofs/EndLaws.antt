@@ -1,12 +1,13 @@
 -- A post send that passed all tests, as its code ends: what each part asks and leaves. Assumes nothing.
 use mathlib.Core.Path.{_≡_, refl, sym, ap, subst, _∙_}
-use mathlib.Core.Bool.{true, false, _||_, false≢true}
+use mathlib.Core.Bool.{true, _||_, false≢true}
 use mathlib.Core.List.{List}
 use mathlib.Core.Option.{Option, none, some}
 use Prim.Native.Nat.{ℕ, _≤_, _<_}
 use native.Mathlib.Omega.{arith}
 use lib.Dec.{eqb}
 use Rattle.wire.specs.Checks.{refusal}
+use Rattle.wire.specs.Codec.{decode}
 use Rattle.wire.specs.Rows.{rows}
 use Rattle.wire.specs.Table.{rowAt}
 use Rattle.validate.specs.Accept.{accepts}
@@ -23,10 +24,12 @@ use Rattle.rules.specs.declared.Answer.{Answer}
 use Rattle.rules.specs.declared.Answer.the-variants.{Done}
 use Rattle.rules.specs.Send.{deliveryChecks, sendStatus}
 use Rattle.rules.specs.Touch.{Request, requestOf, total}
-use Rattle.engine.specs.Send.{bare, endsAt, metBy, meeting, totalBy, takenRow, settled, Settling, Sending, Delivery, Posted, Met, Carried}
-use Rattle.engine.specs.SendDone.{Ran}
-use Rattle.engine.specs.SendRequest.{requestBy, Told, told, total-is, sending, far-below, first-below, taken-count, too-long, status-within, long-memory, memory-is}
-use Rattle.engine.specs.SendWhole.{settled-is, settling}
+use Rattle.engine.specs.Meet.{bare, endsAt, metBy, meeting}
+use Rattle.engine.specs.Deliver.{totalBy, takenRow, Sending, Delivery}
+use Rattle.engine.specs.Settle.{settled, Settling}
+use Rattle.engine.specs.Send.{Posted, Met, Carried, Ran}
+use Rattle.engine.proofs.RequestLaws.{requestBy, Told, told, total-is, sending, far-below, first-below, taken-count, too-long, status-within, long-memory, memory-is}
+use Rattle.engine.proofs.StoreLaws.{settled-is, settling}
 use Rattle.engine.specs.declared.meet.Ends.{Ends}
 use Rattle.engine.specs.declared.meet.Meeting.the-variants.{Pairs, Stopped}
 

@@ -18,7 +18,7 @@ use Rattle.rules.specs.Touch.{fills, sgeBytes, sgeTotal}
 use Rattle.rules.proofs.Runs.{cut, cut-total}
 use Rattle.dma.specs.Grants.{allowsAll}
 use Rattle.dma.specs.Ranges.{permitted-mapped-all}
-use Rattle.engine.specs.Send.{ownMask, farMask, ownBy, farList, farCount, Sending, Delivery, Carries, carried}
+use Rattle.engine.specs.Deliver.{ownMask, farMask, ownBy, farList, farCount, Sending, Delivery, Carries, carried}
 use Rattle.engine.specs.declared.meet.Ends.{Ends}
 
 -- ---- the order of the tests
@@ -99,6 +99,7 @@ module _ (l m : List ℕ) (e : Ends) (s : SendRecord) (x : List ℕ) (sges : Lis
         pub carries : Sending s x sges n → Carries (card l) s x (take (s .count) sges) list n
         carries y =
             record {
+              size = y .size;
               most = y .most;
               target = permitted-mapped-all (card l) (e .far .pd) (farMask o) (sgeBytes list) (rw is z);
               total = rw is (far-total (fills o) k);

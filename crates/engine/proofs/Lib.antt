@@ -1,0 +1,10 @@
+pub mod CardLaws
+pub mod LimitLaws
+pub mod OwedLaws
+pub mod MeetLaws
+pub mod SettleLaws
+pub mod MoveLaws
+pub mod StatusLaws
+pub mod RequestLaws
+pub mod StoreLaws
+pub mod EndLaws

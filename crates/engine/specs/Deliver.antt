@@ -1,0 +1,93 @@
+-- Steps 3 to 6 of document 01, "Posting and delivering": the total, what must be permitted, the status, and the message moved. In each
+-- definition s begins the send record x, sges are its scatter/gather entries, of which it has count, w is the receive that it takes, and n
+-- the number of bytes of the message. Assumes nothing.
+use mathlib.Core.Path.{_≡_}
+use mathlib.Core.Bool.{true, false, cond}
+use mathlib.Core.List.{List, [], _∷_}
+use Prim.Native.Nat.{ℕ, _+_, _*_, _%_, _≤_}
+use lib.Dec.{eqb, leb}
+use lib.ListN.{length, take}
+use Rattle.wire.specs.Table.{rowAt}
+use Rattle.tables.specs.Card.{Card}
+use Rattle.tables.specs.Layout.{waitingT, receiveT}
+use Rattle.tables.specs.Limits.{mostWaiting, mostMessage, mostInline}
+use Rattle.tables.specs.Records.{isInline, inlineBytes, receiveSges}
+use Rattle.tables.specs.State.{card, noRecord}
+use Rattle.tables.specs.declared.ReceiveRecord.{ReceiveRecord}
+use Rattle.tables.specs.declared.SendRecord.{SendRecord}
+use Rattle.tables.specs.declared.Sge.{Sge}
+use Rattle.rules.specs.Lists.{stored}
+use Rattle.rules.specs.Send.{statusBy}
+use Rattle.rules.specs.Touch.{Byte, takes, fills, reads, sgeBytes, sgeTotal}
+use Rattle.rules.proofs.Runs.{cut}
+use Rattle.dma.specs.Grants.{allowsAll, mappedAll, places}
+use Rattle.dma.specs.Places.{moved}
+use Rattle.engine.specs.declared.meet.Ends.{Ends}
+
+-- ---- what is touched
+
+-- "Oldest receive first": the receive that a request of opcode o takes from queue pair d
+abbrev pub takenRow : List ℕ → (d o : ℕ) → ReceiveRecord
+takenRow l d o = cond (takes o) (rowAt receiveT l (mostWaiting * d + rowAt waitingT l d .first)) noRecord
+
+-- "Total (the inline length, or the pieces' sum)"
+abbrev pub totalBy : SendRecord → List Sge → ℕ
+totalBy s sges = cond (isInline s) (s .count % 65536) (sgeTotal (take (s .count) sges))
+
+-- the sender's side; "Inline bytes aren't judged"
+abbrev pub ownBy : SendRecord → List Sge → List Byte
+ownBy s sges = cond (isInline s) [] (sgeBytes (take (s .count) sges))
+
+-- the peer's side: "The first total bytes of that list" of the receive, or "remote range (total bytes from the remote address)"
+abbrev pub farList : SendRecord → ReceiveRecord → (n : ℕ) → List Sge
+farList s w n = cond (fills (s .opcode)) (cut n (receiveSges w)) (record { address = s .address; length = n; key = s .key } ∷ [])
+
+abbrev pub farCount : (opcode : ℕ) → ReceiveRecord → ℕ
+farCount o w = cond (fills o) (w .count) 1
+
+-- "local reading none, local writing bit 1, remote write 2, remote read 4": the sender's "for reading (opcode 4: for writing)"
+abbrev pub ownMask : (opcode : ℕ) → ℕ
+ownMask o = cond (reads o) 1 0
+
+-- the peer's "for local writing", or "for remote write (opcode 4: remote read)"
+abbrev pub farMask : (opcode : ℕ) → ℕ
+farMask o = cond (fills o) 1 (cond (reads o) 4 2)
+
+-- ---- the message moved
+
+-- what the move asks: both sides lie in live regions and have n bytes
+pub record Carries (c : Card) (s : SendRecord) (x : List ℕ) (own far : List Sge) (n : ℕ) : Type 0 where
+  pub size : 576 ≤ length x
+  pub most : n ≤ mostMessage
+  pub target : mappedAll c (sgeBytes far) ≡ true
+  pub total : sgeTotal far ≡ n
+  pub plain : isInline s ≡ false → (mappedAll c (sgeBytes own) ≡ true) × (sgeTotal own ≡ n)
+  pub short : isInline s ≡ true → (n ≤ mostInline) × (length (inlineBytes x) ≡ n)
+
+-- "Success. All source bytes are read before any is written": the memory m after it
+abbrev pub carried : Card → SendRecord → (x : List ℕ) → (own far : List Sge) → (n : ℕ) → (m : List ℕ) → List ℕ
+carried c s x own far n m =
+    cond (isInline s) (stored m (places c far) (inlineBytes x))
+    (cond (reads (s .opcode)) (moved m (places c far) (places c own)) (moved m (places c own) (places c far)))
+
+-- ---- steps 3 to 6
+
+-- what they ask of a message of n bytes
+pub record Sending (s : SendRecord) (x : List ℕ) (sges : List Sge) (n : ℕ) : Type 0 where
+  pub size : 576 ≤ length x
+  pub plain : isInline s ≡ false → s .count ≤ 4
+  pub total : totalBy s sges ≡ n
+  pub most : n ≤ mostMessage
+  pub short : isInline s ≡ true → (n ≤ mostInline) × (length (inlineBytes x) ≡ n)
+
+-- the status of a message that is not too long
+abbrev pub statusIn : List ℕ → Ends → SendRecord → List Sge → ReceiveRecord → (n : ℕ) → ℕ
+statusIn l e s sges w n =
+    statusBy (fills (s .opcode)) true (allowsAll (card l) (e .own .pd) (ownMask (s .opcode)) (ownBy s sges))
+    (leb n (sgeTotal (receiveSges w))) (allowsAll (card l) (e .far .pd) (farMask (s .opcode)) (sgeBytes (farList s w n)))
+
+-- they give the status st and leave the memory m′
+pub record Delivery (l m : List ℕ) (e : Ends) (s : SendRecord) (x : List ℕ) (sges : List Sge) (w : ReceiveRecord) (n st : ℕ) (m′ : List ℕ)
+    : Type 0 where
+  pub status : st ≡ statusIn l e s sges w n
+  pub memory : m′ ≡ cond (eqb st 0) (carried (card l) s x (take (s .count) sges) (farList s w n) n m) m

@@ -1,0 +1,68 @@
+-- Post send, document 01: "QP 2; QP not in RTS 3", and steps 1 and 2, over the rows of the two queue pairs. Assumes nothing.
+use mathlib.Core.Path.{_≡_}
+use mathlib.Core.Bool.{Bool, true, false, cond, not, _&&_, _||_}
+use mathlib.Core.List.{List, []}
+use mathlib.Core.Option.{Option, none, some}
+use Prim.Native.Nat.{ℕ, _+_, _<_}
+use lib.Dec.{eqb, leb}
+use lib.ListN.{length}
+use Rattle.wire.specs.Checks.{refusal}
+use Rattle.wire.specs.Table.{rowAt}
+use Rattle.validate.specs.Accept.{accepts}
+use Rattle.tables.specs.Layout.{stateSize, cqT, qpFlagT, qpT, waitingT}
+use Rattle.tables.specs.Limits.{qpCount}
+use Rattle.tables.specs.State.{card, isLive}
+use Rattle.tables.specs.declared.QueueHead.{QueueHead}
+use Rattle.tables.specs.declared.QueuePair.{QueuePair}
+use Rattle.rules.specs.Answer.{answered}
+use Rattle.rules.specs.Send.{deliveryChecks, canReceive}
+use Rattle.rules.specs.Touch.{Request, takes}
+use Rattle.rules.specs.declared.Answer.the-variants.{Held}
+use Rattle.rules.specs.declared.Cause.the-variants.{Peer, Place}
+use Rattle.engine.specs.declared.meet.Ends.{Ends}
+use Rattle.engine.specs.declared.meet.Meeting.{Meeting}
+use Rattle.engine.specs.declared.meet.Meeting.the-variants.{Pairs, Stopped}
+
+-- ---- the tests
+
+-- "Peer (destination) none, not live, not in 2 or 3, or not naming this QP back": the peer's row, where none of these holds
+abbrev pub answers : (live : Bool) → QueuePair → (q : ℕ) → Bool
+answers live p q = live && canReceive (p .state) && eqb (p .dest) q
+
+-- "One free place in the send CQ, and for 1, 2, 3 one in the peer's receive CQ (two if it is the same CQ)": h and k are the two queues' heads
+abbrev pub placesBy : (h k : QueueHead) → (same : Bool) → (opcode : ℕ) → Bool
+placesBy h k same o = leb (h .count + cond (takes o && same) 2 1) (h .places) && (not (takes o) || leb (k .count + 1) (k .places))
+
+-- "Opcodes 1, 2, 3 with no receive waiting there: 5", and step 2's "else 6"
+abbrev pub peerMeeting : List ℕ → Ends → (opcode : ℕ) → Meeting
+peerMeeting l e o =
+    cond (takes o && eqb (rowAt waitingT l (e .own .dest) .count) 0) (Stopped (Held Peer))
+    (cond (not (placesBy (rowAt cqT l (e .own .scq)) (rowAt cqT l (e .far .rcq)) (eqb (e .own .scq) (e .far .rcq)) o))
+    (Stopped (Held Place)) (Pairs e))
+
+-- "QP 2; QP not in RTS 3" passed: own is the row of the queue pair q, which is live and in RTS
+pub record Sender (l : List ℕ) (q : ℕ) (own : QueuePair) : Type 0 where
+  pub accepted : accepts l ≡ true
+  pub size : length l ≡ stateSize
+  pub below : q < qpCount
+  pub live : isLive (rowAt qpFlagT l q) ≡ true
+  pub row : own ≡ rowAt qpT l q
+  pub sends : own .state ≡ 3
+
+-- ---- all of them
+
+-- a request of which only the opcode is told: the tests look at no more
+abbrev pub bare : (opcode : ℕ) → Request
+bare o = record { wr = 0; opcode = o; signaled = false; inline = false; bytes = []; imm = 0; address = 0; key = 0; sges = [] }
+
+-- the queue pair q and its peer
+abbrev pub endsAt : List ℕ → (q : ℕ) → Ends
+endsAt l q = record { q = q; own = rowAt qpT l q; far = rowAt qpT l (rowAt qpT l q .dest) }
+
+abbrev pub metBy : Option ℕ → Ends → Meeting
+metBy none e = Pairs e
+metBy (some n) e = Stopped (answered 0 (some n))
+
+-- the tests of the queue pair q and its peer, for the opcode o
+abbrev pub meeting : List ℕ → (q o : ℕ) → Meeting
+meeting l q o = metBy (refusal (deliveryChecks (card l) q (bare o))) (endsAt l q)
