@@ -1,5 +1,2 @@
-pub mod QueueFacts
-pub mod ResetLaws
-pub mod PollLaws
-pub mod ReceiveLaws
-pub mod FlushLaws
+pub mod Live
+pub mod Receive

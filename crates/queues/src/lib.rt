@@ -1,22 +1,23 @@
-// Reset, poll, post receive and flush: document 01's calls on the queues of the lent state. Laws: specs/ResetLaws.antt, PollLaws.antt,
-// ReceiveLaws.antt, FlushLaws.antt.
+// Reset, poll, post receive and flush: document 01's calls on the queues of the lent state. Their tests and effects: rules, specs/Queues.antt.
+mod answers;
+mod pair;
+
+use answers::BAD_RANGE;
+use answers::BAD_STATE;
+use answers::NOT_LIVE;
+use answers::NOTHING_THERE;
+use answers::QUEUE_FULL;
+use answers::SHORT_BUFFER;
+use answers::WRONG_STATE;
 use rules::Answer;
 use rules::Cause;
-use tables::Completion;
 use tables::ReceiveRead;
 use tables::ReceiveRecord;
-use tables::limits::CQ_COUNT;
-use tables::limits::ERROR;
-use tables::limits::FLUSHED;
 use tables::limits::MOST_MEMORY;
-use tables::limits::MOST_WAITING;
-use tables::limits::QP_COUNT;
-use tables::limits::RECEIVED;
-use tables::limits::RESET;
 use tables::queue;
 use tables::records;
 use tables::reset as fresh;
-use tables::stateSize;
+use tables::rows;
 use validate::accept;
 ghost use mathlib.Core.Path.{_≡_};
 ghost use mathlib.Core.Bool.{true};
@@ -24,10 +25,10 @@ ghost use mathlib.Core.List.{[]};
 ghost use Prim.Native.Nat.{_≤_};
 ghost use lib.ListN.{length};
 ghost use Rattle.validate.specs.Accept.{accepts};
-ghost use Rattle.tables.specs.Layout.{stateSize};
 ghost use Rattle.rules.specs.Call.{Call};
 ghost use Rattle.rules.specs.Contract.{Owes};
-ghost use Rattle.queues.specs.ReceiveLaws.{Joins};
+ghost use Rattle.queues.specs.Live.{LiveQueue, LivePair};
+ghost use Rattle.queues.specs.Receive.{Joins};
 
 // ---- reset
 
@@ -36,13 +37,13 @@ pub fn reset(state: &mut [u8], memory: u64) -> Answer
     ensures { λ r. ⌜ Owes (now (state .entry)) (Call.reset memory) r (now (state .exit)) [] [] ⌝ }
 {
     if state.len() != rows::STATE_SIZE {
-        return Answer::Refused(15);
+        return Answer::Refused(BAD_STATE);
     }
     if memory < 1 {
-        return Answer::Refused(11);
+        return Answer::Refused(BAD_RANGE);
     }
     if MOST_MEMORY < memory {
-        return Answer::Refused(11);
+        return Answer::Refused(BAD_RANGE);
     }
     fresh::reset(state, memory);
     Answer::Done(0)
@@ -50,25 +51,17 @@ pub fn reset(state: &mut [u8], memory: u64) -> Answer
 
 // ---- poll
 
-// A poll of an accepted state into a buffer that has room.
-fn poll_queue(state: &mut [u8], cqn: u32, buffer: &mut [u8]) -> Answer
-    requires { ⌜ (accepts (now state) ≡ true) × (length (now state) ≡ stateSize) × (24 ≤ length (now buffer)) ⌝ }
-    ensures { λ r. ⌜ Owes (now (state .entry)) (Call.poll cqn (now (buffer .entry))) r (now (state .exit)) [] (now (buffer .exit)) ⌝ }
+// A poll of a live completion queue into a buffer that has room.
+fn poll_queue(state: &mut [u8], n: usize, buffer: &mut [u8]) -> Answer
+    requires { ⌜ LiveQueue (now state) n × (24 ≤ length (now buffer)) ⌝ }
+    ensures { λ r. ⌜ Owes (now (state .entry)) (Call.poll n (now (buffer .entry))) r (now (state .exit)) [] (now (buffer .exit)) ⌝ }
 {
-    let n = cqn as usize;
-    if CQ_COUNT <= n {
-        return Answer::Refused(2);
+    let q = queue::load_front(state, n);
+    if q.count == 0 {
+        return Answer::Refused(NOTHING_THERE);
     }
-    let h = rows::load_cq(state, n);
-    if h.places == 0 {
-        return Answer::Refused(2);
-    }
-    if h.count == 0 {
-        return Answer::Refused(9);
-    }
-    let oldest = queue::oldest_completion(state, n);
-    records::write_completion(buffer, oldest);
-    queue::pop_completion(state, n);
+    records::put_completion(buffer, 0, q.oldest());
+    queue::store_head(state, n, q.pop());
     Answer::Done(0)
 }
 
@@ -77,38 +70,43 @@ pub fn poll(state: &mut [u8], cqn: u32, buffer: &mut [u8]) -> Answer
     ensures { λ r. ⌜ Owes (now (state .entry)) (Call.poll cqn (now (buffer .entry))) r (now (state .exit)) [] (now (buffer .exit)) ⌝ }
 {
     if !accept::accepted(state) {
-        return Answer::Refused(15);
+        return Answer::Refused(BAD_STATE);
     }
     if buffer.len() < rows::ENTRY_SIZE {
-        return Answer::Refused(12);
+        return Answer::Refused(SHORT_BUFFER);
     }
-    poll_queue(state, cqn, buffer)
+    if !accept::cq_live(state, cqn) {
+        return Answer::Refused(NOT_LIVE);
+    }
+    poll_queue(state, cqn as usize, buffer)
 }
 
 // ---- post receive
 
-// The receive of a record waits on a queue pair of an accepted state, behind the others.
-fn join(state: &mut [u8], qpn: u32, w: ReceiveRecord) -> Answer
-    requires { ⌜ (accepts (now state) ≡ true) × (length (now state) ≡ stateSize) ⌝ }
-    ensures { λ r. ⌜ Joins (now (state .entry)) qpn w r (now (state .exit)) ⌝ }
+// The receive of a record waits on a live queue pair, behind the others.
+fn join(state: &mut [u8], q: usize, w: ReceiveRecord) -> Answer
+    requires { ⌜ LivePair (now state) q ⌝ }
+    ensures { λ r. ⌜ Joins (now (state .entry)) q w r (now (state .exit)) ⌝ }
 {
-    let q = qpn as usize;
-    if QP_COUNT <= q {
-        return Answer::Refused(2);
+    if pair::bars_receives(state, q) {
+        return Answer::Refused(WRONG_STATE);
     }
-    let p = rows::load_qp(state, q);
-    if p.live != 1 {
-        return Answer::Refused(2);
-    }
-    if (p.state == RESET) | (p.state == ERROR) {
-        return Answer::Refused(3);
-    }
-    let h = rows::load_waiting(state, q);
-    if MOST_WAITING <= h.count as usize {
-        return Answer::Refused(8);
+    if pair::receives_full(state, q) {
+        return Answer::Refused(QUEUE_FULL);
     }
     queue::post_receive(state, q, w);
     Answer::Done(0)
+}
+
+// The same on any queue pair of an accepted state.
+fn join_any(state: &mut [u8], qpn: u32, w: ReceiveRecord) -> Answer
+    requires { ⌜ accepts (now state) ≡ true ⌝ }
+    ensures { λ r. ⌜ Joins (now (state .entry)) qpn w r (now (state .exit)) ⌝ }
+{
+    if !pair::live(state, qpn) {
+        return Answer::Refused(NOT_LIVE);
+    }
+    join(state, qpn as usize, w)
 }
 
 // A receive more on a queue pair. Its keys aren't looked at.
@@ -116,52 +114,31 @@ pub fn post_receive(state: &mut [u8], qpn: u32, posted: &[u8]) -> Answer
     ensures { λ r. ⌜ Owes (now (state .entry)) (Call.receive qpn (now (posted .entry))) r (now (state .exit)) [] [] ⌝ }
 {
     if !accept::accepted(state) {
-        return Answer::Refused(15);
+        return Answer::Refused(BAD_STATE);
     }
     match records::read_receive(posted) {
-        ReceiveRead::Record(w) => join(state, qpn, w),
+        ReceiveRead::Record(w) => join_any(state, qpn, w),
         ReceiveRead::Refused(n) => Answer::Refused(n),
     }
 }
 
 // ---- flush
 
-// A flush of an accepted state.
-fn flush_one(state: &mut [u8], qpn: u32) -> Answer
-    requires { ⌜ (accepts (now state) ≡ true) × (length (now state) ≡ stateSize) ⌝ }
-    ensures { λ r. ⌜ Owes (now (state .entry)) (Call.flush qpn) r (now (state .exit)) [] [] ⌝ }
+// A flush of a live queue pair.
+fn flush_pair(state: &mut [u8], q: usize) -> Answer
+    requires { ⌜ LivePair (now state) q ⌝ }
+    ensures { λ r. ⌜ Owes (now (state .entry)) (Call.flush q) r (now (state .exit)) [] [] ⌝ }
 {
-    let q = qpn as usize;
-    if QP_COUNT <= q {
-        return Answer::Refused(2);
+    if !pair::in_error(state, q) {
+        return Answer::Refused(WRONG_STATE);
     }
-    let p = rows::load_qp(state, q);
-    if p.live != 1 {
-        return Answer::Refused(2);
+    if pair::none_waiting(state, q) {
+        return Answer::Refused(NOTHING_THERE);
     }
-    if p.state != ERROR {
-        return Answer::Refused(3);
-    }
-    let h = rows::load_waiting(state, q);
-    if h.count == 0 {
-        return Answer::Refused(9);
-    }
-    let n = p.rcq as usize;
-    let u = rows::load_cq(state, n);
-    if u.places <= u.count {
+    if !pair::has_place(state, q) {
         return Answer::Held(Cause::Place);
     }
-    let w = queue::oldest_receive(state, q);
-    let e = Completion {
-        wr: w.wr,
-        status: FLUSHED,
-        opcode: RECEIVED,
-        length: 0,
-        imm: 0,
-        owner: qpn,
-    };
-    queue::push_completion(state, n, e);
-    queue::take_receive(state, q);
+    pair::complete_oldest(state, q);
     Answer::Done(0)
 }
 
@@ -170,7 +147,10 @@ pub fn flush(state: &mut [u8], qpn: u32) -> Answer
     ensures { λ r. ⌜ Owes (now (state .entry)) (Call.flush qpn) r (now (state .exit)) [] [] ⌝ }
 {
     if !accept::accepted(state) {
-        return Answer::Refused(15);
+        return Answer::Refused(BAD_STATE);
     }
-    flush_one(state, qpn)
+    if !pair::live(state, qpn) {
+        return Answer::Refused(NOT_LIVE);
+    }
+    flush_pair(state, qpn as usize)
 }

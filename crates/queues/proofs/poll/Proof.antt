@@ -1,17 +1,15 @@
-use denote.Ref.{now}
-use mathlib.Core.Bool.{true}
-use mathlib.Core.Path.{_≡_, sym, _∙_}
+use mathlib.Core.Path.{sym, _∙_}
 use borrow.Author.Tests.{not-true, not-false}
-use Rattle.validate.specs.Accept.{accepts}
 use Rattle.validate.proofs.AcceptedLaws.{accepted}
-use Rattle.queues.specs.PollLaws.{poll-15, poll-short}
+use Rattle.queues.proofs.PollLaws.{poll-15, poll-short, poll-dead}
 use borrow.Author.Needs.{needs}
 use Rattle.queues.proofs.poll.Statement.{statement}
 use Rattle.queues.proofs.poll.Tie as tie
 use Rattle.queues.proofs.poll.Reads as reads
 use Rattle.queues.proofs.poll.Lts as lts
 use Rattle.queues.proofs.poll_queue.Reads as poll-queue-reads
-use Rattle.tables.proofs.accept.accepted.Reads as accepted-reads
+use Rattle.validate.proofs.accept.accepted.Reads as accepted-reads
+use Rattle.validate.proofs.accept.cq_live.Reads as cq-live-reads
 
 accepted-requires : tie.Need-accepted-requires
 accepted-requires c κs = search needs
@@ -20,28 +18,42 @@ same-length : tie.Need-same-length
 same-length c = search needs
 
 returns : tie.Need-returns
-returns c = let a = c .before .before .before .before .before .args in poll-15 (now (a .state)) (a .cqn) (now (a .buffer)) (sym (c .before .accepted .ensures) ∙ not-true _ (c .if1 .taken))
+returns c = poll-15 _ (c .before .before .before .before .before .args .cqn) _ (sym (c .before .accepted .ensures) ∙ not-true _ (c .if1 .taken))
 
 same-length-2 : tie.Need-same-length-2
 same-length-2 c = search needs
 
 returns-2 : tie.Need-returns-2
-returns-2 c = let a = c .before .before .before .before .before .before .args in poll-short (now (a .state)) (a .cqn) (now (a .buffer)) (sym (c .before .before .accepted .ensures) ∙ not-false _ (c .before .if1 .left)) (c .if2 .taken)
+returns-2 c = poll-short _ (c .before .before .before .before .before .before .args .cqn) _ (sym (c .before .before .accepted .ensures) ∙ not-false _ (c .before .if1 .left)) (c .if2 .taken)
 
-poll-queue-requires : tie.Need-poll-queue-requires
-poll-queue-requires c κs =
-    let l = now (c .before .before .before .before .before .before .before .before .args .state) in
-    let e : accepts l ≡ true = sym (c .before .before .before .before .accepted .ensures) ∙ not-false _ (c .before .before .before .if1 .left) in
-    (e, accepted l e .sized, c .before .before .if2 .left)
+cq-live-requires : tie.Need-cq-live-requires
+cq-live-requires c κs = accepted _ (sym (c .before .before .before .accepted .ensures) ∙ not-false _ (c .before .before .if1 .left)) .sized
 
 same-length-3 : tie.Need-same-length-3
 same-length-3 c = search needs
 
+returns-3 : tie.Need-returns-3
+returns-3 c =
+    let ok = sym (c .before .before .before .before .before .accepted .ensures) ∙ not-false _ (c .before .before .before .before .if1 .left) in
+    poll-dead _ (c .before .before .before .before .before .before .before .before .before .args .cqn) _ (c .before .before .before .if2 .left) ok (sym (c .before .cq-live .ensures) ∙ not-true _ (c .if3 .taken))
+
+poll-queue-requires : tie.Need-poll-queue-requires
+poll-queue-requires c κs = (
+  record {
+    ok = sym (c .before .before .before .before .before .before .before .accepted .ensures) ∙ not-false _ (c .before .before .before .before .before .before .if1 .left);
+    live = sym (c .before .before .before .cq-live .ensures) ∙ not-false _ (c .before .before .if3 .left);
+  },
+  c .before .before .before .before .before .if2 .left,
+)
+
 same-length-4 : tie.Need-same-length-4
 same-length-4 c = search needs
 
-returns-3 : tie.Need-returns-3
-returns-3 c = search needs
+same-length-5 : tie.Need-same-length-5
+same-length-5 c = search needs
+
+returns-4 : tie.Need-returns-4
+returns-4 c = search needs
 
 pub poll-spec : {M : Type 1} → statement M
 poll-spec =
@@ -52,7 +64,10 @@ poll-spec =
     returns
     same-length-2
     returns-2
-    poll-queue-requires
+    cq-live-requires
     same-length-3
+    returns-3
+    poll-queue-requires
     same-length-4
-    returns-3)
+    same-length-5
+    returns-4)

@@ -1,5 +1,5 @@
 use denote.Ref.{now}
-use Rattle.queues.specs.ResetLaws.{reset-15, reset-none, reset-long, reset-done}
+use Rattle.queues.proofs.ResetLaws.{reset-15, reset-none, reset-long, reset-done}
 use borrow.Author.Needs.{needs}
 use Rattle.queues.proofs.reset.Statement.{statement}
 use Rattle.queues.proofs.reset.Tie as tie

@@ -1,0 +1,5 @@
+pub mod LiveLaws
+pub mod ResetLaws
+pub mod PollLaws
+pub mod ReceiveLaws
+pub mod FlushLaws

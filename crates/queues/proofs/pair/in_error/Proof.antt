@@ -1,0 +1,15 @@
+use Rattle.queues.proofs.LiveLaws.{pair-ok, pair-below, pair-state}
+use Rattle.queues.proofs.pair.in_error.Statement.{statement}
+use Rattle.queues.proofs.pair.in_error.Tie as tie
+use Rattle.queues.proofs.pair.in_error.Reads as reads
+use Rattle.queues.proofs.pair.in_error.Lts as lts
+use Rattle.tables.proofs.rows.load_qp.Reads as load-qp-reads
+
+load-qp-requires : tie.Need-load-qp-requires
+load-qp-requires c κs = let s = c .before .pre in (pair-below s, pair-ok s .sized)
+
+returns : tie.Need-returns
+returns c = rw (pair-state (c .before .before .before .pre), ← (c .before .load-qp .ensures))
+
+pub in-error-spec : {M : Type 1} → statement M
+in-error-spec = tie.close (tie.spec load-qp-requires returns)
