@@ -1,15 +1,14 @@
--- Control commands over the lent state: what reading a command's data gives, and what each function that runs one owes. Assumes nothing.
+-- Document 01, "Control commands", over the lent state: what the functions that run a command owe. The rules are rules/specs/Control.antt.
+-- Assumes nothing.
 use mathlib.Core.Path.{_≡_}
-use mathlib.Core.Bool.{Bool, cond, not, _&&_, _||_}
+use mathlib.Core.Bool.{Bool, true, false, cond, not, _&&_, _||_}
 use mathlib.Core.List.{List, [], _∷_, _++_}
 use mathlib.Core.Option.{Option, none, some}
 use Prim.Native.Nat.{ℕ, _+_, _%_}
 use lib.Dec.{eqb, leb}
 use lib.ListN.{length}
 use Rattle.wire.specs.Checks.{Check, _if_, refusal, has, only}
-use Rattle.wire.specs.Le.{leAt}
 use Rattle.tables.specs.Card.{cqLive, Card}
-use Rattle.validate.specs.Accept.{isState}
 use Rattle.tables.specs.State.{card}
 use Rattle.tables.specs.Limits.{qpCount, mostAddress}
 use Rattle.tables.specs.Commands.{headChecks, Command, dataSize, commandOf}
@@ -26,32 +25,36 @@ use Rattle.tables.specs.declared.NumberRead.the-variants as number
 use Rattle.tables.specs.declared.RegisterRead.{RegisterRead}
 use Rattle.tables.specs.declared.RegisterRead.the-variants as register
 use Rattle.tables.specs.declared.Registration.{Registration}
+use Rattle.validate.specs.Accept.{isState}
+use Rattle.validate.specs.Search.{pdInUse, cqInUse}
+use Rattle.rules.specs.Bytes.{commandBytes}
 use Rattle.rules.specs.Control.{commandChecks, commandAck, stateBit, destBit}
-use Rattle.rules.specs.Lists.{isSome, orElse}
+use Rattle.rules.specs.Lists.{isSome, maybe}
 use Rattle.rules.specs.declared.Answer.{Answer}
 use Rattle.rules.specs.declared.Answer.the-variants as answer
-use Rattle.rules.specs.Bytes.{commandBytes}
-use Rattle.commands.specs.declared.control.Outcome.{Outcome}
-use Rattle.commands.specs.declared.control.Outcome.the-variants.{Refused, Done}
+use Rattle.commands.specs.declared.Kind.{Kind}
+use Rattle.commands.specs.declared.Kind.the-variants.{Pd, Cq, Mr, Qp}
+use Rattle.commands.specs.declared.Outcome.{Outcome}
+use Rattle.commands.specs.declared.Outcome.the-variants.{Refused, Done}
 
 -- ---- outcomes
 
--- an ack's data, by how many numbers it has
+-- the column "Ack data", by how many numbers it has
 abbrev pub ackOf : List ℕ → Ack
 ackOf [] = ack.Done
 ackOf (n ∷ []) = ack.Number n
 ackOf (n ∷ key ∷ vs) = ack.Keys n key
 
-abbrev pub outcomeBy : Option ℕ → List ℕ → Outcome
+abbrev pub outcomeBy : (refused : Option ℕ) (numbers : List ℕ) → Outcome
 outcomeBy none vs = Done (ackOf vs)
 outcomeBy (some n) vs = Refused n
 
--- the state's bytes after a command with this refusal
-abbrev pub leftBy : Option ℕ → List ℕ → Command → List ℕ
-leftBy none l q = commandBytes l q
-leftBy (some n) l q = l
+-- "Any answer but 0 leaves memory, tables and lent bytes unchanged"
+abbrev pub leftBy : (refused : Option ℕ) (before after : List ℕ) → List ℕ
+leftBy none l l′ = l′
+leftBy (some n) l l′ = l
 
--- what an outcome tells the caller: the ack, 1 on any refusal, and the answer
+-- "ack 0 is OK, 1 is error"
 abbrev pub outcomeAck : Outcome → Ack
 outcomeAck (Refused n) = ack.Error
 outcomeAck (Done a) = a
@@ -59,6 +62,31 @@ outcomeAck (Done a) = a
 abbrev pub outcomeAnswer : Outcome → Answer
 outcomeAnswer (Refused n) = answer.Refused n
 outcomeAnswer (Done a) = answer.Done 0
+
+-- ---- what a function owes that runs the command o on the state l after these tests: its outcome r, and the state's bytes l′
+
+pub record Ends (tests : List Check) (l : List ℕ) (o : Option Command) (r : Outcome) (l′ : List ℕ) : Type 0 where
+  pub outcome : r ≡ outcomeBy (refusal tests) (maybe [] (commandAck (card l)) o)
+  pub bytes : l′ ≡ leftBy (refusal tests) l (maybe l (commandBytes l) o)
+
+-- "Check order: .. data length 1; then 4, 2, 11, 3, 10, 8": a command whose data has not its length is none
+abbrev pub dataChecks : Card → Option Command → List Check
+dataChecks c none = 1 if true ∷ []
+dataChecks c (some q) = commandChecks c q
+
+abbrev pub Ran : (l : List ℕ) → Option Command → Outcome → (l′ : List ℕ) → Type 0
+Ran l o r l′ = Ends (dataChecks (card l) o) l o r l′
+
+-- "13; data length 1; ..": the tests from the command number on
+abbrev pub numberChecks : Card → List ℕ → List Check
+numberChecks c k =
+    13 if not (isSome (commandOf k)) ∷
+    1 if not (eqb (length k) (2 + maybe 0 dataSize (commandOf k))) ∷
+    maybe [] (commandChecks c) (commandOf k)
+
+-- "fewer than two bytes 1; 13; ..": the tests from the command's length on
+abbrev pub classChecks : Card → List ℕ → List Check
+classChecks c k = headChecks k ++ numberChecks c k
 
 -- ---- the command that its data makes; none where the data has not its length
 
@@ -78,52 +106,47 @@ abbrev pub modifying : ModifyQpRead → Option Command
 modifying (modify.Value r) = some (Command.modifyQp r)
 modifying modify.Wrong = none
 
--- a command without data is two bytes long
+-- "4 create PD | none": a command without data is two bytes long
 abbrev pub bare : Command → List ℕ → Option Command
 bare q k = cond (eqb (length k) 2) (some q) none
 
--- ---- what each function owes: its outcome r, and the state's bytes l′ after it on the state l
+-- ---- objects by kind: "destroy CQ", "destroy PD", "deregister MR", "destroy QP"
 
-abbrev pub outcomeOf : Card → Option Command → Outcome
-outcomeOf c none = Refused 1
-outcomeOf c (some q) = outcomeBy (refusal (commandChecks c q)) (commandAck c q)
+abbrev pub destroyOf : Kind → ℕ → Command
+destroyOf Pd n = Command.destroyPd n
+destroyOf Cq n = Command.destroyCq n
+destroyOf Mr n = Command.deregister n
+destroyOf Qp n = Command.destroyQp n
 
-abbrev pub leftOf : List ℕ → Option Command → List ℕ
-leftOf l none = l
-leftOf l (some q) = leftBy (refusal (commandChecks (card l) q)) l q
+abbrev pub liveOf : Card → Kind → ℕ → Bool
+liveOf c Pd n = c .pd n
+liveOf c Cq n = cqLive c n
+liveOf c Mr n = c .mr n .live
+liveOf c Qp n = c .qp n .live
 
-pub record Ran (l : List ℕ) (o : Option Command) (r : Outcome) (l′ : List ℕ) : Type 0 where
-  pub outcome : r ≡ outcomeOf (card l) o
-  pub bytes : l′ ≡ leftOf l o
-
--- the tests from the command number on, and those from the command's length on
-abbrev pub numberChecks : Card → List ℕ → List Check
-numberChecks c k =
-    13 if not (isSome (dataSize (leAt 1 k 1))) ∷
-    1 if not (eqb (length k) (2 + orElse (dataSize (leAt 1 k 1)) 0)) ∷
-    commandChecks c (commandOf k)
-
-abbrev pub classChecks : Card → List ℕ → List Check
-classChecks c k = headChecks k ++ numberChecks c k
-
-pub record Dispatched (cs : List Check) (l k : List ℕ) (r : Outcome) (l′ : List ℕ) : Type 0 where
-  pub outcome : r ≡ outcomeBy (refusal cs) (commandAck (card l) (commandOf k))
-  pub bytes : l′ ≡ leftBy (refusal cs) l (commandOf k)
+-- "In use (10): a PD with a live MR or QP; a CQ named by a live QP"
+abbrev pub usedOf : Card → Kind → ℕ → Bool
+usedOf c Pd n = pdInUse c n
+usedOf c Cq n = cqInUse c n
+usedOf c Mr n = false
+usedOf c Qp n = false
 
 -- ---- the tests of one answer together
 
--- answer 11
+-- "Range (11): length 0; start + length over the memory length; virt + length over 2^64 − 1"
 abbrev pub inRange : (memory : ℕ) → Registration → Bool
 inRange memory g = not (eqb (g .length) 0) && leb (g .start + g .length) memory && leb (g .virt + g .length) mostAddress
 
--- answers 4 and 2 of a new queue pair
+-- "Bad fields (4): .. type not 2 (RC); signal above 1"
 abbrev pub createFine : CreateQp → Bool
 createFine r = eqb (r .kind) 2 && leb (r .signal) 1
 
+-- "number not live": those that a new queue pair names
 abbrev pub createLive : Card → CreateQp → Bool
 createLive c r = c .pd (r .pd) && cqLive c (r .scq) && cqLive c (r .rcq)
 
--- answer 4 of a move
+-- "Modify: mask with bits other than 0 and 15, or without bit 0; state 4, 5 or above 6; a padding byte not zero; bit 15 set unless state is
+-- 2, or clear when it is; with bit 15, a destination above 7 or equal to qpn"
 abbrev pub modifyBad : ModifyQp → Bool
 modifyBad r =
     not (only (stateBit + destBit) (r .mask))
@@ -134,7 +157,7 @@ modifyBad r =
     || (not (has destBit (r .mask)) && eqb (r .state) 2)
     || (has destBit (r .mask) && (leb qpCount (r .dest) || eqb (r .dest) (r .qpn)))
 
--- ---- numbers cut to the low byte that is stored
+-- ---- numbers of 32 bits cut to the low byte that is stored
 
 abbrev pub lowPair : CreateQp → CreateQp
 lowPair r = record { pd = r .pd % 256; kind = r .kind; signal = r .signal; scq = r .scq % 256; rcq = r .rcq % 256 }

@@ -1,5 +1,1 @@
 pub mod Control
-pub mod ControlLaws
-pub mod ControlEffect
-pub mod ControlPairs
-pub mod ControlCall

@@ -1,5 +1,16 @@
 // Control commands: document 01, "Control commands". Rules: rules/specs/Control.antt; contracts: specs/Control.antt.
+use crate::Kind;
+use crate::Outcome;
+use crate::answers::BAD_FIELD;
+use crate::answers::BAD_STATE;
+use crate::answers::FULL;
+use crate::answers::NOT_LIVE;
+use crate::answers::OUT_OF_RANGE;
+use crate::answers::SHORT_BUFFER;
+use crate::answers::UNKNOWN;
+use crate::answers::WRONG_LENGTH;
 use crate::control_qp;
+use crate::destroy;
 use rules::Answer;
 use tables::Ack;
 use tables::HeadRead;
@@ -15,7 +26,7 @@ use tables::limits::MOST_PLACES;
 use tables::limits::MR_COUNT;
 use tables::limits::PD_COUNT;
 use tables::records;
-use tables::stateSize;
+use tables::rows;
 use validate::accept;
 use validate::find;
 ghost use mathlib.Core.Path.{_≡_};
@@ -31,20 +42,33 @@ ghost use Rattle.validate.specs.Accept.{accepts};
 ghost use Rattle.tables.specs.State.{card};
 ghost use Rattle.tables.specs.Layout.{stateSize, mrFlagT, mrT};
 ghost use Rattle.tables.specs.Limits.{mrCount, mostPlaces, mostAccess};
-ghost use Rattle.tables.specs.Commands.{Command};
+ghost use Rattle.tables.specs.Commands.{Command, commandOf};
 ghost use Rattle.rules.specs.Call.{Call};
 ghost use Rattle.rules.specs.Control.{nextVariant};
 ghost use Rattle.rules.specs.Bytes.{regionRow};
-ghost use Rattle.commands.specs.Control.{Ran, Dispatched, numbered, registering, bare, numberChecks, classChecks, inRange, lowRegistration, outcomeAck, outcomeAnswer};
+ghost use Rattle.commands.specs.Control.{Ran, Ends, numbered, registering, bare, numberChecks, classChecks, inRange, lowRegistration, outcomeAck, outcomeAnswer};
 ghost use Rattle.rules.specs.Contract.{Owes};
 
-// How a command ended: refused with its number, or done with what its ack tells.
-pub enum Outcome {
-    Refused(u8),
-    Done(Ack),
-}
-
 const ACK_LEAST: usize = 13;
+
+// The command numbers of document 01's table.
+const CREATE_CQ: u8 = 2;
+
+const DESTROY_CQ: u8 = 3;
+
+const CREATE_PD: u8 = 4;
+
+const DESTROY_PD: u8 = 5;
+
+const REGISTER_MR: u8 = 7;
+
+const DEREGISTER_MR: u8 = 8;
+
+const CREATE_QP: u8 = 9;
+
+const MODIFY_QP: u8 = 10;
+
+const DESTROY_QP: u8 = 12;
 
 // ---- completion queues
 
@@ -60,14 +84,14 @@ pub fn create_cq(state: &mut [u8], read: NumberRead) -> Outcome
     ensures { λ r. ⌜ Ran (now (state .entry)) (numbered Command.createCq read) r (now (state .exit)) ⌝ }
 {
     let NumberRead::Value(places) = read else {
-        return Outcome::Refused(1);
+        return Outcome::Refused(WRONG_LENGTH);
     };
     if !places_fine(places) {
-        return Outcome::Refused(4);
+        return Outcome::Refused(BAD_FIELD);
     }
     let n = find::free_cqn(state);
     if CQ_COUNT <= n {
-        return Outcome::Refused(8);
+        return Outcome::Refused(FULL);
     }
     let head = QueueHead {
         places: (places % 256) as u8,
@@ -75,29 +99,8 @@ pub fn create_cq(state: &mut [u8], read: NumberRead) -> Outcome
         count: 0,
     };
     rows::store_cq(state, n, head);
+    rows::store_cq_flag(state, n, 1);
     Outcome::Done(Ack::Number(n as u32))
-}
-
-pub fn destroy_cq(state: &mut [u8], read: NumberRead) -> Outcome
-    requires { ⌜ (accepts (now state) ≡ true) × (length (now state) ≡ stateSize) ⌝ }
-    ensures { λ r. ⌜ Ran (now (state .entry)) (numbered Command.destroyCq read) r (now (state .exit)) ⌝ }
-{
-    let NumberRead::Value(n) = read else {
-        return Outcome::Refused(1);
-    };
-    if !accept::cq_live(state, n) {
-        return Outcome::Refused(2);
-    }
-    if find::cq_in_use(state, n) {
-        return Outcome::Refused(10);
-    }
-    let head = QueueHead {
-        places: 0,
-        first: 0,
-        count: 0,
-    };
-    rows::store_cq(state, n as usize, head);
-    Outcome::Done(Ack::Done)
 }
 
 // ---- domains
@@ -107,31 +110,14 @@ pub fn create_pd(state: &mut [u8], command: &[u8]) -> Outcome
     ensures { λ r. ⌜ Ran (now (state .entry)) (bare Command.createPd (now (command .entry))) r (now (state .exit)) ⌝ }
 {
     if command.len() != 2 {
-        return Outcome::Refused(1);
+        return Outcome::Refused(WRONG_LENGTH);
     }
     let n = find::free_pdn(state);
     if PD_COUNT <= n {
-        return Outcome::Refused(8);
+        return Outcome::Refused(FULL);
     }
-    rows::store_pd(state, n, 1);
+    rows::store_pd_flag(state, n, 1);
     Outcome::Done(Ack::Number(n as u32))
-}
-
-pub fn destroy_pd(state: &mut [u8], read: NumberRead) -> Outcome
-    requires { ⌜ (accepts (now state) ≡ true) × (length (now state) ≡ stateSize) ⌝ }
-    ensures { λ r. ⌜ Ran (now (state .entry)) (numbered Command.destroyPd read) r (now (state .exit)) ⌝ }
-{
-    let NumberRead::Value(n) = read else {
-        return Outcome::Refused(1);
-    };
-    if !accept::pd_live(state, n) {
-        return Outcome::Refused(2);
-    }
-    if find::pd_in_use(state, n) {
-        return Outcome::Refused(10);
-    }
-    rows::store_pd(state, n as usize, 0);
-    Outcome::Done(Ack::Done)
 }
 
 // ---- regions
@@ -175,7 +161,7 @@ fn put_region(state: &mut [u8], n: usize, g: Registration) -> u8
         virt: g.virt,
     };
     rows::store_mr(state, n, row);
-    rows::store_mr_live(state, n, 1);
+    rows::store_mr_flag(state, n, 1);
     variant
 }
 
@@ -184,49 +170,23 @@ pub fn register(state: &mut [u8], read: RegisterRead) -> Outcome
     ensures { λ r. ⌜ Ran (now (state .entry)) (registering read) r (now (state .exit)) ⌝ }
 {
     let RegisterRead::Value(g) = read else {
-        return Outcome::Refused(1);
+        return Outcome::Refused(WRONG_LENGTH);
     };
     if !known_access(g.access) {
-        return Outcome::Refused(4);
+        return Outcome::Refused(BAD_FIELD);
     }
     if !accept::pd_live(state, g.pd) {
-        return Outcome::Refused(2);
+        return Outcome::Refused(NOT_LIVE);
     }
     if !in_range(rows::load_memory(state), g) {
-        return Outcome::Refused(11);
+        return Outcome::Refused(OUT_OF_RANGE);
     }
     let n = find::free_mrn(state);
     if MR_COUNT <= n {
-        return Outcome::Refused(8);
+        return Outcome::Refused(FULL);
     }
     let variant = put_region(state, n, g);
     Outcome::Done(Ack::Keys(n as u32, 256 * (n as u32) + variant as u32))
-}
-
-// Whether region n is live.
-fn mr_live(state: &[u8], n: u32) -> bool
-    requires { ⌜ length (now state) ≡ stateSize ⌝ }
-    ensures { λ r. ⌜ r ≡ card (now (state .entry)) .mr n .live ⌝ }
-{
-    let i = n as usize;
-    if i < MR_COUNT {
-        return rows::load_mr_live(state, i) == 1;
-    }
-    false
-}
-
-pub fn deregister(state: &mut [u8], read: NumberRead) -> Outcome
-    requires { ⌜ (accepts (now state) ≡ true) × (length (now state) ≡ stateSize) ⌝ }
-    ensures { λ r. ⌜ Ran (now (state .entry)) (numbered Command.deregister read) r (now (state .exit)) ⌝ }
-{
-    let NumberRead::Value(n) = read else {
-        return Outcome::Refused(1);
-    };
-    if !mr_live(state, n) {
-        return Outcome::Refused(2);
-    }
-    rows::store_mr_live(state, n as usize, 0);
-    Outcome::Done(Ack::Done)
 }
 
 // ---- any command
@@ -234,25 +194,25 @@ pub fn deregister(state: &mut [u8], read: NumberRead) -> Outcome
 // The command number chooses the reader and the rules.
 fn run(state: &mut [u8], command: &[u8], number: u8) -> Outcome
     requires { ⌜ (accepts (now state) ≡ true) × (length (now state) ≡ stateSize) × (number ≡ leAt 1 (now command) 1) ⌝ }
-    ensures { λ r. ⌜ Dispatched (numberChecks (card (now (state .entry))) (now (command .entry))) (now (state .entry)) (now (command .entry)) r (now (state .exit)) ⌝ }
+    ensures { λ r. ⌜ Ends (numberChecks (card (now (state .entry))) (now (command .entry))) (now (state .entry)) (commandOf (now (command .entry))) r (now (state .exit)) ⌝ }
 {
     match number {
-        2 => create_cq(state, records::read_number(command)),
-        3 => destroy_cq(state, records::read_number(command)),
-        4 => create_pd(state, command),
-        5 => destroy_pd(state, records::read_number(command)),
-        7 => register(state, records::read_register(command)),
-        8 => deregister(state, records::read_number(command)),
-        9 => control_qp::create_qp(state, records::read_create_qp(command)),
-        10 => control_qp::modify_qp(state, records::read_modify_qp(command)),
-        12 => control_qp::destroy_qp(state, records::read_number(command)),
-        0..=1 | 6 | 11 | 13..=255 => Outcome::Refused(13),
+        CREATE_CQ => create_cq(state, records::read_number(command)),
+        DESTROY_CQ => destroy::destroy(state, Kind::Cq, records::read_number(command)),
+        CREATE_PD => create_pd(state, command),
+        DESTROY_PD => destroy::destroy(state, Kind::Pd, records::read_number(command)),
+        REGISTER_MR => register(state, records::read_register(command)),
+        DEREGISTER_MR => destroy::destroy(state, Kind::Mr, records::read_number(command)),
+        CREATE_QP => control_qp::create_qp(state, records::read_create_qp(command)),
+        MODIFY_QP => control_qp::modify_qp(state, records::read_modify_qp(command)),
+        DESTROY_QP => destroy::destroy(state, Kind::Qp, records::read_number(command)),
+        0..=1 | 6 | 11 | 13..=255 => Outcome::Refused(UNKNOWN),
     }
 }
 
 fn dispatch(state: &mut [u8], command: &[u8]) -> Outcome
     requires { ⌜ (accepts (now state) ≡ true) × (length (now state) ≡ stateSize) ⌝ }
-    ensures { λ r. ⌜ Dispatched (classChecks (card (now (state .entry))) (now (command .entry))) (now (state .entry)) (now (command .entry)) r (now (state .exit)) ⌝ }
+    ensures { λ r. ⌜ Ends (classChecks (card (now (state .entry))) (now (command .entry))) (now (state .entry)) (commandOf (now (command .entry))) r (now (state .exit)) ⌝ }
 {
     match records::read_head(command) {
         HeadRead::Number(n) => run(state, command, n),
@@ -283,10 +243,10 @@ pub fn control(state: &mut [u8], command: &[u8], ack: &mut [u8]) -> Answer
     ensures { λ r. ⌜ Owes (now (state .entry)) (Call.control (now (command .entry)) (now (ack .entry))) r (now (state .exit)) [] (now (ack .exit)) ⌝ }
 {
     if !accept::accepted(state) {
-        return Answer::Refused(15);
+        return Answer::Refused(BAD_STATE);
     }
     if ack.len() < ACK_LEAST {
-        return Answer::Refused(12);
+        return Answer::Refused(SHORT_BUFFER);
     }
     let o = dispatch(state, command);
     records::write_ack(ack, ack_of(o));

@@ -1,11 +1,16 @@
 // Control commands of queue pairs: document 01, "Control commands". Rules: rules/specs/Control.antt; contracts: specs/Control.antt.
-use crate::control::Outcome;
+use crate::Outcome;
+use crate::answers::BAD_FIELD;
+use crate::answers::FULL;
+use crate::answers::NOT_LIVE;
+use crate::answers::WRONG_LENGTH;
+use crate::answers::WRONG_MOVE;
+use crate::destroy::qp_live;
 use tables::Ack;
 use tables::CreateQp;
 use tables::CreateQpRead;
 use tables::ModifyQp;
 use tables::ModifyQpRead;
-use tables::NumberRead;
 use tables::QueuePair;
 use tables::WaitingHead;
 use tables::limits::ERROR;
@@ -13,7 +18,7 @@ use tables::limits::QP_COUNT;
 use tables::limits::RESET;
 use tables::limits::RTR;
 use tables::limits::RTS;
-use tables::stateSize;
+use tables::rows;
 use validate::accept;
 use validate::find;
 ghost use mathlib.Core.Path.{_≡_};
@@ -23,12 +28,12 @@ ghost use lib.ListN.{length};
 ghost use Rattle.wire.specs.Table.{rowAt, putRow};
 ghost use Rattle.validate.specs.Accept.{accepts};
 ghost use Rattle.tables.specs.State.{card};
-ghost use Rattle.tables.specs.Layout.{stateSize, qpT, waitingT};
+ghost use Rattle.tables.specs.Layout.{stateSize, qpFlagT, qpT, waitingT};
 ghost use Rattle.tables.specs.Limits.{qpCount};
 ghost use Rattle.tables.specs.Commands.{Command};
 ghost use Rattle.rules.specs.Control.{isMove};
 ghost use Rattle.rules.specs.Bytes.{newPair, noneWait, movedPair, movedHead};
-ghost use Rattle.commands.specs.Control.{Ran, numbered, creating, modifying, createFine, createLive, modifyBad, lowPair};
+ghost use Rattle.commands.specs.Control.{Ran, creating, modifying, createFine, createLive, modifyBad, lowPair};
 
 // The attribute mask of modify QP: the state, and the destination.
 const STATE_BIT: u32 = 1;
@@ -60,7 +65,6 @@ fn new_pair(r: CreateQp) -> QueuePair
     ensures { λ p. ⌜ p ≡ newPair (lowPair r) ⌝ }
 {
     QueuePair {
-        live: 1,
         pd: (r.pd % 256) as u8,
         signal: r.signal,
         scq: (r.scq % 256) as u8,
@@ -73,11 +77,12 @@ fn new_pair(r: CreateQp) -> QueuePair
 // Number n is a new queue pair, on which no receive waits.
 fn put_pair(state: &mut [u8], n: usize, r: CreateQp)
     requires { ⌜ (n < qpCount) × (length (now state) ≡ stateSize) ⌝ }
-    ensures { λ _. ⌜ now (state .exit) ≡ putRow qpT (putRow waitingT (now (state .entry)) n noneWait) n (newPair (lowPair r)) ⌝ }
+    ensures { λ _. ⌜ now (state .exit) ≡ putRow qpFlagT (putRow qpT (putRow waitingT (now (state .entry)) n noneWait) n (newPair (lowPair r))) n 1 ⌝ }
 {
     let head = WaitingHead { first: 0, count: 0 };
     rows::store_waiting(state, n, head);
     rows::store_qp(state, n, new_pair(r));
+    rows::store_qp_flag(state, n, 1);
 }
 
 pub fn create_qp(state: &mut [u8], read: CreateQpRead) -> Outcome
@@ -85,17 +90,17 @@ pub fn create_qp(state: &mut [u8], read: CreateQpRead) -> Outcome
     ensures { λ r. ⌜ Ran (now (state .entry)) (creating read) r (now (state .exit)) ⌝ }
 {
     let CreateQpRead::Value(r) = read else {
-        return Outcome::Refused(1);
+        return Outcome::Refused(WRONG_LENGTH);
     };
     if !create_fine(r) {
-        return Outcome::Refused(4);
+        return Outcome::Refused(BAD_FIELD);
     }
     if !create_live(state, r) {
-        return Outcome::Refused(2);
+        return Outcome::Refused(NOT_LIVE);
     }
     let n = find::free_qpn(state);
     if QP_COUNT <= n {
-        return Outcome::Refused(8);
+        return Outcome::Refused(FULL);
     }
     put_pair(state, n, r);
     Outcome::Done(Ack::Number(n as u32))
@@ -122,18 +127,6 @@ fn is_move(from: u8, to: u8) -> bool
 {
     let next = from as u32 + 1;
     (to == RESET) | (to == ERROR) | ((to as u32 == next) & (to <= RTS))
-}
-
-// Whether queue pair n is live.
-fn qp_live(state: &[u8], n: u32) -> bool
-    requires { ⌜ length (now state) ≡ stateSize ⌝ }
-    ensures { λ r. ⌜ r ≡ card (now (state .entry)) .qp n .live ⌝ }
-{
-    let i = n as usize;
-    if i < QP_COUNT {
-        return rows::load_qp(state, i).live == 1;
-    }
-    false
 }
 
 fn moved_pair(p: QueuePair, to: u8, dest: u8) -> QueuePair
@@ -177,42 +170,19 @@ pub fn modify_qp(state: &mut [u8], read: ModifyQpRead) -> Outcome
     ensures { λ r. ⌜ Ran (now (state .entry)) (modifying read) r (now (state .exit)) ⌝ }
 {
     let ModifyQpRead::Value(r) = read else {
-        return Outcome::Refused(1);
+        return Outcome::Refused(WRONG_LENGTH);
     };
     if modify_bad(r) {
-        return Outcome::Refused(4);
+        return Outcome::Refused(BAD_FIELD);
     }
     if !qp_live(state, r.qpn) {
-        return Outcome::Refused(2);
+        return Outcome::Refused(NOT_LIVE);
     }
     let n = r.qpn as usize;
     let p = rows::load_qp(state, n);
     if !is_move(p.state, r.state) {
-        return Outcome::Refused(3);
+        return Outcome::Refused(WRONG_MOVE);
     }
     move_pair(state, n, r.state, (r.dest % 256) as u8);
-    Outcome::Done(Ack::Done)
-}
-
-pub fn destroy_qp(state: &mut [u8], read: NumberRead) -> Outcome
-    requires { ⌜ (accepts (now state) ≡ true) × (length (now state) ≡ stateSize) ⌝ }
-    ensures { λ r. ⌜ Ran (now (state .entry)) (numbered Command.destroyQp read) r (now (state .exit)) ⌝ }
-{
-    let NumberRead::Value(n) = read else {
-        return Outcome::Refused(1);
-    };
-    if !qp_live(state, n) {
-        return Outcome::Refused(2);
-    }
-    let none = QueuePair {
-        live: 0,
-        pd: 0,
-        signal: 0,
-        scq: 0,
-        rcq: 0,
-        state: RESET,
-        dest: 0,
-    };
-    rows::store_qp(state, n as usize, none);
     Outcome::Done(Ack::Done)
 }

@@ -4,7 +4,7 @@ use mathlib.Core.Path.{_≡_, sym, _∙_}
 use mathlib.Core.Bool.{true}
 use Rattle.validate.specs.Accept.{accepts}
 use Rattle.validate.proofs.AcceptedLaws.{accepted}
-use Rattle.commands.specs.ControlCall.{control-state, control-short, control-done}
+use Rattle.commands.proofs.CallLaws.{control-state, control-short, control-done}
 use borrow.Author.Needs.{needs}
 use Rattle.commands.proofs.control.control.Statement.{statement}
 use Rattle.commands.proofs.control.control.Tie as tie
@@ -13,8 +13,8 @@ use Rattle.commands.proofs.control.control.Lts as lts
 use Rattle.commands.proofs.control.ack_of.Reads as ack-of-reads
 use Rattle.commands.proofs.control.answer_of.Reads as answer-of-reads
 use Rattle.commands.proofs.control.dispatch.Reads as dispatch-reads
-use Rattle.tables.proofs.accept.accepted.Reads as accepted-reads
 use Rattle.tables.proofs.records.write_ack.Reads as write-ack-reads
+use Rattle.validate.proofs.accept.accepted.Reads as accepted-reads
 
 accepted-requires : tie.Need-accepted-requires
 accepted-requires c κs = search needs

@@ -1,13 +1,13 @@
 use denote.Ref.{now}
 use Rattle.tables.specs.Commands.{Command}
-use Rattle.commands.specs.ControlLaws.{bare-wrong, bare-right, create-pd-full, create-pd-done}
+use Rattle.commands.proofs.CaseLaws.{bare-wrong, bare-right, create-pd-full, create-pd-done}
 use borrow.Author.Needs.{needs}
 use Rattle.commands.proofs.control.create_pd.Statement.{statement}
 use Rattle.commands.proofs.control.create_pd.Tie as tie
 use Rattle.commands.proofs.control.create_pd.Reads as reads
 use Rattle.commands.proofs.control.create_pd.Lts as lts
-use Rattle.tables.proofs.find.free_pdn.Reads as free-pdn-reads
-use Rattle.tables.proofs.stateSize.store_pd.Reads as store-pd-reads
+use Rattle.tables.proofs.rows.store_pd_flag.Reads as store-pd-flag-reads
+use Rattle.validate.proofs.find.free_pdn.Reads as free-pdn-reads
 
 returns : tie.Need-returns
 returns c = bare-wrong (now (c .before .before .before .args .state)) (now (c .before .before .before .args .command)) Command.createPd (c .if1 .taken)
@@ -23,8 +23,8 @@ returns-2 c =
     rw (bare-right (now (c .before .before .before .before .before .before .args .state)) (now (c .before .before .before .before .before .before .args .command)) Command.createPd (c .before .before .before .if1 .left))
     (create-pd-full _ (c .before .free-pdn .result) (c .before .free-pdn .ensures) (c .if2 .taken))
 
-store-pd-requires : tie.Need-store-pd-requires
-store-pd-requires c κs = search needs
+store-pd-flag-requires : tie.Need-store-pd-flag-requires
+store-pd-flag-requires c κs = search needs
 
 cast-t11 : tie.Need-cast-t11
 cast-t11 c = search needs
@@ -35,7 +35,7 @@ same-length-2 c = search needs
 returns-3 : tie.Need-returns-3
 returns-3 c =
     rw (bare-right (now (c .before .before .before .before .before .before .before .before .before .before .args .state)) (now (c .before .before .before .before .before .before .before .before .before .before .args .command)) Command.createPd (c .before .before .before .before .before .before .before .if1 .left))
-    (create-pd-done _ (c .before .before .before .before .before .free-pdn .result) (c .before .before .before .before .before .free-pdn .ensures) (c .before .before .before .before .if2 .left) _ (c .before .before .store-pd .ensures))
+    (create-pd-done _ (c .before .before .before .before .before .free-pdn .result) (c .before .before .before .before .before .free-pdn .ensures) (c .before .before .before .before .if2 .left) _ (c .before .before .store-pd-flag .ensures))
 
 pub create-pd-spec : {M : Type 1} → statement M
 create-pd-spec =
@@ -45,7 +45,7 @@ create-pd-spec =
     free-pdn-requires
     same-length
     returns-2
-    store-pd-requires
+    store-pd-flag-requires
     cast-t11
     same-length-2
     returns-3)

@@ -4,7 +4,7 @@ use Rattle.wire.specs.Checks.{refusal}
 use Rattle.wire.specs.Le.{leAt}
 use Rattle.tables.specs.Commands.{headChecks}
 use Rattle.tables.proofs.ReadingLaws.{head-number, head-refused}
-use Rattle.commands.specs.ControlCall.{dispatch-stopped, dispatch-passed}
+use Rattle.commands.proofs.CallLaws.{dispatch-stopped, dispatch-passed}
 use borrow.Author.Needs.{needs}
 use Rattle.commands.proofs.control.dispatch.Statement.{statement}
 use Rattle.commands.proofs.control.dispatch.Tie as tie

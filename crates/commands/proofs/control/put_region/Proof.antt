@@ -7,9 +7,9 @@ use Rattle.commands.proofs.control.put_region.Tie as tie
 use Rattle.commands.proofs.control.put_region.Reads as reads
 use Rattle.commands.proofs.control.put_region.Lts as lts
 use Rattle.commands.proofs.control.next_variant.Reads as next-variant-reads
-use Rattle.tables.proofs.stateSize.load_mr.Reads as load-mr-reads
-use Rattle.tables.proofs.stateSize.store_mr.Reads as store-mr-reads
-use Rattle.tables.proofs.stateSize.store_mr_live.Reads as store-mr-live-reads
+use Rattle.tables.proofs.rows.load_mr.Reads as load-mr-reads
+use Rattle.tables.proofs.rows.store_mr.Reads as store-mr-reads
+use Rattle.tables.proofs.rows.store_mr_flag.Reads as store-mr-flag-reads
 
 load-mr-requires : tie.Need-load-mr-requires
 load-mr-requires c κs = search needs
@@ -26,14 +26,17 @@ cast-t12 c = search needs
 store-mr-requires : tie.Need-store-mr-requires
 store-mr-requires c κs = search needs
 
-store-mr-live-requires : tie.Need-store-mr-live-requires
-store-mr-live-requires c κs = search needs
+store-mr-flag-requires : tie.Need-store-mr-flag-requires
+store-mr-flag-requires c κs = search needs
 
 same-length : tie.Need-same-length
 same-length c = search needs
 
 returns : tie.Need-returns
-returns c = (c .before .before .before .before .before .before .before .before .before .before .next-variant .ensures ∙ ap (λ (x : Region). nextVariant (x .variant)) (c .before .before .before .before .before .before .before .before .before .before .before .load-mr .ensures), rw (c .before .before .store-mr-live .ensures, c .before .before .before .before .before .before .store-mr .ensures))
+returns c = (
+  c .before .before .before .before .before .before .before .before .before .before .next-variant .ensures ∙ ap (λ (x : Region). nextVariant (x .variant)) (c .before .before .before .before .before .before .before .before .before .before .before .load-mr .ensures),
+  rw (c .before .before .store-mr-flag .ensures, c .before .before .before .before .before .before .store-mr .ensures),
+)
 
 pub put-region-spec : {M : Type 1} → statement M
 put-region-spec =
@@ -44,6 +47,6 @@ put-region-spec =
     cast-t10
     cast-t12
     store-mr-requires
-    store-mr-live-requires
+    store-mr-flag-requires
     same-length
     returns)

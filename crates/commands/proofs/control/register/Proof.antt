@@ -1,6 +1,7 @@
+use Rattle.commands.proofs.CaseLaws.{ran-wrong}
 use borrow.Author.Tests.{not-true, not-false}
 use mathlib.Core.Path.{sym, _∙_}
-use Rattle.commands.specs.ControlLaws.{register-access, register-dead, register-range, register-full, register-done}
+use Rattle.commands.proofs.CaseLaws.{register-access, register-dead, register-range, register-full, register-done}
 use borrow.Author.Needs.{needs}
 use Rattle.commands.proofs.control.register.Statement.{statement}
 use Rattle.commands.proofs.control.register.Tie as tie
@@ -9,9 +10,9 @@ use Rattle.commands.proofs.control.register.Lts as lts
 use Rattle.commands.proofs.control.in_range.Reads as in-range-reads
 use Rattle.commands.proofs.control.known_access.Reads as known-access-reads
 use Rattle.commands.proofs.control.put_region.Reads as put-region-reads
-use Rattle.tables.proofs.accept.pd_live.Reads as pd-live-reads
-use Rattle.tables.proofs.find.free_mrn.Reads as free-mrn-reads
-use Rattle.tables.proofs.stateSize.load_memory.Reads as load-memory-reads
+use Rattle.tables.proofs.rows.load_memory.Reads as load-memory-reads
+use Rattle.validate.proofs.accept.pd_live.Reads as pd-live-reads
+use Rattle.validate.proofs.find.free_mrn.Reads as free-mrn-reads
 
 enum-known-read : tie.Need-enum-known-read
 enum-known-read c = search needs
@@ -20,7 +21,7 @@ enum-told : tie.Need-enum-told
 enum-told c = search needs
 
 returns : tie.Need-returns
-returns c = search needs
+returns c = rw (c .enum-told .given .1) (ran-wrong _)
 
 known-access-requires : tie.Need-known-access-requires
 known-access-requires c κs = search needs

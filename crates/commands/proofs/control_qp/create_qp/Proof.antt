@@ -1,6 +1,7 @@
+use Rattle.commands.proofs.CaseLaws.{ran-wrong}
 use borrow.Author.Tests.{not-true, not-false}
 use mathlib.Core.Path.{sym, _∙_}
-use Rattle.commands.specs.ControlLaws.{create-qp-fields, create-qp-dead, create-qp-full, create-qp-done}
+use Rattle.commands.proofs.PairCaseLaws.{create-qp-fields, create-qp-dead, create-qp-full, create-qp-done}
 use borrow.Author.Needs.{needs}
 use Rattle.commands.proofs.control_qp.create_qp.Statement.{statement}
 use Rattle.commands.proofs.control_qp.create_qp.Tie as tie
@@ -9,7 +10,7 @@ use Rattle.commands.proofs.control_qp.create_qp.Lts as lts
 use Rattle.commands.proofs.control_qp.create_fine.Reads as create-fine-reads
 use Rattle.commands.proofs.control_qp.create_live.Reads as create-live-reads
 use Rattle.commands.proofs.control_qp.put_pair.Reads as put-pair-reads
-use Rattle.tables.proofs.find.free_qpn.Reads as free-qpn-reads
+use Rattle.validate.proofs.find.free_qpn.Reads as free-qpn-reads
 
 enum-known-read : tie.Need-enum-known-read
 enum-known-read c = search needs
@@ -18,7 +19,7 @@ enum-told : tie.Need-enum-told
 enum-told c = search needs
 
 returns : tie.Need-returns
-returns c = search needs
+returns c = rw (c .enum-told .given .1) (ran-wrong _)
 
 create-fine-requires : tie.Need-create-fine-requires
 create-fine-requires c κs = search needs

@@ -1,8 +1,9 @@
+use Rattle.commands.proofs.CaseLaws.{ran-wrong}
 use denote.Ref.{now}
 use borrow.Author.Tests.{not-true, not-false}
 use mathlib.Core.Path.{sym, _∙_}
 use Rattle.tables.proofs.ObjectLaws.{qp-below}
-use Rattle.commands.specs.ControlLaws.{modify-fields, modify-dead, modify-stays, modify-done}
+use Rattle.commands.proofs.PairCaseLaws.{modify-fields, modify-dead, modify-stays, modify-done}
 use borrow.Author.Needs.{needs}
 use Rattle.commands.proofs.control_qp.modify_qp.Statement.{statement}
 use Rattle.commands.proofs.control_qp.modify_qp.Tie as tie
@@ -11,8 +12,8 @@ use Rattle.commands.proofs.control_qp.modify_qp.Lts as lts
 use Rattle.commands.proofs.control_qp.is_move.Reads as is-move-reads
 use Rattle.commands.proofs.control_qp.modify_bad.Reads as modify-bad-reads
 use Rattle.commands.proofs.control_qp.move_pair.Reads as move-pair-reads
-use Rattle.commands.proofs.control_qp.qp_live.Reads as qp-live-reads
-use Rattle.tables.proofs.stateSize.load_qp.Reads as load-qp-reads
+use Rattle.commands.proofs.destroy.qp_live.Reads as qp-live-reads
+use Rattle.tables.proofs.rows.load_qp.Reads as load-qp-reads
 
 enum-known-read : tie.Need-enum-known-read
 enum-known-read c = search needs
@@ -21,7 +22,7 @@ enum-told : tie.Need-enum-told
 enum-told c = search needs
 
 returns : tie.Need-returns
-returns c = search needs
+returns c = rw (c .enum-told .given .1) (ran-wrong _)
 
 modify-bad-requires : tie.Need-modify-bad-requires
 modify-bad-requires c κs = search needs

@@ -5,10 +5,10 @@ use Rattle.commands.proofs.control_qp.move_pair.Reads as reads
 use Rattle.commands.proofs.control_qp.move_pair.Lts as lts
 use Rattle.commands.proofs.control_qp.moved_head.Reads as moved-head-reads
 use Rattle.commands.proofs.control_qp.moved_pair.Reads as moved-pair-reads
-use Rattle.tables.proofs.stateSize.load_qp.Reads as load-qp-reads
-use Rattle.tables.proofs.stateSize.load_waiting.Reads as load-waiting-reads
-use Rattle.tables.proofs.stateSize.store_qp.Reads as store-qp-reads
-use Rattle.tables.proofs.stateSize.store_waiting.Reads as store-waiting-reads
+use Rattle.tables.proofs.rows.load_qp.Reads as load-qp-reads
+use Rattle.tables.proofs.rows.load_waiting.Reads as load-waiting-reads
+use Rattle.tables.proofs.rows.store_qp.Reads as store-qp-reads
+use Rattle.tables.proofs.rows.store_waiting.Reads as store-waiting-reads
 
 load-qp-requires : tie.Need-load-qp-requires
 load-qp-requires c κs = search needs

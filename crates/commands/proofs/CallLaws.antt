@@ -1,0 +1,237 @@
+-- Any control command: which command its bytes are, the tests before its own, and what the call owes. Assumes nothing.
+use mathlib.Core.Path.{_≡_, refl, _∙_}
+use mathlib.Core.Logic.{_⊎_, inl, inr}
+use mathlib.Core.Bool.{Bool, true, false, cond, not, _&&_, _||_}
+use mathlib.Core.List.{List, [], _∷_, _++_}
+use mathlib.Core.Option.{Option, none, some, Option·some-ne-none}
+use Prim.Native.Nat.{ℕ, _+_, _≤_, _<_}
+use lib.Dec.{eqb}
+use lib.ListN.{length}
+use borrow.Author.Tests.{lt-ltb, le-ltb, ne-eqb, not-true}
+use Rattle.wire.specs.Checks.{Check, _if_, refusal}
+use Rattle.wire.specs.Codec.{putFields, decode}
+use Rattle.wire.specs.Le.{leAt}
+use Rattle.wire.specs.Scan.{all}
+use Rattle.wire.proofs.ScanLaws.{and-left, and-right}
+use Rattle.validate.specs.Accept.{accepts}
+use Rattle.validate.proofs.AcceptedLaws.{Accepted, accepted}
+use Rattle.tables.specs.Card.{Card}
+use Rattle.tables.specs.State.{card}
+use Rattle.tables.specs.Commands.{headChecks, numberRead, registerRead, createQpRead, modifyQpRead, ackValues, Command, numberCodec, registerCodec, createQpCodec, modifyQpCodec, ackFields, ackLeast, dataSize, commandOf}
+use Rattle.tables.specs.declared.Ack.{Ack}
+use Rattle.tables.specs.declared.CreateQpRead.{CreateQpRead}
+use Rattle.tables.specs.declared.CreateQpRead.the-variants as create
+use Rattle.tables.specs.declared.ModifyQpRead.{ModifyQpRead}
+use Rattle.tables.specs.declared.ModifyQpRead.the-variants as modify
+use Rattle.tables.specs.declared.NumberRead.{NumberRead}
+use Rattle.tables.specs.declared.NumberRead.the-variants as number
+use Rattle.tables.specs.declared.RegisterRead.{RegisterRead}
+use Rattle.tables.specs.declared.RegisterRead.the-variants as register
+use Rattle.rules.proofs.Answers.{first-with, command-tests}
+use Rattle.rules.proofs.Exported.{refused-owes, done-owes}
+use Rattle.rules.proofs.Tests.{firstOf, refusal-append}
+use Rattle.rules.specs.Bytes.{commandBytes, effectBytes}
+use Rattle.rules.specs.Call.{Call}
+use Rattle.rules.specs.Calls.{checks, controlChecks, owedChecks, statusOf, effect, memoryAfter, bufferAfter}
+use Rattle.rules.specs.Contract.{Owes}
+use Rattle.rules.specs.Control.{commandChecks, commandAck, commandEffect}
+use Rattle.rules.specs.Lists.{maybe}
+use Rattle.rules.specs.declared.Answer.{Answer}
+use Rattle.rules.specs.declared.Answer.the-variants as answer
+use Rattle.commands.specs.Control.{Ends, Ran, numberChecks, classChecks, numbered, registering, creating, modifying, bare, ackOf, outcomeAck, outcomeAnswer}
+use Rattle.commands.specs.declared.Outcome.{Outcome}
+use Rattle.commands.specs.declared.Outcome.the-variants.{Refused, Done}
+use Rattle.commands.proofs.EffectLaws as effect
+use Rattle.commands.proofs.EffectLaws.{Kept}
+use Rattle.commands.proofs.PairEffectLaws as pairs
+
+-- ---- the command number chooses
+
+module _ (l k : List ℕ) where
+  abbrev Chosen : Outcome → List ℕ → Type 0
+  Chosen r l′ = Ends (numberChecks (card l) k) l (commandOf k) r l′
+
+  -- the number says that it is the command q; o is q where its data has its length
+  chosen : (q : Command) → commandOf k ≡ some q → (o : Option Command) → o ≡ cond (eqb (length k) (2 + dataSize q)) (some q) none
+      → (r : Outcome) (l′ : List ℕ) → Ran l o r l′ → Chosen r l′
+  chosen q c o is r l′ x = go (eqb (length k) (2 + dataSize q)) refl (rw is at x)
+    where
+      go : (b : Bool) → eqb (length k) (2 + dataSize q) ≡ b → Ran l (cond b (some q) none) r l′ → Chosen r l′
+      go true e y = record { outcome = rw (c, e) (y .outcome); bytes = rw (c, e) (y .bytes) }
+      go false e y = record { outcome = rw (c, e) (y .outcome); bytes = rw (c, e) (y .bytes) }
+
+  -- by the data of the command
+  module _ (r : Outcome) (l′ : List ℕ) where
+    pub by-number : (f : ℕ → Command) → commandOf k ≡ some (f (decode numberCodec k 2)) → ((n : ℕ) → dataSize (f n) ≡ numberCodec .size)
+        → (x : NumberRead) → x ≡ numberRead k → Ran l (numbered f x) r l′ → Chosen r l′
+    by-number f c s x is = chosen (f (decode numberCodec k 2)) c (numbered f x) (rw (s (decode numberCodec k 2), is) (go (eqb (length k) (2 + numberCodec .size)))) r l′
+      where
+        go : (b : Bool) → numbered f (cond b (number.Value (decode numberCodec k 2)) number.Wrong) ≡ cond b (some (f (decode numberCodec k 2))) none
+        go true = refl
+        go false = refl
+
+    pub by-nothing : commandOf k ≡ some Command.createPd → Ran l (bare Command.createPd k) r l′ → Chosen r l′
+    unfolding dataSize
+    by-nothing c = chosen Command.createPd c (bare Command.createPd k) refl r l′
+
+    pub by-registration : commandOf k ≡ some (Command.register (decode registerCodec k 2)) → (x : RegisterRead) → x ≡ registerRead k
+        → Ran l (registering x) r l′ → Chosen r l′
+    unfolding dataSize
+    by-registration c x is = chosen (Command.register (decode registerCodec k 2)) c (registering x) (rw is (go (eqb (length k) (2 + registerCodec .size)))) r l′
+      where
+        go : (b : Bool) → registering (cond b (register.Value (decode registerCodec k 2)) register.Wrong) ≡ cond b (some (Command.register (decode registerCodec k 2))) none
+        go true = refl
+        go false = refl
+
+    pub by-creation : commandOf k ≡ some (Command.createQp (decode createQpCodec k 2)) → (x : CreateQpRead) → x ≡ createQpRead k
+        → Ran l (creating x) r l′ → Chosen r l′
+    unfolding dataSize
+    by-creation c x is = chosen (Command.createQp (decode createQpCodec k 2)) c (creating x) (rw is (go (eqb (length k) (2 + createQpCodec .size)))) r l′
+      where
+        go : (b : Bool) → creating (cond b (create.Value (decode createQpCodec k 2)) create.Wrong) ≡ cond b (some (Command.createQp (decode createQpCodec k 2))) none
+        go true = refl
+        go false = refl
+
+    pub by-move : commandOf k ≡ some (Command.modifyQp (decode modifyQpCodec k 2)) → (x : ModifyQpRead) → x ≡ modifyQpRead k
+        → Ran l (modifying x) r l′ → Chosen r l′
+    unfolding dataSize
+    by-move c x is = chosen (Command.modifyQp (decode modifyQpCodec k 2)) c (modifying x) (rw is (go (eqb (length k) (2 + modifyQpCodec .size)))) r l′
+      where
+        go : (b : Bool) → modifying (cond b (modify.Value (decode modifyQpCodec k 2)) modify.Wrong) ≡ cond b (some (Command.modifyQp (decode modifyQpCodec k 2))) none
+        go true = refl
+        go false = refl
+
+  -- no command has the number
+  by-none : commandOf k ≡ none → Chosen (Refused 13) l
+  by-none e = record { outcome = rw e; bytes = rw e }
+
+  module _ (n : ℕ) (is : n ≡ leAt 1 k 1) where
+    pub run-gap : (n ≡ 6) ⊎ (n ≡ 11) → Chosen (Refused 13) l
+    unfolding commandOf
+    run-gap (inl e) = by-none (rw (← is, e))
+    run-gap (inr e) = by-none (rw (← is, e))
+
+    pub run-unknown : (n ≡ 2 → ⊥) → (n ≡ 3 → ⊥) → (n ≡ 4 → ⊥) → (n ≡ 5 → ⊥) → (n ≡ 7 → ⊥) → (n ≡ 8 → ⊥) → (n ≡ 9 → ⊥) → (n ≡ 10 → ⊥) → (n ≡ 12 → ⊥)
+        → Chosen (Refused 13) l
+    unfolding commandOf
+    run-unknown a b c d e f g h i =
+        by-none
+        (rw (← is, ne-eqb n 2 a, ne-eqb n 3 b, ne-eqb n 4 c, ne-eqb n 5 d, ne-eqb n 7 e, ne-eqb n 8 f, ne-eqb n 9 g, ne-eqb n 10 h, ne-eqb n 12 i))
+
+  -- ---- the tests before: the length, and the class
+  abbrev Classed : Outcome → List ℕ → Type 0
+  Classed r l′ = Ends (classChecks (card l) k) l (commandOf k) r l′
+
+  -- the head is refused
+  pub dispatch-stopped : (n : ℕ) → refusal (headChecks k) ≡ some n → Classed (Refused n) l
+  dispatch-stopped n e =
+      let z : refusal (classChecks (card l) k) ≡ some n = refusal-append (headChecks k) (numberChecks (card l) k) ∙ rw e in
+      record { outcome = rw z; bytes = rw z }
+
+  -- it is not
+  pub dispatch-passed : refusal (headChecks k) ≡ none → (r : Outcome) (l′ : List ℕ) → Chosen r l′ → Classed r l′
+  dispatch-passed e r l′ x =
+      let z : refusal (classChecks (card l) k) ≡ refusal (numberChecks (card l) k) =
+      refusal-append (headChecks k) (numberChecks (card l) k) ∙ rw e in
+      record { outcome = rw z (x .outcome); bytes = rw z (x .bytes) }
+
+-- ---- the call
+
+-- a refusal after 15 and 12 holds nothing and writes the ack byte 1
+abbrev quiet : ℕ → Bool
+quiet n = not (eqb n 5) && not (eqb n 6) && not (eqb n 12 || eqb n 15)
+
+class-quiet : (c : Card) (k : List ℕ) (n : ℕ) → refusal (classChecks c k) ≡ some n → quiet n ≡ true
+unfolding all
+class-quiet c k n e = first-with quiet (classChecks c k) n (command-tests quiet refl refl refl refl refl refl c (commandOf k)) e
+
+-- the ack's values are the rules' ack data
+ack-values : (c : Card) (o : Option Command) → ackValues (ackOf (maybe [] (commandAck c) o)) ≡ 0 ∷ maybe [] (commandAck c) o
+unfolding commandAck
+ack-values c none = refl
+ack-values c (some (Command.createCq n)) = refl
+ack-values c (some (Command.destroyCq n)) = refl
+ack-values c (some Command.createPd) = refl
+ack-values c (some (Command.destroyPd n)) = refl
+ack-values c (some (Command.register g)) = refl
+ack-values c (some (Command.deregister n)) = refl
+ack-values c (some (Command.createQp r)) = refl
+ack-values c (some (Command.modifyQp r)) = refl
+ack-values c (some (Command.destroyQp q)) = refl
+
+-- every command that passes its tests
+kept : (l : List ℕ) → Accepted l → (q : Command) → refusal (commandChecks (card l) q) ≡ none → Kept l q
+kept l ok (Command.createCq n) e = effect.create-cq l ok n e
+kept l ok (Command.destroyCq n) e = effect.destroy-cq l ok n e
+kept l ok Command.createPd e = effect.create-pd l ok e
+kept l ok (Command.destroyPd n) e = effect.destroy-pd l ok n e
+kept l ok (Command.register g) e = effect.register l ok g e
+kept l ok (Command.deregister n) e = effect.deregister l ok n e
+kept l ok (Command.createQp r) e = pairs.create-qp l ok r e
+kept l ok (Command.modifyQp r) e = pairs.modify-qp l ok r e
+kept l ok (Command.destroyQp q) e = pairs.destroy-qp l ok q e
+
+-- tests that all pass, and the later of them
+rest-none : (xs ys : List Check) → refusal (xs ++ ys) ≡ none → refusal ys ≡ none
+rest-none xs ys e = go (refusal xs) (rw (refusal-append xs ys) at e)
+  where
+    go : (o : Option ℕ) → firstOf o (refusal ys) ≡ none → refusal ys ≡ none
+    go none p = p
+    go (some n) p = absurd (Option·some-ne-none n p)
+
+left : (l : List ℕ) → Accepted l → (o : Option Command) → refusal (maybe [] (commandChecks (card l)) o) ≡ none
+    → (card (maybe l (commandBytes l) o) ≡ maybe (card l) (commandEffect (card l)) o) × Accepted (maybe l (commandBytes l) o)
+left l ok none e = (refl, ok)
+left l ok (some q) e = let s = kept l ok q e in (s .meant, s .still)
+
+module _ (l k a : List ℕ) where
+  abbrev call : Call
+  call = Call.control k a
+
+  abbrev o : Option Command
+  o = commandOf k
+
+  pub control-state : accepts l ≡ false → Owes l call (answer.Refused 15) l [] a
+  control-state e = refused-owes l call 15 (rw e)
+
+  module _ (good : accepts l ≡ true) where
+    pub control-short : length a < ackLeast → Owes l call (answer.Refused 12) l [] a
+    unfolding checks controlChecks
+    control-short h = refused-owes l call 12 (rw (good, lt-ltb (length a) ackLeast h))
+
+    module _ (room : ackLeast ≤ length a) where
+      tests : refusal (owedChecks card accepts l call) ≡ refusal (classChecks (card l) k)
+      unfolding checks controlChecks
+      tests = rw (good, le-ltb (length a) ackLeast room)
+
+      -- one that is done, and one that is refused
+      done : refusal (classChecks (card l) k) ≡ none
+          → Owes l call (answer.Done 0) (maybe l (commandBytes l) o) [] (putFields ackFields a 0 (ackValues (ackOf (maybe [] (commandAck (card l)) o))))
+      unfolding effectBytes statusOf effect memoryAfter bufferAfter controlChecks
+      done e =
+          let s = left l (accepted l good) o (rest-none (controlChecks k a) (maybe [] (commandChecks (card l)) o) (rw (le-ltb (length a) ackLeast room) e)) in
+          rw (ack-values (card l) o) (done-owes l call (tests ∙ e) (s .0) (s .1) (maybe l (commandBytes l) o) refl)
+
+      no : (n : ℕ) → refusal (classChecks (card l) k) ≡ some n → Owes l call (answer.Refused n) l [] (putFields ackFields a 0 (1 ∷ []))
+      no n e =
+          let x : Bool = not (eqb n 5) in
+          let y : Bool = not (eqb n 6) in
+          let z : Bool = not (eqb n 12 || eqb n 15) in
+          let w : (x && y && z) ≡ true = class-quiet (card l) k n e in
+          let v : (x && y) ≡ true = and-left (x && y) z w in
+          rw (not-true (eqb n 5) (and-left x y v), not-true (eqb n 6) (and-right x y v), not-true (eqb n 12 || eqb n 15) (and-right (x && y) z w))
+          at (refused-owes l call n (tests ∙ e))
+
+      pub control-done : (p : Outcome) (l′ : List ℕ) → Ends (classChecks (card l) k) l o p l′ → (x : Ack) → x ≡ outcomeAck p → (r : Answer) → r ≡ outcomeAnswer p
+          → (a′ : List ℕ) → a′ ≡ putFields ackFields a 0 (ackValues x) → Owes l call r l′ [] a′
+      control-done p l′ d x ex r er a′ ea = go (refusal (classChecks (card l) k)) refl
+        where
+          go : (m : Option ℕ) → refusal (classChecks (card l) k) ≡ m → Owes l call r l′ [] a′
+          go none e =
+              let eo : p ≡ Done (ackOf (maybe [] (commandAck (card l)) o)) = d .outcome ∙ rw e in
+              let el : l′ ≡ maybe l (commandBytes l) o = d .bytes ∙ rw e in
+              rw (ea, er, ex, eo, el) (done e)
+          go (some n) e =
+              let eo : p ≡ Refused n = d .outcome ∙ rw e in
+              let el : l′ ≡ l = d .bytes ∙ rw e in
+              rw (ea, er, ex, eo, el) (no n e)

@@ -1,0 +1,5 @@
+pub mod CaseLaws
+pub mod PairCaseLaws
+pub mod EffectLaws
+pub mod PairEffectLaws
+pub mod CallLaws

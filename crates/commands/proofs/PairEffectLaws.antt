@@ -1,0 +1,295 @@
+-- The commands of queue pairs that pass their tests: the card that the state then means is the rules', and the state stays accepted.
+-- Assumes nothing.
+use mathlib.Core.Path.{_≡_, refl, sym, ap, _∙_}
+use mathlib.Core.Bool.{Bool, true, false, cond, not, _&&_, _||_, false≢true}
+use mathlib.Core.List.{List, [], _∷_, map}
+use mathlib.Core.Option.{none, some}
+use Prim.Native.Nat.{ℕ, _+_, _≤_, _<_, _^_}
+use native.Mathlib.Omega.{arith}
+use lib.Dec.{eqb, ltb, leb}
+use borrow.Author.Tests.{leb-true, leb-false, ltb-false, le-leb, eqb-true, eq-eqb, ne-eqb, not-false}
+use Rattle.wire.specs.Checks.{_if_, refusal, Passed, has, only}
+use Rattle.wire.proofs.CheckLaws.{passed}
+use Rattle.wire.specs.Codec.{Fit, Fits}
+use Rattle.wire.specs.Ring.{ringList}
+use Rattle.wire.specs.Scan.{all}
+use Rattle.wire.proofs.ScanLaws.{and-left, and-right, or-left, or-right}
+use Rattle.wire.specs.Table.{rowAt, putRow}
+use Rattle.wire.proofs.TableLaws.{putRow-length}
+use Rattle.tables.specs.Card.{cqLive, receiveOf}
+use Rattle.tables.specs.State.{PairRows, card, pairAt, qpOf, liveQp, destOf, receivesAt, posted}
+use Rattle.tables.specs.Layout.{qpFlagT, qpT, waitingT, flagCodec, pairCodec, waitingCodec}
+use Rattle.tables.specs.Limits.{qpCount, mostWaiting}
+use Rattle.tables.specs.Commands.{Command}
+use Rattle.tables.proofs.KindLaws.{PairsOnly, only-then, pair-card}
+use Rattle.tables.proofs.ObjectLaws.{pd-below, cq-below, qp-below, qp-flag, qp-row}
+use Rattle.tables.proofs.StoreLaws as store
+use Rattle.tables.specs.declared.CreateQp.{CreateQp}
+use Rattle.tables.specs.declared.ModifyQp.{ModifyQp}
+use Rattle.tables.specs.declared.QueuePair.{QueuePair}
+use Rattle.tables.specs.declared.WaitingHead.{WaitingHead}
+use Rattle.validate.specs.Accept.{isState, receiveOk, pairOk, qpSound}
+use Rattle.validate.specs.Search.{freeQpn}
+use Rattle.validate.proofs.AcceptedLaws.{Accepted, pairing}
+use Rattle.validate.proofs.KeptLaws.{pair-accepted}
+use Rattle.validate.proofs.WaitingLaws.{pair-sound}
+use Rattle.rules.specs.Control.{commandChecks, commandEffect, isMove, moved, stateBit, destBit}
+use Rattle.rules.specs.Bytes.{commandBytes, newPair, noneWait, movedPair, movedHead}
+use Rattle.commands.proofs.EffectLaws.{Kept}
+
+module _ (l : List ℕ) (ok : Accepted l) where
+  pub destroy-qp : (q : ℕ) → refusal (commandChecks (card l) (Command.destroyQp q)) ≡ none → Kept l (Command.destroyQp q)
+  unfolding commandChecks commandBytes commandEffect qpOf qpFlagT flagCodec Fit
+  destroy-qp q e =
+      let p = passed (commandChecks (card l) (Command.destroyQp q)) e in
+      let h : q < qpCount = qp-below l q (not-false _ (p .0)) in
+      let o = store.qp-flag-only l q h 0 in
+      let a = store.qp-flag-at l q h 0 (ok .sized) (omega arith, tt) in
+      record { meant = pair-card h o ∙ rw a; still = pair-accepted ok o (rw a) }
+
+  -- ---- a new queue pair
+  module _ (r : CreateQp) (e : refusal (commandChecks (card l) (Command.createQp r)) ≡ none) where
+    abbrev n : ℕ
+    n = freeQpn (card l)
+
+    -- the tests, in order
+    tests : Passed (4 if not (eqb (r .kind) 2) ∷ 4 if ltb 1 (r .signal) ∷ 2 if not (card l .pd (r .pd)) ∷ 2 if not (cqLive (card l) (r .scq)) ∷
+        2 if not (cqLive (card l) (r .rcq)) ∷ 8 if leb qpCount n ∷ [])
+    unfolding commandChecks
+    tests = passed (commandChecks (card l) (Command.createQp r)) e
+
+    below : n < qpCount
+    below = leb-false qpCount n (tests .1 .1 .1 .1 .1 .0)
+
+    signal : r .signal ≤ 1
+    signal = ltb-false 1 (r .signal) (tests .1 .0)
+
+    domain : card l .pd (r .pd) ≡ true
+    domain = not-false (card l .pd (r .pd)) (tests .1 .1 .0)
+
+    sends : cqLive (card l) (r .scq) ≡ true
+    sends = not-false (cqLive (card l) (r .scq)) (tests .1 .1 .1 .0)
+
+    receives : cqLive (card l) (r .rcq) ≡ true
+    receives = not-false (cqLive (card l) (r .rcq)) (tests .1 .1 .1 .1 .0)
+
+    fits : Fits pairCodec (newPair r)
+    unfolding pairCodec Fit
+    fits =
+        let a = pd-below l (r .pd) domain in
+        let b = cq-below l (r .scq) sends in
+        let c = cq-below l (r .rcq) receives in
+        let d = signal in
+        (omega arith, (omega arith, (omega arith, (omega arith, (omega arith, (omega arith, (omega arith, (omega arith, tt))))))))
+
+    -- the three stores
+    abbrev with-head : List ℕ
+    with-head = putRow waitingT l n noneWait
+
+    abbrev with-row : List ℕ
+    with-row = putRow qpT with-head n (newPair r)
+
+    new-only : PairsOnly l (putRow qpFlagT with-row n 1) n
+    new-only =
+        only-then (only-then (store.qp-waiting-only l n below noneWait) (store.qp-row-only with-head n below (newPair r)))
+        (store.qp-flag-only with-row n below 1)
+
+    abbrev new-rows : PairRows
+    new-rows = record { flag = 1; row = newPair r; head = noneWait; ring = pairAt l n .ring }
+
+    new-after : pairAt (putRow qpFlagT with-row n 1) n ≡ new-rows
+    unfolding qpFlagT qpT waitingT flagCodec waitingCodec Fit
+    new-after =
+        let a = putRow-length waitingT l n noneWait ∙ ok .sized in
+        let b = putRow-length qpT with-head n (newPair r) ∙ a in
+        store.qp-flag-at with-row n below 1 b (omega arith, tt)
+        ∙ ap (λ (x : PairRows). record { flag = 1; row = x .row; head = x .head; ring = x .ring })
+        (store.qp-row-at with-head n below (newPair r) a fits
+        ∙ ap (λ (x : PairRows). record { flag = x .flag; row = newPair r; head = x .head; ring = x .ring })
+        (store.qp-waiting-at l n below noneWait (ok .sized) (omega arith, (omega arith, tt))))
+
+    new-sound : qpSound (card l .pd) (cqLive (card l)) n new-rows ≡ true
+    unfolding ringList all
+    new-sound =
+        let h = below in
+        pairing (card l .pd) (cqLive (card l)) n new-rows
+        (record {
+          live = refl;
+          domain = domain;
+          sends = sends;
+          receives = receives;
+          limits = rw (le-leb (r .signal) 1 signal, ne-eqb qpCount n (omega arith));
+          first = omega arith;
+          count = omega arith;
+          waiting = refl;
+        })
+
+    pub create-qp : Kept l (Command.createQp r)
+    unfolding commandBytes commandEffect qpOf ringList
+    create-qp = record { meant = pair-card below new-only ∙ rw new-after; still = pair-accepted ok new-only (rw new-after new-sound) }
+
+  -- ---- a move
+  module _ (r : ModifyQp) (e : refusal (commandChecks (card l) (Command.modifyQp r)) ≡ none) where
+    abbrev q : ℕ
+    q = r .qpn
+
+    abbrev t : ℕ
+    t = r .state
+
+    abbrev d : ℕ
+    d = r .dest
+
+    -- the tests, in order
+    tests-of : Passed (4 if not (only (stateBit + destBit) (r .mask)) ∷ 4 if not (has stateBit (r .mask)) ∷ 4 if not (isState t) ∷
+        4 if not (eqb (r .pad0) 0 && eqb (r .pad1) 0 && eqb (r .pad2) 0) ∷ 4 if (has destBit (r .mask) && not (eqb t 2)) ∷
+        4 if (not (has destBit (r .mask)) && eqb t 2) ∷ 4 if (has destBit (r .mask) && (leb qpCount d || eqb d q)) ∷
+        2 if not (card l .qp q .live) ∷ 3 if not (isMove (card l .qp q .state) t) ∷ [])
+    unfolding commandChecks
+    tests-of = passed (commandChecks (card l) (Command.modifyQp r)) e
+
+    on : card l .qp q .live ≡ true
+    on = not-false (card l .qp q .live) (tests-of .1 .1 .1 .1 .1 .1 .1 .0)
+
+    within : q < qpCount
+    within = qp-below l q on
+
+    live : rowAt qpFlagT l q ≡ 1
+    live = qp-flag l q on
+
+    state-fine : isState t ≡ true
+    state-fine = not-false (isState t) (tests-of .1 .1 .0)
+
+    state-small : t ≤ 6
+    state-small = by (leb t 3) refl
+      where
+        by : (b : Bool) → leb t 3 ≡ b → t ≤ 6
+        by true x = let y : t ≤ 3 = leb-true t 3 x in omega arith
+        by false x = let y : t ≡ 6 = eqb-true t 6 (rw x at state-fine) in omega arith
+
+    -- a move to 2 names another queue pair
+    named : eqb t 2 ≡ true → (d < qpCount) × (eqb d q ≡ false)
+    named x = by (has destBit (r .mask)) (rw x at (tests-of .1 .1 .1 .1 .1 .0)) (tests-of .1 .1 .1 .1 .1 .1 .0)
+      where
+        by : (b : Bool) → (not b && true) ≡ false → (b && (leb qpCount d || eqb d q)) ≡ false → (d < qpCount) × (eqb d q ≡ false)
+        by true y z = (leb-false qpCount d (or-left (leb qpCount d) (eqb d q) z), or-right (leb qpCount d) (eqb d q) z)
+        by false y z = absurd (false≢true (sym y))
+
+    abbrev p : QueuePair
+    p = rowAt qpT l q
+
+    abbrev h : WaitingHead
+    h = rowAt waitingT l q
+
+    abbrev p′ : QueuePair
+    p′ = movedPair p t d
+
+    abbrev h′ : WaitingHead
+    h′ = movedHead h t
+
+    moved-fits : Fits pairCodec p′
+    unfolding pairCodec Fit
+    moved-fits =
+        let f = store.pair-fits l q in
+        let s = state-small in
+        (f .0, (f .1 .0, (f .1 .1 .0, (f .1 .1 .1 .0, (omega arith, (by (eqb t 0) (eqb t 2) (λ x. named x .0) (f .1 .1 .1 .1 .1 .0), f .1 .1 .1 .1 .1 .1))))))
+      where
+        by : (a b : Bool) → (b ≡ true → d < qpCount) → p .dest < 256 ^ 1 → cond a qpCount (cond b d (p .dest)) < 256 ^ 1
+        by true b x y = omega arith
+        by false true x y = let w = x refl in omega arith
+        by false false x y = y
+
+    rest-fits : Fits waitingCodec h′
+    unfolding waitingCodec Fit
+    rest-fits = let f = store.waiting-fits l q in (f .0, (by (eqb t 0) (f .1 .0), tt))
+      where
+        by : (a : Bool) → h .count < 256 ^ 1 → cond a 0 (h .count) < 256 ^ 1
+        by true y = omega arith
+        by false y = y
+
+    -- the two stores
+    abbrev with-move : List ℕ
+    with-move = putRow qpT l q p′
+
+    moved-only : PairsOnly l (putRow waitingT with-move q h′) q
+    moved-only = only-then (store.qp-row-only l q within p′) (store.qp-waiting-only with-move q within h′)
+
+    -- its rows with the head g of its receives
+    abbrev rows : WaitingHead → PairRows
+    rows g = record { flag = rowAt qpFlagT l q; row = p′; head = g; ring = receivesAt l q }
+
+    moved-after : pairAt (putRow waitingT with-move q h′) q ≡ rows h′
+    unfolding pairAt qpT waitingT
+    moved-after =
+        store.qp-waiting-at with-move q within h′ (putRow-length qpT l q p′ ∙ ok .sized) rest-fits
+        ∙ ap (λ (x : PairRows). record { flag = x .flag; row = x .row; head = h′; ring = x .ring })
+        (store.qp-row-at l q within p′ (ok .sized) moved-fits)
+
+    -- the rows mean the card's queue pair after the move
+    means : qpOf (rows h′) ≡ moved (card l .qp q) t d
+    unfolding qpOf pairAt ringList
+    means = rw (qp-row l q within live, eq-eqb (rowAt qpFlagT l q) 1 live) (by (eqb t 0) (eqb t 2) (λ x. named x .0))
+      where
+        by : (a b : Bool) → (b ≡ true → d < qpCount)
+            → liveQp (record {
+              flag = rowAt qpFlagT l q;
+              row = record { pd = p .pd; signal = p .signal; scq = p .scq; rcq = p .rcq; state = t; dest = cond a qpCount (cond b d (p .dest)) };
+              head = record { first = h .first; count = cond a 0 (h .count) };
+              ring = receivesAt l q;
+            })
+            ≡ record {
+              live = true;
+              pd = p .pd;
+              signal = p .signal;
+              scq = p .scq;
+              rcq = p .rcq;
+              state = t;
+              dest = cond a none (cond b (some d) (destOf (p .dest)));
+              waiting = cond a [] (map receiveOf (posted (pairAt l q)));
+            }
+        by true b x = refl
+        by false true x = rw (ne-eqb d qpCount (let w = x refl in omega arith))
+        by false false x = refl
+
+    -- the pair's limits, with its receives kept or dropped
+    pair-limits : pairOk q p′ ≡ true
+    unfolding pairAt
+    pair-limits =
+        let s = pair-sound l ok q within live in
+        let a : Bool = leb (p .signal) 1 in
+        let b : Bool = isState (p .state) in
+        let c : Bool = leb (p .dest) qpCount in
+        let x : (a && b && c) ≡ true = and-left (a && b && c) (not (eqb (p .dest) q)) (s .limits) in
+        let y : (a && b) ≡ true = and-left (a && b) c x in
+        rw (and-left a b y, state-fine)
+        (by (eqb t 0) (eqb t 2) named (and-right (a && b) c x) (and-right (a && b && c) (not (eqb (p .dest) q)) (s .limits)))
+      where
+        by : (a b : Bool) → (b ≡ true → (d < qpCount) × (eqb d q ≡ false)) → leb (p .dest) qpCount ≡ true → not (eqb (p .dest) q) ≡ true
+            → (leb (cond a qpCount (cond b d (p .dest))) qpCount && not (eqb (cond a qpCount (cond b d (p .dest))) q)) ≡ true
+        by true b x y z = rw (ne-eqb qpCount q (let w = within in omega arith))
+        by false true x y z = let w = x refl in let u = w .0 in rw (le-leb d qpCount (omega arith), w .1)
+        by false false x y z = rw (y, z)
+
+    sound : (g : WaitingHead) → g .first < mostWaiting → g .count ≤ mostWaiting → all receiveOk (posted (rows g)) ≡ true
+        → qpSound (card l .pd) (cqLive (card l)) q (rows g) ≡ true
+    unfolding pairAt
+    sound g f c a =
+        let s = pair-sound l ok q within live in
+        pairing (card l .pd) (cqLive (card l)) q (rows g)
+        (record { live = s .live; domain = s .domain; sends = s .sends; receives = s .receives; limits = pair-limits; first = f; count = c; waiting = a })
+
+    moved-sound : qpSound (card l .pd) (cqLive (card l)) q (rows h′) ≡ true
+    unfolding pairAt ringList all
+    moved-sound = let s = pair-sound l ok q within live in by (eqb t 0) (s .count) (s .waiting) (s .first)
+      where
+        by : (a : Bool) → h .count ≤ mostWaiting → all receiveOk (posted (pairAt l q)) ≡ true → h .first < mostWaiting
+            → qpSound (card l .pd) (cqLive (card l)) q (rows (record { first = h .first; count = cond a 0 (h .count) })) ≡ true
+        by true x y z = sound (record { first = h .first; count = 0 }) z (omega arith) refl
+        by false x y z = sound h z x y
+
+    pub modify-qp : Kept l (Command.modifyQp r)
+    unfolding commandBytes commandEffect
+    modify-qp =
+        record {
+          meant = pair-card within moved-only ∙ rw (moved-after, means);
+          still = pair-accepted ok moved-only (rw moved-after moved-sound);
+        }

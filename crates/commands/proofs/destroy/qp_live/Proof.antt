@@ -1,0 +1,19 @@
+use Rattle.tables.proofs.ObjectLaws.{qp-live, qp-out}
+use borrow.Author.Needs.{needs}
+use Rattle.commands.proofs.destroy.qp_live.Statement.{statement}
+use Rattle.commands.proofs.destroy.qp_live.Tie as tie
+use Rattle.commands.proofs.destroy.qp_live.Reads as reads
+use Rattle.commands.proofs.destroy.qp_live.Lts as lts
+use Rattle.tables.proofs.rows.load_qp_flag.Reads as load-qp-flag-reads
+
+load-qp-flag-requires : tie.Need-load-qp-flag-requires
+load-qp-flag-requires c κs = search needs
+
+returns : tie.Need-returns
+returns c = rw (qp-live _ (c .before .before .before .args .n) (search needs)) (cc)
+
+returns-2 : tie.Need-returns-2
+returns-2 c = rw (qp-out _ (c .before .before .args .n) (search needs))
+
+pub qp-live-spec : {M : Type 1} → statement M
+qp-live-spec = tie.close (tie.spec load-qp-flag-requires returns returns-2)
