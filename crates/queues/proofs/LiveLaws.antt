@@ -55,7 +55,7 @@ module _ {l : List ℕ} {n : ℕ} (s : LiveQueue l n) where
   pub unread-none : isEmpty (card l .cq n .entries) ≡ eqb (h .count) 0
   unread-none = empty-is (card l .cq n .entries) ∙ rw unread-count
 
-  pub room-is : room (card l .cq n) 1 ≡ ltb (h .count) (h .places)
+  room-is : room (card l .cq n) 1 ≡ ltb (h .count) (h .places)
   room-is = rw (unread-count, add-one, ap (λ (q : Cq). q .places) (queue-is l queue-ok n queue-below queue-flag))
 
 module _ {l : List ℕ} {q : ℕ} (s : LivePair l q) where
@@ -86,7 +86,11 @@ module _ {l : List ℕ} {q : ℕ} (s : LivePair l q) where
   unfolding pairAt
   pair-rcq = ap (λ (x : Qp). x .rcq) (qp-row l q pair-below pair-flag)
 
-  -- its receive completion queue is live
+  -- the completion queues that it names
+  pub pair-queues : (p .scq < cqCount) × (p .rcq < cqCount)
+  unfolding pairAt
+  pair-queues = let u = pair-sound l pair-ok q pair-below pair-flag in (cq-below l (p .scq) (u .sends), cq-below l (p .rcq) (u .receives))
+
   pub rcq-live : LiveQueue l (p .rcq)
   unfolding pairAt
   rcq-live = record { ok = s .ok; live = pair-sound l pair-ok q pair-below pair-flag .receives }
