@@ -95,8 +95,9 @@ module _ {l : List ℕ} {q : ℕ} (s : LivePair l q) where
   unfolding pairAt
   rcq-live = record { ok = s .ok; live = pair-sound l pair-ok q pair-below pair-flag .receives }
 
-  pub rcq-room : room (card l .cq (card l .qp q .rcq)) 1 ≡ ltb (rowAt cqT l (p .rcq) .count) (rowAt cqT l (p .rcq) .places)
-  rcq-room = rw pair-rcq (room-is rcq-live)
+  pub rcq-room : (x : QueuePair) → x ≡ p → (u : QueueHead) → u ≡ rowAt cqT l (x .rcq)
+      → ltb (u .count) (u .places) ≡ room (card l .cq (card l .qp q .rcq)) 1
+  rcq-room x e u f = rw (f, e, pair-rcq) (sym (room-is rcq-live))
 
   pub waiting-count : length (card l .qp q .waiting) ≡ w .count
   unfolding pairAt
@@ -115,4 +116,4 @@ module _ {l : List ℕ} {q : ℕ} (s : LivePair l q) where
   some-wait e = let z = eqb-false (w .count) 0 (sym waiting-none ∙ e) in omega arith
 
   pub rcq-place : room (card l .cq (card l .qp q .rcq)) 1 ≡ true → rowAt cqT l (p .rcq) .count < rowAt cqT l (p .rcq) .places
-  rcq-place e = ltb-true (rowAt cqT l (p .rcq) .count) (rowAt cqT l (p .rcq) .places) (sym rcq-room ∙ e)
+  rcq-place e = let u : QueueHead = rowAt cqT l (p .rcq) in ltb-true (u .count) (u .places) (rcq-room p refl u refl ∙ e)

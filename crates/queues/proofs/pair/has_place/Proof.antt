@@ -20,7 +20,7 @@ load-cq-requires c κs =
 returns : tie.Need-returns
 returns c =
     let c1 = c .before .before .before in
-    rw (rcq-room (c1 .before .before .pre), ← (c1 .load-qp .ensures), ← (c .before .load-cq .ensures))
+    rcq-room (c1 .before .before .pre) _ (c1 .load-qp .ensures) _ (c .before .load-cq .ensures)
 
 pub has-place-spec : {M : Type 1} → statement M
 has-place-spec = tie.close (tie.spec load-qp-requires cast-load-cq load-cq-requires returns)
