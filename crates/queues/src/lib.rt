@@ -60,8 +60,9 @@ fn poll_queue(state: &mut [u8], n: usize, buffer: &mut [u8]) -> Answer
     if q.count == 0 {
         return Answer::Refused(NOTHING_THERE);
     }
+    let rest = q.pop();
     records::put_completion(buffer, 0, q.oldest());
-    queue::store_head(state, n, q.pop());
+    queue::store_head(state, n, rest);
     Answer::Done(0)
 }
 

@@ -4,12 +4,6 @@ use Rattle.queues.proofs.FlushLaws.{flush-state, flush-none, flush-held
 use borrow.Author.Needs.{needs}
 use Rattle.queues.proofs.flush_pair.Statement.{statement}
 use Rattle.queues.proofs.flush_pair.Tie as tie
-use Rattle.queues.proofs.flush_pair.Reads as reads
-use Rattle.queues.proofs.flush_pair.Lts as lts
-use Rattle.queues.proofs.pair.complete_oldest.Reads as complete-oldest-reads
-use Rattle.queues.proofs.pair.has_place.Reads as has-place-reads
-use Rattle.queues.proofs.pair.in_error.Reads as in-error-reads
-use Rattle.queues.proofs.pair.none_waiting.Reads as none-waiting-reads
 
 in-error-requires : tie.Need-in-error-requires
 in-error-requires c κs = search needs
@@ -28,8 +22,9 @@ same-length-2 c = search needs
 
 returns-2 : tie.Need-returns-2
 returns-2 c =
-    let six = sym (c .before .before .before .before .in-error .ensures) ∙ not-false _ (c .before .before .before .if1 .left) in
-    flush-none _ _ (c .before .before .before .before .before .before .before .pre) six (sym (c .before .none-waiting .ensures) ∙ c .if2 .taken)
+    let c1 = c .before .before .before in
+    let six = sym (c1 .before .in-error .ensures) ∙ not-false _ (c1 .if1 .left) in
+    flush-none _ _ (c1 .before .before .before .before .pre) six (sym (c .before .none-waiting .ensures) ∙ c .if2 .taken)
 
 has-place-requires : tie.Need-has-place-requires
 has-place-requires c κs = search needs
@@ -39,16 +34,20 @@ same-length-3 c = search needs
 
 returns-3 : tie.Need-returns-3
 returns-3 c =
-    let six = sym (c .before .before .before .before .before .before .before .in-error .ensures) ∙ not-false _ (c .before .before .before .before .before .before .if1 .left) in
-    let waits = sym (c .before .before .before .before .none-waiting .ensures) ∙ c .before .before .before .if2 .left in
-    flush-held _ _ (c .before .before .before .before .before .before .before .before .before .before .pre) six waits (sym (c .before .has-place .ensures) ∙ not-true _ (c .if3 .taken))
+    let c1 = c .before .before .before in
+    let c2 = c1 .before .before .before in
+    let six = sym (c2 .before .in-error .ensures) ∙ not-false _ (c2 .if1 .left) in
+    let waits = sym (c1 .before .none-waiting .ensures) ∙ c1 .if2 .left in
+    flush-held _ _ (c2 .before .before .before .before .pre) six waits (sym (c .before .has-place .ensures) ∙ not-true _ (c .if3 .taken))
 
 complete-oldest-requires : tie.Need-complete-oldest-requires
 complete-oldest-requires c κs =
+    let c1 = c .before in
+    let c2 = c1 .before .before .before in
     record {
-      pair = c .before .before .before .before .before .before .before .before .before .before .before .pre;
-      waits = sym (c .before .before .before .before .before .none-waiting .ensures) ∙ c .before .before .before .before .if2 .left;
-      place = sym (c .before .before .has-place .ensures) ∙ not-false _ (c .before .if3 .left);
+      pair = c2 .before .before .before .before .before .before .before .pre;
+      waits = sym (c2 .before .none-waiting .ensures) ∙ c2 .if2 .left;
+      place = sym (c1 .before .has-place .ensures) ∙ not-false _ (c1 .if3 .left);
     }
 
 same-length-4 : tie.Need-same-length-4
@@ -56,10 +55,13 @@ same-length-4 c = search needs
 
 returns-4 : tie.Need-returns-4
 returns-4 c =
-    let six = sym (c .before .before .before .before .before .before .before .before .before .before .before .in-error .ensures) ∙ not-false _ (c .before .before .before .before .before .before .before .before .before .before .if1 .left) in
-    let waits = sym (c .before .before .before .before .before .before .before .before .none-waiting .ensures) ∙ c .before .before .before .before .before .before .before .if2 .left in
-    let place = sym (c .before .before .before .before .before .has-place .ensures) ∙ not-false _ (c .before .before .before .before .if3 .left) in
-    flush-done _ _ (c .before .before .before .before .before .before .before .before .before .before .before .before .before .before .pre) six waits place _ (c .before .before .complete-oldest .ensures)
+    let c1 = c .before .before .before .before in
+    let c2 = c1 .before .before .before in
+    let c3 = c2 .before .before .before in
+    let six = sym (c3 .before .in-error .ensures) ∙ not-false _ (c3 .if1 .left) in
+    let waits = sym (c2 .before .none-waiting .ensures) ∙ c2 .if2 .left in
+    let place = sym (c1 .before .has-place .ensures) ∙ not-false _ (c1 .if3 .left) in
+    flush-done _ _ (c3 .before .before .before .before .pre) six waits place _ (c .before .before .complete-oldest .ensures)
 
 pub flush-pair-spec : {M : Type 1} → statement M
 flush-pair-spec =

@@ -6,10 +6,6 @@ use Rattle.queues.proofs.ReceiveLaws.{receive-dead}
 use borrow.Author.Needs.{needs}
 use Rattle.queues.proofs.join_any.Statement.{statement}
 use Rattle.queues.proofs.join_any.Tie as tie
-use Rattle.queues.proofs.join_any.Reads as reads
-use Rattle.queues.proofs.join_any.Lts as lts
-use Rattle.queues.proofs.join.Reads as join-reads
-use Rattle.queues.proofs.pair.live.Reads as live-reads
 
 live-requires : tie.Need-live-requires
 live-requires c κs = accepted _ (c .before .before .pre) .sized
@@ -19,11 +15,14 @@ same-length c = search needs
 
 returns : tie.Need-returns
 returns c =
-    let a = c .before .before .before .before .args in
-    λ x e. receive-dead (now (a .state)) (a .qpn) x (a .w) e (c .before .before .before .before .pre) (sym (c .before .live .ensures) ∙ not-true _ (c .if1 .taken))
+    let c1 = c .before .before .before .before in
+    let a = c1 .args in
+    λ x e. receive-dead (now (a .state)) (a .qpn) x (a .w) e (c1 .pre) (sym (c .before .live .ensures) ∙ not-true _ (c .if1 .taken))
 
 join-requires : tie.Need-join-requires
-join-requires c κs = record { ok = c .before .before .before .before .before .pre; live = sym (c .before .before .live .ensures) ∙ not-false _ (c .before .if1 .left) }
+join-requires c κs =
+    let c1 = c .before in
+    record { ok = c1 .before .before .before .before .pre; live = sym (c1 .before .live .ensures) ∙ not-false _ (c1 .if1 .left) }
 
 same-length-2 : tie.Need-same-length-2
 same-length-2 c = search needs
