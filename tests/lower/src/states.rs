@@ -91,18 +91,25 @@ fn with_live(table: usize, live: &[bool]) -> Vec<u8> {
     reference::reset(&mut state, 4096);
     if table > 1 {
         state[DOMAIN_FLAGS] = 1;
-        state[QUEUE_ROWS] = 1;
+        state[QUEUE_FLAGS] = 1;
+        state[queue_row(0) + QUEUE_PLACES] = 1;
     }
     for (n, &live) in live.iter().enumerate().filter(|(_, &live)| live) {
         match table {
             0 => state[DOMAIN_FLAGS + n] = live.into(),
-            1 => state[QUEUE_ROWS + n * QUEUE_ROW] = 1 + n as u8,
+            1 => {
+                state[QUEUE_FLAGS + n] = 1;
+                state[queue_row(n) + QUEUE_PLACES] = 1 + n as u8;
+            }
             2 => {
                 state[REGION_FLAGS + n] = 1;
-                state[REGION_ROWS + n * REGION_ROW + 1] = 1;
-                put64(&mut state, REGION_ROWS + n * REGION_ROW + 16, 1);
+                state[region_row(n) + REGION_VARIANT] = 1;
+                put64(&mut state, region_row(n) + REGION_LENGTH, 1);
             }
-            _ => state[PAIR_ROWS + n * PAIR_ROW..][..7].copy_from_slice(&[1, 0, 0, 0, 0, 0, NO_DESTINATION]),
+            _ => {
+                state[PAIR_FLAGS + n] = 1;
+                state[pair_row(n) + PAIR_DESTINATION] = NO_DESTINATION;
+            }
         }
     }
     state
@@ -122,12 +129,12 @@ fn random(other: &dyn Lower, rng: &mut Rng, tally: &mut Tally) {
         rng.fill(&mut state);
         if n % 2 == 0 {
             put64(&mut state, MEMORY_LENGTH, 1 + rng.below(MOST_MEMORY));
-            for flags in [DOMAIN_FLAGS..DOMAIN_FLAGS + DOMAINS, REGION_FLAGS..REGION_FLAGS + REGIONS] {
-                state[flags].iter_mut().for_each(|byte| *byte &= 1);
+            for (at, length) in FLAGS {
+                state[at..at + length].iter_mut().for_each(|byte| *byte &= 1);
             }
         }
         if n % 4 == 0 {
-            state[QUEUE_ROWS..][..QUEUES * QUEUE_ROW].fill(0);
+            state[QUEUE_FLAGS..][..QUEUES].fill(0);
         }
         accepted(other, &state, tally);
     }
