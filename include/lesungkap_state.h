@@ -18,35 +18,31 @@
 extern "C" {
 #endif
 
-/* The layout: a row of each table, where each table begins, where its live bytes stand and how far apart (not 0: live), and the fields of
- * a row. Nothing below this block knows an offset. */
+/* The layout: a row of each table; where each table begins, one block for each kind of object, its live flags first (1: live); and the
+ * fields of a row. Nothing below this block knows an offset. */
 enum {
+    LESUNGKAP_STATE_HEADER = 16,
     LESUNGKAP_STATE_CQ_ROW = 4,
+    LESUNGKAP_STATE_COMPLETION_ROW = LESUNGKAP_COMPLETION_BYTES, /* a completion */
+    LESUNGKAP_STATE_MR_ROW = 32,
     LESUNGKAP_STATE_QP_ROW = 8,
     LESUNGKAP_STATE_WAITING_ROW = 2,
-    LESUNGKAP_STATE_MR_ROW = 32,
-    LESUNGKAP_STATE_RECEIVE_ROW = LESUNGKAP_RECEIVE_MOST_BYTES,  /* a receive record */
-    LESUNGKAP_STATE_COMPLETION_ROW = LESUNGKAP_COMPLETION_BYTES, /* a completion */
+    LESUNGKAP_STATE_RECEIVE_ROW = LESUNGKAP_RECEIVE_MOST_BYTES, /* a receive record */
 
     LESUNGKAP_STATE_MEMORY_AT = 0,
-    LESUNGKAP_STATE_PD_LIVE_AT = 16,
-    LESUNGKAP_STATE_MR_LIVE_AT = LESUNGKAP_STATE_PD_LIVE_AT + LESUNGKAP_PD_COUNT,
-    LESUNGKAP_STATE_CQS_AT = LESUNGKAP_STATE_MR_LIVE_AT + LESUNGKAP_MR_COUNT,
-    LESUNGKAP_STATE_QPS_AT = LESUNGKAP_STATE_CQS_AT + LESUNGKAP_CQ_COUNT * LESUNGKAP_STATE_CQ_ROW,
-    LESUNGKAP_STATE_WAITING_AT = LESUNGKAP_STATE_QPS_AT + LESUNGKAP_QP_COUNT * LESUNGKAP_STATE_QP_ROW,
-    LESUNGKAP_STATE_MRS_AT = LESUNGKAP_STATE_WAITING_AT + LESUNGKAP_QP_COUNT * LESUNGKAP_STATE_WAITING_ROW,
-    LESUNGKAP_STATE_RECEIVES_AT = LESUNGKAP_STATE_MRS_AT + LESUNGKAP_MR_COUNT * LESUNGKAP_STATE_MR_ROW,
-    LESUNGKAP_STATE_COMPLETIONS_AT =
-        LESUNGKAP_STATE_RECEIVES_AT + LESUNGKAP_QP_COUNT * LESUNGKAP_QP_MOST_RECEIVES * LESUNGKAP_STATE_RECEIVE_ROW,
-    LESUNGKAP_STATE_BYTES =
+    LESUNGKAP_STATE_PD_LIVE_AT = LESUNGKAP_STATE_HEADER,
+    LESUNGKAP_STATE_CQ_LIVE_AT = LESUNGKAP_STATE_PD_LIVE_AT + LESUNGKAP_PD_COUNT,
+    LESUNGKAP_STATE_CQS_AT = LESUNGKAP_STATE_CQ_LIVE_AT + LESUNGKAP_CQ_COUNT,
+    LESUNGKAP_STATE_COMPLETIONS_AT = LESUNGKAP_STATE_CQS_AT + LESUNGKAP_CQ_COUNT * LESUNGKAP_STATE_CQ_ROW,
+    LESUNGKAP_STATE_MR_LIVE_AT =
         LESUNGKAP_STATE_COMPLETIONS_AT + LESUNGKAP_CQ_COUNT * LESUNGKAP_CQ_MOST_PLACES * LESUNGKAP_STATE_COMPLETION_ROW,
-
-    LESUNGKAP_STATE_CQ_LIVE_AT = LESUNGKAP_STATE_CQS_AT, /* the places: a queue with none is not live */
-    LESUNGKAP_STATE_QP_LIVE_AT = LESUNGKAP_STATE_QPS_AT,
-    LESUNGKAP_STATE_PD_LIVE_STEP = 1,
-    LESUNGKAP_STATE_CQ_LIVE_STEP = LESUNGKAP_STATE_CQ_ROW,
-    LESUNGKAP_STATE_MR_LIVE_STEP = 1,
-    LESUNGKAP_STATE_QP_LIVE_STEP = LESUNGKAP_STATE_QP_ROW,
+    LESUNGKAP_STATE_MRS_AT = LESUNGKAP_STATE_MR_LIVE_AT + LESUNGKAP_MR_COUNT,
+    LESUNGKAP_STATE_QP_LIVE_AT = LESUNGKAP_STATE_MRS_AT + LESUNGKAP_MR_COUNT * LESUNGKAP_STATE_MR_ROW,
+    LESUNGKAP_STATE_QPS_AT = LESUNGKAP_STATE_QP_LIVE_AT + LESUNGKAP_QP_COUNT,
+    LESUNGKAP_STATE_WAITING_AT = LESUNGKAP_STATE_QPS_AT + LESUNGKAP_QP_COUNT * LESUNGKAP_STATE_QP_ROW,
+    LESUNGKAP_STATE_RECEIVES_AT = LESUNGKAP_STATE_WAITING_AT + LESUNGKAP_QP_COUNT * LESUNGKAP_STATE_WAITING_ROW,
+    LESUNGKAP_STATE_BYTES =
+        LESUNGKAP_STATE_RECEIVES_AT + LESUNGKAP_QP_COUNT * LESUNGKAP_QP_MOST_RECEIVES * LESUNGKAP_STATE_RECEIVE_ROW,
 
     LESUNGKAP_STATE_CQ_PLACES_AT = 0,
     LESUNGKAP_STATE_CQ_FIRST_AT = 1,
@@ -57,12 +53,12 @@ enum {
     LESUNGKAP_STATE_MR_START_AT = 8,
     LESUNGKAP_STATE_MR_LENGTH_AT = 16,
     LESUNGKAP_STATE_MR_VIRT_AT = 24,
-    LESUNGKAP_STATE_QP_PDN_AT = 1,
-    LESUNGKAP_STATE_QP_SIGNAL_AT = 2,
-    LESUNGKAP_STATE_QP_SEND_CQN_AT = 3,
-    LESUNGKAP_STATE_QP_RECEIVE_CQN_AT = 4,
-    LESUNGKAP_STATE_QP_STATE_AT = 5,
-    LESUNGKAP_STATE_QP_DESTINATION_AT = 6,
+    LESUNGKAP_STATE_QP_PDN_AT = 0,
+    LESUNGKAP_STATE_QP_SIGNAL_AT = 1,
+    LESUNGKAP_STATE_QP_SEND_CQN_AT = 2,
+    LESUNGKAP_STATE_QP_RECEIVE_CQN_AT = 3,
+    LESUNGKAP_STATE_QP_STATE_AT = 4,
+    LESUNGKAP_STATE_QP_DESTINATION_AT = 5,
     LESUNGKAP_STATE_WAITING_FIRST_AT = 0,
     LESUNGKAP_STATE_WAITING_COUNT_AT = 1
 };
@@ -106,26 +102,24 @@ static inline unsigned lesungkap_peek_memory(const uint8_t *state, size_t state_
     return LESUNGKAP_DONE;
 }
 
-/* Whether object `number` of `count` is live, by its byte of those from `at` on, `step` apart. */
-static inline unsigned lesungkap_peek_live_(const uint8_t *state, size_t state_len, size_t at, size_t step, uint32_t count,
-                                            uint32_t number)
+/* Whether object `number` of `count` is live, by its flag of those from `at` on. */
+static inline unsigned lesungkap_peek_live_(const uint8_t *state, size_t state_len, size_t at, uint32_t count, uint32_t number)
 {
     if (state_len != LESUNGKAP_STATE_BYTES) {
         return LESUNGKAP_BAD_STATE;
     }
-    return number < count && state[at + step * number] != 0 ? LESUNGKAP_DONE : LESUNGKAP_NOT_LIVE;
+    return number < count && state[at + number] == 1 ? LESUNGKAP_DONE : LESUNGKAP_NOT_LIVE;
 }
 
 /* Whether the protection domain is live. */
 static inline unsigned lesungkap_peek_pd(const uint8_t *state, size_t state_len, uint32_t pdn)
 {
-    return lesungkap_peek_live_(state, state_len, LESUNGKAP_STATE_PD_LIVE_AT, LESUNGKAP_STATE_PD_LIVE_STEP, LESUNGKAP_PD_COUNT, pdn);
+    return lesungkap_peek_live_(state, state_len, LESUNGKAP_STATE_PD_LIVE_AT, LESUNGKAP_PD_COUNT, pdn);
 }
 
 static inline unsigned lesungkap_peek_cq(const uint8_t *state, size_t state_len, uint32_t cqn, struct lesungkap_cq *cq)
 {
-    const unsigned answer =
-        lesungkap_peek_live_(state, state_len, LESUNGKAP_STATE_CQ_LIVE_AT, LESUNGKAP_STATE_CQ_LIVE_STEP, LESUNGKAP_CQ_COUNT, cqn);
+    const unsigned answer = lesungkap_peek_live_(state, state_len, LESUNGKAP_STATE_CQ_LIVE_AT, LESUNGKAP_CQ_COUNT, cqn);
     if (answer == LESUNGKAP_DONE) {
         const uint8_t *row = state + LESUNGKAP_STATE_CQS_AT + (size_t)LESUNGKAP_STATE_CQ_ROW * cqn;
         cq->places = row[LESUNGKAP_STATE_CQ_PLACES_AT];
@@ -154,8 +148,7 @@ static inline unsigned lesungkap_peek_completion(const uint8_t *state, size_t st
 
 static inline unsigned lesungkap_peek_mr(const uint8_t *state, size_t state_len, uint32_t mrn, struct lesungkap_mr *mr)
 {
-    const unsigned answer =
-        lesungkap_peek_live_(state, state_len, LESUNGKAP_STATE_MR_LIVE_AT, LESUNGKAP_STATE_MR_LIVE_STEP, LESUNGKAP_MR_COUNT, mrn);
+    const unsigned answer = lesungkap_peek_live_(state, state_len, LESUNGKAP_STATE_MR_LIVE_AT, LESUNGKAP_MR_COUNT, mrn);
     if (answer == LESUNGKAP_DONE) {
         const uint8_t *row = state + LESUNGKAP_STATE_MRS_AT + (size_t)LESUNGKAP_STATE_MR_ROW * mrn;
         mr->pdn = row[LESUNGKAP_STATE_MR_PDN_AT];
@@ -170,8 +163,7 @@ static inline unsigned lesungkap_peek_mr(const uint8_t *state, size_t state_len,
 
 static inline unsigned lesungkap_peek_qp(const uint8_t *state, size_t state_len, uint32_t qpn, struct lesungkap_qp *qp)
 {
-    const unsigned answer =
-        lesungkap_peek_live_(state, state_len, LESUNGKAP_STATE_QP_LIVE_AT, LESUNGKAP_STATE_QP_LIVE_STEP, LESUNGKAP_QP_COUNT, qpn);
+    const unsigned answer = lesungkap_peek_live_(state, state_len, LESUNGKAP_STATE_QP_LIVE_AT, LESUNGKAP_QP_COUNT, qpn);
     if (answer == LESUNGKAP_DONE) {
         const uint8_t *row = state + LESUNGKAP_STATE_QPS_AT + (size_t)LESUNGKAP_STATE_QP_ROW * qpn;
         const uint8_t *waiting = state + LESUNGKAP_STATE_WAITING_AT + (size_t)LESUNGKAP_STATE_WAITING_ROW * qpn;

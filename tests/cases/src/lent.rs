@@ -126,7 +126,7 @@ pub fn numbers_past_the_tables_are_not_live(card: &dyn Card) {
 
 pub fn a_bad_state_comes_before_all_else(card: &dyn Card) {
     let mut bad = sample(card);
-    bad[PAIR_ROWS + 5] = 4;
+    bad[pair_row(0) + PAIR_STATE] = 4;
     let longer = [&sample(card)[..], &[0]].concat();
     let shorter = sample(card)[..STATE_BYTES - 1].to_vec();
     for lent in [bad, longer, shorter, vec![]] {
@@ -156,12 +156,14 @@ pub fn a_reset_mends_a_damaged_state(card: &dyn Card) {
 
 pub fn forged_but_acceptable_states(card: &dyn Card) {
     type Change<'a> = (&'a str, &'a [(usize, u8)], u8);
-    let changes: [Change; 5] = [
-        ("ready to send without destination", &[(PAIR_ROWS + 6, 8)], 5),
-        ("destination not live", &[(PAIR_ROWS + 6, 7)], 5),
-        ("peer in state 0 with a waiting receive", &[(PAIR_ROWS + PAIR_ROW + 5, 0)], 5),
-        ("free slot with any variant", &[(REGION_ROWS + 9 * REGION_ROW + 1, 255)], 0),
-        ("queue's first place past its places", &[(QUEUE_ROWS + 1, 15), (QUEUE_ROWS + 2, 0)], 0),
+    let changes: [Change; 7] = [
+        ("ready to send without destination", &[(pair_row(0) + PAIR_DESTINATION, 8)], 5),
+        ("destination not live", &[(pair_row(0) + PAIR_DESTINATION, 7)], 5),
+        ("peer in state 0 with a waiting receive", &[(pair_row(1) + PAIR_STATE, 0)], 5),
+        ("free slot with any variant", &[(region_row(9) + REGION_VARIANT, 255)], 0),
+        ("queue's first place past its places", &[(queue_row(0) + QUEUE_FIRST, 15), (queue_row(0) + QUEUE_COUNT, 0)], 0),
+        ("free queue with any head", &[(queue_row(7) + QUEUE_PLACES, 17), (queue_row(7) + QUEUE_COUNT, 18)], 0),
+        ("free pair with any row", &[(pair_row(7) + PAIR_STATE, 4), (waiting_row(7) + WAITING_COUNT, 5)], 0),
     ];
     for (name, bytes, wanted) in changes {
         let mut state = sample(card);
@@ -174,41 +176,43 @@ pub fn forged_but_acceptable_states(card: &dyn Card) {
 }
 
 /// A fault, and the bytes of the sample that make it. A wrong length is made apart.
-const FAULTS: [(Fault, usize, &[u8]); 34] = [
+const FAULTS: [(Fault, usize, &[u8]); 36] = [
     (Fault::MemoryLength, MEMORY_LENGTH, &[0, 0]),
     (Fault::MemoryLength, MEMORY_LENGTH + 2, &[17]),
     (Fault::DomainFlag, DOMAIN_FLAGS + 5, &[2]),
-    (Fault::QueuePlaces, QUEUE_ROWS, &[17]),
-    (Fault::QueueFirst, QUEUE_ROWS + 1, &[16]),
-    (Fault::QueueCount, QUEUE_ROWS + 2, &[5]),
-    (Fault::CompletionStatus, COMPLETION_ROWS + 8, &[2]),
-    (Fault::CompletionOpcode, COMPLETION_ROWS + 9, &[5]),
-    (Fault::CompletionLength, COMPLETION_ROWS + 12, &[1, 16]),
-    (Fault::CompletionOwner, COMPLETION_ROWS + 20, &[8]),
+    (Fault::QueueFlag, QUEUE_FLAGS + 7, &[2]),
+    (Fault::QueuePlaces, queue_row(1) + QUEUE_PLACES, &[0]),
+    (Fault::QueuePlaces, queue_row(0) + QUEUE_PLACES, &[17]),
+    (Fault::QueueFirst, queue_row(0) + QUEUE_FIRST, &[16]),
+    (Fault::QueueCount, queue_row(0) + QUEUE_COUNT, &[5]),
+    (Fault::CompletionStatus, completion_row(0, 0) + COMPLETION_STATUS, &[2]),
+    (Fault::CompletionOpcode, completion_row(0, 0) + COMPLETION_OPCODE, &[5]),
+    (Fault::CompletionLength, completion_row(0, 0) + COMPLETION_LENGTH, &[1, 16]),
+    (Fault::CompletionOwner, completion_row(0, 0) + COMPLETION_OWNER, &[8]),
     (Fault::RegionFlag, REGION_FLAGS + 31, &[2]),
-    (Fault::RegionAccess, REGION_ROWS, &[8]),
-    (Fault::RegionVariant, REGION_ROWS + 1, &[0]),
-    (Fault::RegionDomain, REGION_ROWS + 2, &[2]),
-    (Fault::RegionDomain, REGION_ROWS + 2, &[8]),
-    (Fault::RegionEmpty, REGION_ROWS + 16, &[0, 0]),
-    (Fault::RegionMemory, REGION_ROWS + 8, &[1]),
-    (Fault::RegionAddress, REGION_ROWS + 24, &[0, 0xf0, 0xff, 0xff, 0xff, 0xff, 0xff, 0xff]),
-    (Fault::PairFlag, PAIR_ROWS, &[2]),
-    (Fault::PairDomain, PAIR_ROWS + 1, &[2]),
-    (Fault::PairDomain, PAIR_ROWS + 1, &[8]),
-    (Fault::PairSignal, PAIR_ROWS + 2, &[2]),
-    (Fault::PairSendQueue, PAIR_ROWS + 3, &[2]),
-    (Fault::PairSendQueue, PAIR_ROWS + 3, &[8]),
-    (Fault::PairReceiveQueue, PAIR_ROWS + 4, &[2]),
-    (Fault::PairReceiveQueue, PAIR_ROWS + 4, &[255]),
-    (Fault::PairState, PAIR_ROWS + 5, &[4]),
-    (Fault::PairState, PAIR_ROWS + 5, &[5]),
-    (Fault::PairState, PAIR_ROWS + 5, &[7]),
-    (Fault::PairDestination, PAIR_ROWS + 6, &[9]),
-    (Fault::PairNamesItself, PAIR_ROWS + 6, &[0]),
-    (Fault::WaitingFirst, WAITING_ROWS + WAITING_ROW, &[4]),
-    (Fault::WaitingCount, WAITING_ROWS + WAITING_ROW + 1, &[5]),
-    (Fault::ReceivePieces, RECEIVE_ROWS + 4 * RECEIVE_ROW + 8, &[3]),
+    (Fault::RegionAccess, region_row(0) + REGION_ACCESS, &[8]),
+    (Fault::RegionVariant, region_row(0) + REGION_VARIANT, &[0]),
+    (Fault::RegionDomain, region_row(0) + REGION_DOMAIN, &[2]),
+    (Fault::RegionDomain, region_row(0) + REGION_DOMAIN, &[8]),
+    (Fault::RegionEmpty, region_row(0) + REGION_LENGTH, &[0, 0]),
+    (Fault::RegionMemory, region_row(0) + REGION_START, &[1]),
+    (Fault::RegionAddress, region_row(0) + REGION_VIRT, &[0, 0xf0, 0xff, 0xff, 0xff, 0xff, 0xff, 0xff]),
+    (Fault::PairFlag, PAIR_FLAGS, &[2]),
+    (Fault::PairDomain, pair_row(0) + PAIR_DOMAIN, &[2]),
+    (Fault::PairDomain, pair_row(0) + PAIR_DOMAIN, &[8]),
+    (Fault::PairSignal, pair_row(0) + PAIR_SIGNAL, &[2]),
+    (Fault::PairSendQueue, pair_row(0) + PAIR_SEND_QUEUE, &[2]),
+    (Fault::PairSendQueue, pair_row(0) + PAIR_SEND_QUEUE, &[8]),
+    (Fault::PairReceiveQueue, pair_row(0) + PAIR_RECEIVE_QUEUE, &[2]),
+    (Fault::PairReceiveQueue, pair_row(0) + PAIR_RECEIVE_QUEUE, &[255]),
+    (Fault::PairState, pair_row(0) + PAIR_STATE, &[4]),
+    (Fault::PairState, pair_row(0) + PAIR_STATE, &[5]),
+    (Fault::PairState, pair_row(0) + PAIR_STATE, &[7]),
+    (Fault::PairDestination, pair_row(0) + PAIR_DESTINATION, &[9]),
+    (Fault::PairNamesItself, pair_row(0) + PAIR_DESTINATION, &[0]),
+    (Fault::WaitingFirst, waiting_row(1) + WAITING_FIRST, &[4]),
+    (Fault::WaitingCount, waiting_row(1) + WAITING_COUNT, &[5]),
+    (Fault::ReceivePieces, receive_row(1, 0) + RECEIVE_COUNT, &[3]),
 ];
 
 /// A call of each kind but reset, with all that it is lent in order.
@@ -249,7 +253,7 @@ pub fn each_fault_is_found(card: &dyn Card) {
 pub fn a_state_without_a_fault_is_taken(card: &dyn Card) {
     let good = sample(card);
     let mut edge = good.clone();
-    edge[REGION_ROWS + 24..REGION_ROWS + 32].copy_from_slice(&(u64::MAX - 4096).to_le_bytes());
+    put64(&mut edge, region_row(0) + REGION_VIRT, u64::MAX - 4096);
     for lent in [good, edge] {
         assert_eq!(fault(&lent), None);
         let answers =

@@ -1,6 +1,5 @@
 //! Plays long lists of calls on the reference and on another card and compares answer, status, ack, completion, every memory byte
-//! and every object of the state after each call; and that a refused call changed nothing. Objects are listed only where the bytes of
-//! the two states differ.
+//! and every byte of the state after each call; and that a refused call changed nothing.
 
 mod coverage;
 mod guarded;
@@ -25,8 +24,6 @@ struct Run {
 /// What a run has seen.
 pub struct Report {
     pub calls: u64,
-    /// After how many calls answered 0 the two states have the same objects, but other bytes where bytes have no meaning.
-    pub other_bytes: u64,
     pub coverage: Coverage,
     pub differences: Vec<String>,
 }
@@ -35,7 +32,7 @@ pub struct Report {
 pub fn run(other: &'static dyn Card, calls: u64, seed: u64, most: usize) -> Report {
     let mut run = Run {
         generator: Generator::new(seed),
-        report: Report { calls: 0, other_bytes: 0, coverage: Coverage::default(), differences: Vec::new() },
+        report: Report { calls: 0, coverage: Coverage::default(), differences: Vec::new() },
         first: Side::new(&Reference),
         second: Side::new(other),
         card: None,
@@ -96,7 +93,6 @@ impl Run {
             Ok(done) => {
                 self.generator.observe(call, done.outcome, &done.written);
                 self.report.coverage.count(self.card.as_ref(), call, &done);
-                self.report.other_bytes += u64::from(!done.same_bytes);
                 if done.outcome.answer == 0 {
                     self.card = Listing::of(&self.first.state);
                 }

@@ -27,7 +27,6 @@ fn main() -> ExitCode {
     for difference in &report.differences {
         println!("DIFFERS {difference}");
     }
-    println!("states with other bytes where bytes have no meaning: {}", report.other_bytes);
     println!("{} calls, {} differences, {missing} cells never seen", report.calls, report.differences.len());
     if missing == 0 && report.differences.is_empty() {
         ExitCode::SUCCESS

@@ -21,8 +21,6 @@ pub struct Side {
 pub struct Done {
     pub outcome: Outcome,
     pub written: Guarded,
-    /// Whether the two states are the same in bytes that have no meaning as well.
-    pub same_bytes: bool,
 }
 
 impl Side {
@@ -94,13 +92,13 @@ impl Side {
             _ => &mut self.memory,
         };
         let outcome = call.make(self.card, &mut self.state, memory, &mut written);
-        (Done { outcome, written, same_bytes: true }, other)
+        (Done { outcome, written }, other)
     }
 }
 
 /// Makes the call on both; the error says what differs.
 pub fn compare(first: &mut Side, second: &mut Side, call: &Call) -> Result<Done, String> {
-    let mut wanted = first.play(call)?;
+    let wanted = first.play(call)?;
     let found = second.play(call)?;
     if found.outcome != wanted.outcome {
         return Err(format!("{:?}, reference {:?} ({:?})", found.outcome, wanted.outcome, fault(&first.state)));
@@ -112,28 +110,27 @@ pub fn compare(first: &mut Side, second: &mut Side, call: &Call) -> Result<Done,
         return Ok(wanted);
     }
     if first.memory[..] != second.memory[..] {
-        return Err(differing_byte(&first.memory, &second.memory));
+        return Err(differing_byte("memory", &first.memory, &second.memory));
     }
     if let Some(fault) = fault(&first.state) {
         return Err(format!("the reference leaves a state with {fault:?}"));
     }
-    wanted.same_bytes = first.state[..] == second.state[..];
-    if !wanted.same_bytes {
-        same_objects(&first.state, &second.state)?;
+    if first.state[..] != second.state[..] {
+        return Err(differing_state(&first.state, &second.state));
     }
     Ok(wanted)
 }
 
-fn differing_byte(wanted: &[u8], found: &[u8]) -> String {
+fn differing_byte(what: &str, wanted: &[u8], found: &[u8]) -> String {
     let at = wanted.iter().zip(found).position(|(a, b)| a != b).unwrap_or(0);
-    format!("memory byte {at} is {}, reference {}", found[at], wanted[at])
+    format!("{what} byte {at} is {}, reference {}", found[at], wanted[at])
 }
 
-fn same_objects(wanted: &[u8], found: &[u8]) -> Result<(), String> {
-    match (Listing::of(wanted), Listing::of(found)) {
-        (Some(wanted), Some(found)) => {
-            wanted.difference(&found).map_or(Ok(()), |object| Err(format!("state: reference {object}")))
-        }
-        _ => Err(format!("leaves a state with {:?}, reference with {:?}", fault(found), fault(wanted))),
-    }
+/// The first byte that differs, and the object, unless the byte has no meaning.
+fn differing_state(wanted: &[u8], found: &[u8]) -> String {
+    let object = match (Listing::of(wanted), Listing::of(found)) {
+        (Some(wanted), Some(found)) => wanted.difference(&found).unwrap_or("the same objects".into()),
+        _ => format!("{:?}, other {:?}", fault(wanted), fault(found)),
+    };
+    format!("{}; reference {object}", differing_byte("state", wanted, found))
 }

@@ -41,85 +41,95 @@ fn sample(rng: &mut Rng, count: usize, live: &[usize]) -> Vec<usize> {
     slots
 }
 
-/// Visits every field of the layout, of regions those of the given slots, and some bytes that are not used; values for a region's range
-/// are taken against its other fields.
+/// Visits every field of the layout, of regions those of the given slots, and the bytes that are written as 0 or not used; values for a
+/// region's range are taken against its other fields.
 pub fn fields(state: &[u8], slots: &[usize], visit: &mut dyn FnMut(Field)) {
     put(visit, true, MEMORY_LENGTH, 8, &[0, 1, MOST_MEMORY, MOST_MEMORY + 1, u64::MAX]);
-    put(visit, true, MEMORY_LENGTH + 8, 8, &[0, u64::MAX]);
+    put(visit, true, HEADER_UNUSED, 8, &[0, u64::MAX]);
     for n in 0..DOMAINS {
         put(visit, true, DOMAIN_FLAGS + n, 1, &[0, 1, 2, 255]);
-    }
-    for &n in slots {
-        put(visit, true, REGION_FLAGS + n, 1, &[0, 1, 2, 255]);
     }
     for n in 0..QUEUES {
         queue_fields(visit, state, n);
     }
-    for n in 0..PAIRS {
-        pair_fields(visit, state, n);
-    }
     for &n in slots {
         region_fields(visit, state, n);
     }
+    for n in 0..PAIRS {
+        pair_fields(visit, state, n);
+    }
+}
+
+/// Whether a place of a ring of `places` holds something.
+fn holds(place: usize, places: usize, first: u8, count: u8) -> bool {
+    (place + places - usize::from(first) % places) % places < count.into()
 }
 
 fn queue_fields(visit: &mut dyn FnMut(Field), state: &[u8], number: usize) {
-    let row = QUEUE_ROWS + number * QUEUE_ROW;
-    let (live, first, count) = (state[row] != 0, state[row + 1], state[row + 2]);
-    put(visit, true, row, 1, &[0, 1, 2, 15, 16, 17, 255]);
-    put(visit, live, row + 1, 1, &[0, 15, 16, 255]);
-    put(visit, live, row + 2, 1, &[0, 1, 2, 3, 8, 15, 16, 17, 255]);
-    put(visit, live, row + 3, 1, &[0, 255]);
+    let live = state[QUEUE_FLAGS + number] == 1;
+    let row = queue_row(number);
+    let (first, count) = (state[row + QUEUE_FIRST], state[row + QUEUE_COUNT]);
+    put(visit, true, QUEUE_FLAGS + number, 1, &[0, 1, 2, 255]);
+    put(visit, live, row + QUEUE_PLACES, 1, &[0, 1, 2, 15, 16, 17, 255]);
+    put(visit, live, row + QUEUE_FIRST, 1, &[0, 15, 16, 255]);
+    put(visit, live, row + QUEUE_COUNT, 1, &[0, 1, 2, 3, 8, 15, 16, 17, 255]);
+    put(visit, live, row + QUEUE_ZERO, 1, &[0, 255]);
     for place in 0..MOST_PLACES {
-        let live = live && (place + MOST_PLACES - usize::from(first) % MOST_PLACES) % MOST_PLACES < count.into();
-        let row = COMPLETION_ROWS + (number * MOST_PLACES + place) * COMPLETION_BYTES;
-        put(visit, live, row + 8, 1, &[0, 1, 2, 3, 4, 5, 6, 7, 8, 9, 255]);
-        put(visit, live, row + 9, 1, &[0, 4, 5, 255]);
-        put(visit, live, row + 10, 2, &[0, 1, 0xffff]);
-        put(visit, live, row + 12, 4, &[0, 4096, 4097, 1 << 31]);
-        put(visit, live, row + 20, 4, &[0, 7, 8, 256, 1 << 31]);
-    }
-}
-
-fn pair_fields(visit: &mut dyn FnMut(Field), state: &[u8], number: usize) {
-    let row = PAIR_ROWS + number * PAIR_ROW;
-    let live = state[row] == 1;
-    put(visit, true, row, 1, &[0, 1, 2, 255]);
-    for at in [1, 3, 4] {
-        put(visit, live, row + at, 1, &[0, 1, 2, 3, 4, 5, 6, 7, 8, 255]);
-    }
-    put(visit, live, row + 2, 1, &[0, 1, 2, 255]);
-    put(visit, live, row + 5, 1, &[0, 1, 2, 3, 4, 5, 6, 7, 255]);
-    put(visit, live, row + 6, 1, &[0, 1, 2, 3, 4, 5, 6, 7, 8, 9, 255]);
-    put(visit, live, row + 7, 1, &[0, 255]);
-    let waiting = WAITING_ROWS + number * WAITING_ROW;
-    let (first, count) = (state[waiting], state[waiting + 1]);
-    put(visit, live, waiting, 1, &[0, 1, 2, 3, 4, 255]);
-    put(visit, live, waiting + 1, 1, &[0, 1, 2, 3, 4, 5, 255]);
-    for place in 0..MOST_WAITING {
-        let live = live && (place + MOST_WAITING - usize::from(first) % MOST_WAITING) % MOST_WAITING < count.into();
-        let row = RECEIVE_ROWS + (number * MOST_WAITING + place) * RECEIVE_ROW;
-        put(visit, live, row + 8, 4, &[0, 1, 2, 3, 256, u32::MAX.into()]);
-        put(visit, live, row + 16, 8, &[0, u64::MAX]);
+        let live = live && holds(place, MOST_PLACES, first, count);
+        let row = completion_row(number, place);
+        put(visit, live, row + COMPLETION_STATUS, 1, &[0, 1, 2, 3, 4, 5, 6, 7, 8, 9, 255]);
+        put(visit, live, row + COMPLETION_OPCODE, 1, &[0, 4, 5, 255]);
+        put(visit, live, row + COMPLETION_ZERO, 2, &[0, 1, 0xffff]);
+        put(visit, live, row + COMPLETION_LENGTH, 4, &[0, 4096, 4097, 1 << 31]);
+        put(visit, live, row + COMPLETION_OWNER, 4, &[0, 7, 8, 256, 1 << 31]);
     }
 }
 
 fn region_fields(visit: &mut dyn FnMut(Field), state: &[u8], number: usize) {
     let memory = get64(state, MEMORY_LENGTH);
     let live = state[REGION_FLAGS + number] == 1;
-    let row = REGION_ROWS + number * REGION_ROW;
-    let (start, length, virt) = (get64(state, row + 8), get64(state, row + 16), get64(state, row + 24));
-    put(visit, live, row, 1, &[0, 1, 2, 3, 4, 5, 6, 7, 8, 255]);
-    put(visit, true, row + 1, 1, &[0, 1, 255]);
-    put(visit, live, row + 2, 1, &[0, 1, 2, 3, 4, 5, 6, 7, 8, 255]);
-    put(visit, live, row + 4, 4, &[0, u32::MAX.into()]);
+    let row = region_row(number);
+    let start = get64(state, row + REGION_START);
+    let length = get64(state, row + REGION_LENGTH);
+    let virt = get64(state, row + REGION_VIRT);
+    put(visit, true, REGION_FLAGS + number, 1, &[0, 1, 2, 255]);
+    put(visit, live, row + REGION_ACCESS, 1, &[0, 1, 2, 3, 4, 5, 6, 7, 8, 255]);
+    put(visit, true, row + REGION_VARIANT, 1, &[0, 1, 255]);
+    put(visit, live, row + REGION_DOMAIN, 1, &[0, 1, 2, 3, 4, 5, 6, 7, 8, 255]);
+    put(visit, live, row + REGION_ZERO, 1, &[0, 255]);
+    put(visit, live, row + REGION_UNUSED, 4, &[0, u32::MAX.into()]);
     let last_start = memory.wrapping_sub(length);
-    put(visit, live, row + 8, 8, &[0, last_start, last_start.wrapping_add(1), memory, 0u64.wrapping_sub(length), u64::MAX]);
+    let starts = [0, last_start, last_start.wrapping_add(1), memory, 0u64.wrapping_sub(length), u64::MAX];
+    put(visit, live, row + REGION_START, 8, &starts);
     let last_length = memory.wrapping_sub(start);
     let to_top = u64::MAX - virt;
-    put(visit, live, row + 16, 8, &[0, 1, last_length, last_length.wrapping_add(1), to_top, 0u64.wrapping_sub(start), u64::MAX]);
+    let lengths = [0, 1, last_length, last_length.wrapping_add(1), to_top, 0u64.wrapping_sub(start), u64::MAX];
+    put(visit, live, row + REGION_LENGTH, 8, &lengths);
     let last_virt = u64::MAX.wrapping_sub(length);
-    put(visit, live, row + 24, 8, &[0, last_virt, last_virt.wrapping_add(1), u64::MAX]);
+    put(visit, live, row + REGION_VIRT, 8, &[0, last_virt, last_virt.wrapping_add(1), u64::MAX]);
+}
+
+fn pair_fields(visit: &mut dyn FnMut(Field), state: &[u8], number: usize) {
+    let live = state[PAIR_FLAGS + number] == 1;
+    let row = pair_row(number);
+    put(visit, true, PAIR_FLAGS + number, 1, &[0, 1, 2, 255]);
+    for at in [PAIR_DOMAIN, PAIR_SEND_QUEUE, PAIR_RECEIVE_QUEUE] {
+        put(visit, live, row + at, 1, &[0, 1, 2, 3, 4, 5, 6, 7, 8, 255]);
+    }
+    put(visit, live, row + PAIR_SIGNAL, 1, &[0, 1, 2, 255]);
+    put(visit, live, row + PAIR_STATE, 1, &[0, 1, 2, 3, 4, 5, 6, 7, 255]);
+    put(visit, live, row + PAIR_DESTINATION, 1, &[0, 1, 2, 3, 4, 5, 6, 7, 8, 9, 255]);
+    put(visit, live, row + PAIR_ZERO, 2, &[0, 1, 0xffff]);
+    let waiting = waiting_row(number);
+    let (first, count) = (state[waiting + WAITING_FIRST], state[waiting + WAITING_COUNT]);
+    put(visit, live, waiting + WAITING_FIRST, 1, &[0, 1, 2, 3, 4, 255]);
+    put(visit, live, waiting + WAITING_COUNT, 1, &[0, 1, 2, 3, 4, 5, 255]);
+    for place in 0..MOST_WAITING {
+        let live = live && holds(place, MOST_WAITING, first, count);
+        let row = receive_row(number, place);
+        put(visit, live, row + RECEIVE_COUNT, 4, &[0, 1, 2, 3, 256, u32::MAX.into()]);
+        put(visit, live, row + RECEIVE_UNUSED, 8, &[0, u64::MAX]);
+    }
 }
 
 fn put(visit: &mut dyn FnMut(Field), live: bool, at: usize, width: usize, values: &[u64]) {
@@ -181,7 +191,7 @@ fn set_some_field(rng: &mut Rng, state: &[u8], slots: &[usize], live: bool, copy
 /// The state with a pair that names nobody, in whatever state it is: acceptable, but left by no call.
 pub fn forget_destination(state: &[u8], qpn: u32) -> Vec<u8> {
     let mut copy = state.to_vec();
-    copy[PAIR_ROWS + qpn as usize % PAIRS * PAIR_ROW + 6] = NO_DESTINATION;
+    copy[pair_row(qpn as usize % PAIRS) + PAIR_DESTINATION] = NO_DESTINATION;
     copy
 }
 

@@ -57,7 +57,6 @@ fn sources(root: &Path) -> Result<Specs, String> {
     }
     let others = [
         ("Done", Outcome::DONE.answer),
-        ("CreatePd", cards::build::create_domain()[1]),
         ("ReliableConnection", accepted_type()),
         ("Init", INIT),
         ("Write", WRITE),

@@ -2,8 +2,8 @@
 //!
 //! `Limits.pdCount` is a number of a `.antt` file (its name without the ending, then the definition's), `limits.RTS` a constant of a `.rt`
 //! file. Of a layout, `Records.sendCodec.size` is its length and `Records.sendCodec.opcode` the offset of a field. A definition by cases
-//! over a number, `cond (eqb n 7) (register ..)`, gives `Records.commandOf.register` = 7, and `Records.dataSize.7` where the case is a
-//! number. `Tape.isMark[2]` is the third literal in the text of a definition, counted from 0.
+//! over a number, `cond (eqb n 7) (some (register ..))`, gives `Commands.commandOf.register` = 7. `Tape.isMark[2]` is the third literal in
+//! the text of a definition, counted from 0.
 
 use std::collections::HashMap;
 use std::fs;
@@ -98,35 +98,26 @@ impl Specs {
         }
     }
 
-    /// `cond ( eqb n NUMBER ) ( NAME ..`, and `( some NUMBER )` in the name's place.
+    /// `cond ( eqb n NUMBER ) ( NAME ..`, where the name may stand behind `some`, with a parenthesis or without.
     fn cases(&mut self, name: &str, body: &[String]) {
-        for at in (0..body.len()).filter(|&at| body[at] == "eqb" && at + 6 < body.len()) {
-            let (number, close, open, mut case) = (literal(&body[at + 2]), &body[at + 3], &body[at + 4], &body[at + 5]);
-            if case == "some" {
-                case = &body[at + 6];
-            }
-            match (number, literal(case)) {
-                (Some(number), Some(value)) if close == ")" && open == "(" => self.add(format!("{name}.{number}"), value),
-                (Some(number), None) if close == ")" && open == "(" => self.add(format!("{name}.{case}"), number),
-                _ => {}
+        for at in (0..body.len()).filter(|&at| body[at] == "eqb" && at + 5 < body.len()) {
+            let case = body[at + 5..].iter().find(|token| !["some", "("].contains(&token.as_str()));
+            if let (Some(number), ")", "(", Some(case)) = (literal(&body[at + 2]), &*body[at + 3], &*body[at + 4], case) {
+                self.add(format!("{name}.{case}"), number);
             }
         }
     }
 
-    /// `structCodec SIZE ( FIELDS ) .. record { NAME = getD vs INDEX 0; .. }`.
+    /// `record { size = SIZE; lines = line OFFSET WIDTH (λ r. r .NAME) ..`.
     fn layout(&mut self, stem: &str, name: &str, body: &[String]) {
-        let codec = match body.iter().position(|token| token == "structCodec") {
-            Some(at) => at,
-            None => return,
-        };
-        if let Some(size) = literal(&body[codec + 1]) {
-            self.add(format!("{stem}.{name}.size"), size);
+        for part in body.windows(3).filter(|part| part[0] == "size" && part[1] == "=") {
+            if let Some(size) = literal(&part[2]) {
+                self.add(format!("{stem}.{name}.size"), size);
+            }
         }
-        let offsets = offsets(&body[codec + 2..]);
-        for at in (codec..body.len()).filter(|&at| body[at] == "getD" && at + 2 < body.len()) {
-            let index = literal(&body[at + 2]).and_then(|index| offsets.get(index as usize));
-            if let (Some(&offset), "=") = (index, body[at - 1].as_str()) {
-                self.add(format!("{stem}.{name}.{}", body[at - 2]), offset);
+        for line in body.windows(9).filter(|line| line[0] == "line" && line[3] == "(" && line[8] == ")") {
+            if let (Some(offset), Some(field)) = (literal(&line[1]), line[7].strip_prefix('.')) {
+                self.add(format!("{stem}.{name}.{field}"), offset);
             }
         }
     }
@@ -216,22 +207,4 @@ fn literal(token: &str) -> Option<u64> {
         None if plain.starts_with(|first: char| first.is_ascii_digit()) => plain.parse().ok(),
         None => None,
     }
-}
-
-/// The offsets of a list of fields, up to the end of its parentheses.
-fn offsets(tokens: &[String]) -> Vec<u64> {
-    let mut offsets = Vec::new();
-    let mut depth = 0;
-    for pair in tokens.windows(2) {
-        match pair[0].as_str() {
-            "(" => depth += 1,
-            ")" => depth -= 1,
-            "field" => offsets.extend(literal(&pair[1])),
-            _ => {}
-        }
-        if depth == 0 {
-            break;
-        }
-    }
-    offsets
 }

@@ -1,14 +1,18 @@
-//! Compares the proved lower part with the reference: the state test, the readers and the search for a free number.
+//! Compares the lower part of a card with the reference's through the calls: the state test, the search for numbers, and the layouts of
+//! records and state. Each call is made on both with the same bytes lent; answer, status, and every byte of state, memory and buffer must
+//! be the same.
 //!
 //! usage: lower [SEED]
 
+mod both;
+mod fixture;
 mod records;
 mod states;
 mod tally;
 
-use cards::{lower, Lower, ReferenceLower, Rng};
+use both::Both;
+use cards::{proved, Card, Reference, Rng};
 use std::process::ExitCode;
-use tally::Tally;
 
 fn main() -> ExitCode {
     let seed = match std::env::args().nth(1).map(|word| word.parse()) {
@@ -19,13 +23,13 @@ fn main() -> ExitCode {
             return ExitCode::from(2);
         }
     };
-    let other: &dyn Lower = lower().unwrap_or(&ReferenceLower);
-    println!("lower part: {} against {}, seed {seed}", ReferenceLower.name(), other.name());
-    let mut tally = Tally::default();
+    let other: &dyn Card = proved().unwrap_or(&Reference);
+    println!("lower part: {} against {}, seed {seed}", Reference.name(), other.name());
+    let mut both = Both::new(other);
     let mut rng = Rng::new(seed);
-    states::compare(other, &mut rng, &mut tally);
-    records::compare(other, &mut rng, &mut tally);
-    if tally.report() {
+    states::compare(&mut both, &mut rng);
+    records::compare(&mut both, &mut rng);
+    if both.tally.report() {
         ExitCode::SUCCESS
     } else {
         ExitCode::FAILURE

@@ -1,71 +1,130 @@
-//! The readers of send, receive and command records, on built, changed and random records of every length.
+//! The layouts of send, receive and command records, on built, changed and random records of every length.
 
-use crate::tally::Tally;
-use cards::build::{create_pair, number_command, receive, register, Modify, Send};
-use cards::c::{COMMAND_OUT, RECEIVE_OUT, SEND_OUT};
-use cards::{Lower, ReferenceLower, Rng};
-use reference::record::{Piece, COUNT_AT, INLINE, SEND_BYTES};
+use crate::both::{Both, Left};
+use crate::fixture::*;
+use cards::build::*;
+use cards::{Call, Rng};
+use reference::record::*;
+use std::ops::Range;
 
-/// Filler of the bytes that a reader must leave.
-const LEFT: u8 = 0xa5;
+/// The call that hands in a record.
+type Handed = fn(Vec<u8>) -> Call;
 
-type Read = fn(&dyn Lower, &[u8], &mut [u8]) -> u32;
+const SENDS: Handed = |record| Call::Send { qpn: SENDER, record, memory: MEMORY };
+const RECEIVES: Handed = |record| Call::Receive { qpn: RECEIVER, record };
 
-struct Reader {
-    name: &'static str,
-    read: Read,
-    out: usize,
-    answers: &'static [u32],
+/// Records handed in by one call, on the card of the fixture.
+struct Records<'b, 'a> {
+    check: &'static str,
+    hand: Handed,
+    both: &'b mut Both<'a>,
+    state: Vec<u8>,
+    memory: Vec<u8>,
 }
 
-const SEND: Reader =
-    Reader { name: "read send", read: |lower, record, out| lower.read_send(record, out), out: SEND_OUT, answers: &[0, 1, 4] };
-const RECEIVE: Reader = Reader {
-    name: "read receive",
-    read: |lower, record, out| lower.read_receive(record, out),
-    out: RECEIVE_OUT,
-    answers: &[0, 1, 4],
-};
-const COMMAND: Reader = Reader {
-    name: "read command",
-    read: |lower, record, out| lower.read_command(record, out),
-    out: COMMAND_OUT,
-    answers: &[0, 1, 13],
-};
-
-pub fn compare(other: &dyn Lower, rng: &mut Rng, tally: &mut Tally) {
-    for reader in [SEND, RECEIVE, COMMAND] {
-        for answer in reader.answers {
-            tally.require(reader.name, format!("answer {answer}"));
-        }
+pub fn compare(both: &mut Both, rng: &mut Rng) {
+    for outcome in ["0", "0 status 1", "0 status 3", "0 status 7", "0 status 8", "1", "4"] {
+        both.tally.require("send record", format!("answer {outcome}"));
     }
-    for outcome in ["record too short", "no bytes", "some bytes", "512 bytes", "cut by the record", "cut by the buffer"] {
-        tally.require("inline", outcome);
+    for answer in [0, 1, 4] {
+        both.tally.require("receive record", format!("answer {answer}"));
     }
-    sends(other, rng, tally);
-    receives(other, rng, tally);
-    commands(other, rng, tally);
+    for answer in [0, 1, 2, 4, 10, 11, 13] {
+        both.tally.require("command", format!("answer {answer}"));
+    }
+    let (state, memory) = (state(), memory(rng));
+    let mut records = Records { check: "send record", hand: SENDS, both, state, memory };
+    sends(&mut records, rng);
+    records = Records { check: "receive record", hand: RECEIVES, ..records };
+    receives(&mut records, rng);
+    records = Records { check: "command", hand: control, ..records };
+    commands(&mut records, rng);
 }
 
-impl Reader {
-    /// Answer and bytes are the same, with room, without, and with more than enough.
-    fn check(&self, other: &dyn Lower, record: &[u8], tally: &mut Tally) {
-        for length in [0, self.out - 1, self.out, self.out + 8] {
-            let mut found = vec![LEFT; length];
-            let mut wanted = found.clone();
-            let answer = (self.read)(&ReferenceLower, record, &mut wanted);
-            let shown = (self.read)(other, record, &mut found);
-            tally.count(self.name, format!("answer {answer}"));
-            tally.same(self.name, (shown, found), (answer, wanted), || hex(record));
-        }
+impl Records<'_, '_> {
+    fn check(&mut self, record: &[u8]) -> Left {
+        self.both.count(self.check, &(self.hand)(record.to_vec()), &self.state, &self.memory)
     }
 
     /// The record as it is, and cut or lengthened to every length up to `most`.
-    fn check_lengths(&self, other: &dyn Lower, record: &[u8], most: usize, tally: &mut Tally) {
+    fn check_lengths(&mut self, record: &[u8], most: usize) {
         for length in 0..=most {
             let mut changed = record.to_vec();
             changed.resize(length, 0);
-            self.check(other, &changed, tally);
+            self.check(&changed);
+        }
+    }
+
+    /// Every value of the named bytes.
+    fn check_values(&mut self, record: &[u8], places: &[usize]) {
+        for &at in places {
+            for value in 0..=255 {
+                let mut changed = record.to_vec();
+                changed[at] = value;
+                self.check(&changed);
+            }
+        }
+    }
+
+    /// Each bit changed: something else comes of it exactly for the bytes of the fields, of a record that is done.
+    fn check_fields(&mut self, record: &[u8], fields: &[Range<usize>]) {
+        let plain = self.check(record);
+        assert_eq!((plain.outcome.answer, plain.outcome.status), (0, 0), "{}", (self.hand)(record.to_vec()));
+        for at in 0..record.len() {
+            let mut tells = false;
+            for bit in 0..8 {
+                let mut changed = record.to_vec();
+                changed[at] ^= 1 << bit;
+                tells |= self.check(&changed) != plain;
+            }
+            if tells != fields.iter().any(|field| field.contains(&at)) {
+                let what = if tells { "tells, and is no field" } else { "is a field, and does not tell" };
+                self.both.tally.differ(self.check, format!("byte {at} {what}, on {}", (self.hand)(record.to_vec())));
+            }
+        }
+    }
+}
+
+// ---- send records
+
+/// wr_id, opcode, flags; immediate; remote address and key; piece count, or inline length.
+const HEAD: Range<usize> = 0..10;
+const IMMEDIATE: Range<usize> = 12..16;
+const REMOTE_RANGE: Range<usize> = 16..28;
+const COUNT: Range<usize> = 560..564;
+const INLINE_LENGTH: Range<usize> = 560..562;
+
+/// A send that is done and completes, of this opcode.
+fn good_send(opcode: u8) -> Send {
+    Send::new(0x0102_0304_0506_0708, opcode).flags(SIGNALED).immediate(0xa1b2_c3d4).remote(REMOTE + 300, REMOTE_KEY)
+}
+
+fn with_pieces(opcode: u8, count: usize) -> Vec<u8> {
+    let pieces = (0..count as u64).map(|n| piece(LOCAL + 20 + 700 * n, 40 + 16 * n as u32, LOCAL_KEY)).collect();
+    Send { pieces, ..good_send(opcode) }.bytes()
+}
+
+fn send_fields(records: &mut Records, rng: &mut Rng) {
+    for (opcode, used) in [
+        (WRITE, &[HEAD, REMOTE_RANGE][..]),
+        (WRITE_IMMEDIATE, &[HEAD, IMMEDIATE, REMOTE_RANGE]),
+        (SEND, &[HEAD]),
+        (SEND_IMMEDIATE, &[HEAD, IMMEDIATE]),
+        (READ, &[HEAD, REMOTE_RANGE]),
+    ] {
+        for count in [1, 4] {
+            let record = with_pieces(opcode, count);
+            let fields = [used, &[COUNT, SEND_BYTES..record.len()]].concat();
+            records.check_fields(&record, &fields);
+        }
+        for length in [64, 512] {
+            if opcode == READ {
+                continue;
+            }
+            let mut bytes = vec![0; length];
+            rng.fill(&mut bytes);
+            let fields = [used, &[INLINE_LENGTH, INLINE_AT..INLINE_AT + length]].concat();
+            records.check_fields(&good_send(opcode).inline(&bytes).bytes(), &fields);
         }
     }
 }
@@ -77,6 +136,12 @@ fn random_send(rng: &mut Rng) -> Vec<u8> {
     for _ in 0..rng.below(6) {
         send.pieces.push(Piece { address: rng.word(), length: rng.word() as u32, key: rng.word() as u32 });
     }
+    if rng.percent(50) {
+        send = send.remote(REMOTE + rng.below(5000), REMOTE_KEY);
+        for piece in &mut send.pieces {
+            *piece = Piece { address: LOCAL + rng.below(5000), length: rng.below(1100) as u32, key: LOCAL_KEY };
+        }
+    }
     let mut record = send.bytes();
     rng.fill(&mut record[10..12]);
     rng.fill(&mut record[28..48]);
@@ -84,66 +149,38 @@ fn random_send(rng: &mut Rng) -> Vec<u8> {
     record
 }
 
-fn sends(other: &dyn Lower, rng: &mut Rng, tally: &mut Tally) {
+fn sends(records: &mut Records, rng: &mut Rng) {
+    send_fields(records, rng);
     for n in 0..20_000 {
         let mut record = random_send(rng);
         match n % 4 {
-            0 => {}
-            1 => record.resize(rng.index(680), 0),
-            2 => record[COUNT_AT + rng.index(4)] = rng.word() as u8,
-            _ => {
-                let at = rng.index(record.len());
-                record[at] ^= 1 << rng.below(8);
-            }
+            0 | 1 => {}
+            2 => record.resize(rng.index(680), 0),
+            _ => record[COUNT_AT + rng.index(4)] = rng.word() as u8,
         }
-        SEND.check(other, &record, tally);
-        inline(other, &record, rng, tally);
-    }
-    for flags in [0, INLINE] {
-        let record = Send::new(1, 0).flags(flags).piece(1, 2, 3).piece(4, 5, 6).bytes();
-        SEND.check_lengths(other, &record, 680, tally);
+        records.check(&record);
     }
     for count in 0..=6 {
         let mut record = Send { pieces: vec![Piece::default(); count], ..Send::new(1, 0) }.bytes();
         rng.fill(&mut record[SEND_BYTES..]);
-        SEND.check_lengths(other, &record, 700, tally);
+        records.check_lengths(&record, 700);
     }
-    every_byte(&SEND, other, &Send::new(1, 0).piece(1, 2, 3).bytes(), &[8, 9, 560, 561, 562, 563], tally);
-}
-
-/// Every value of the named bytes.
-fn every_byte(reader: &Reader, other: &dyn Lower, record: &[u8], places: &[usize], tally: &mut Tally) {
-    for &at in places {
-        for value in 0..=255 {
-            let mut changed = record.to_vec();
-            changed[at] = value;
-            reader.check(other, &changed, tally);
-        }
+    records.check_lengths(&good_send(WRITE).inline(&[7; 100]).bytes(), 700);
+    for length in 0..=513 {
+        records.check(&good_send(SEND).inline(&vec![length as u8; length]).bytes());
     }
+    records.check_values(&with_pieces(WRITE, 1), &[8, 9, 560, 561, 562, 563]);
 }
 
-fn inline(other: &dyn Lower, record: &[u8], rng: &mut Rng, tally: &mut Tally) {
-    let length = rng.pick(&[0, 1, 64, 511, 512, 513, 700]);
-    let (mut found, mut wanted) = (vec![LEFT; length], vec![LEFT; length]);
-    let count = ReferenceLower.inline(record, &mut wanted);
-    let shown = other.inline(record, &mut found);
-    let announced =
-        if record.len() < COUNT_AT + 2 { 0 } else { usize::from(u16::from_le_bytes([record[COUNT_AT], record[COUNT_AT + 1]])) };
-    tally.count(
-        "inline",
-        match count {
-            _ if record.len() < COUNT_AT + 2 => "record too short",
-            0 => "no bytes",
-            _ if count < announced => "cut by the record",
-            _ if count > length => "cut by the buffer",
-            512 => "512 bytes",
-            _ => "some bytes",
-        },
-    );
-    tally.same("inline", (shown, found), (count, wanted), || hex(record));
-}
+// ---- receive records
 
-fn receives(other: &dyn Lower, rng: &mut Rng, tally: &mut Tally) {
+fn receives(records: &mut Records, rng: &mut Rng) {
+    for count in 0..=2 {
+        let mut record = receive(0x0102_0304_0506_0708, &vec![piece(0x1112_1314_1516_1718, 0x2122_2324, 0x3132_3334); count]);
+        rng.fill(&mut record[12..24]);
+        let length = record.len();
+        records.check_fields(&record, &[0..12, RECEIVE_BYTES..length]);
+    }
     for n in 0..20_000 {
         let mut pieces = vec![Piece::default(); rng.index(4)];
         for piece in &mut pieces {
@@ -156,41 +193,59 @@ fn receives(other: &dyn Lower, rng: &mut Rng, tally: &mut Tally) {
             1 => record.resize(rng.index(80), 0),
             _ => record[8 + rng.index(4)] = rng.below(4) as u8,
         }
-        RECEIVE.check(other, &record, tally);
+        records.check(&record);
     }
     for count in 0..4 {
         let mut record = receive(1, &vec![Piece::default(); count]);
         rng.fill(&mut record[12..]);
-        RECEIVE.check_lengths(other, &record, 100, tally);
+        records.check_lengths(&record, 100);
     }
-    every_byte(&RECEIVE, other, &receive(1, &[Piece::default()]), &[8, 9, 10, 11], tally);
+    records.check_values(&receive(1, &[Piece::default()]), &[8, 9, 10, 11]);
 }
 
-fn commands(other: &dyn Lower, rng: &mut Rng, tally: &mut Tally) {
+// ---- commands
+
+fn command_fields(records: &mut Records) {
+    for command in [
+        create_queue(5),
+        destroy_queue(SPARE),
+        create_domain(),
+        destroy_domain(SPARE),
+        register(0, 5, 64, 128, 3 << 32),
+        deregister(SPARE),
+        join(SPARE, SENDER),
+        destroy_pair(SPARE),
+    ] {
+        let length = command.len();
+        records.check_fields(&command, &[0..length]);
+    }
+    // bytes 8 and 9 of create QP are ignored
+    records.check_fields(&create_pair(0, 2, 1, 0, 1), &[0..8, 10..18]);
+}
+
+fn commands(records: &mut Records, rng: &mut Rng) {
+    command_fields(records);
     let mut bytes = [0; 48];
     for class in [0, 5, 6, 7, 255] {
         for number in 0..=255 {
             rng.fill(&mut bytes);
             bytes[..2].copy_from_slice(&[class, number]);
-            COMMAND.check_lengths(other, &bytes, 48, tally);
+            records.check_lengths(&bytes, 48);
         }
     }
     for _ in 0..5_000 {
-        let (a, b) = (rng.word() as u32, rng.word() as u32);
+        let (a, b) = (rng.below(4) as u32, rng.below(4) as u32);
         let record = match rng.below(4) {
-            0 => register(a, b, rng.word(), rng.word(), rng.word()),
-            1 => create_pair(a, rng.word() as u8, rng.word() as u8, b, rng.word() as u32),
+            0 => register(a, rng.below(9) as u32, rng.below(9000), rng.below(9000), rng.word()),
+            1 => create_pair(a, rng.below(4) as u8, rng.below(3) as u8, b, rng.below(4) as u32),
             2 => {
-                let (state, padding) = (rng.word() as u8, [rng.word() as u8, 0, 1]);
-                Modify { qpn: a, mask: b, state, padding, destination: rng.word() as u32 }.bytes()
+                let (state, padding) = (rng.below(8) as u8, [0, 0, rng.percent(10).into()]);
+                let any = rng.word() as u32;
+                let mask = rng.pick(&[0, MASK_STATE, MASK_STATE, MASK_STATE | MASK_DESTINATION, any]);
+                Modify { qpn: a, mask, state, padding, destination: b }.bytes()
             }
-            _ => number_command(rng.pick(&[2, 3, 5, 8, 12]), a),
+            _ => number_command(rng.pick(&[2, 3, 5, 8, 12]), rng.below(40) as u32),
         };
-        COMMAND.check(other, &record, tally);
+        records.check(&record);
     }
-}
-
-fn hex(bytes: &[u8]) -> String {
-    let head: String = bytes.iter().take(40).map(|byte| format!("{byte:02x}")).collect();
-    format!("{} bytes {head}", bytes.len())
 }

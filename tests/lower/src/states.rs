@@ -1,10 +1,12 @@
-//! The test of answer 15 and the search for a free number, on reached, damaged and random states.
+//! The test of answer 15, the search for free numbers and for what is in use, and the state's layout: on reached, damaged and random states.
 
-use crate::tally::Tally;
-use cards::c::NOT_ACCEPTED;
-use cards::{free_numbers, Lower, Rng};
+use crate::both::Both;
+use crate::fixture::control;
+use cards::build::*;
+use cards::{Call, Rng};
 use generator::{damage, fields, reached_state, region_slots};
 use reference::layout::*;
+use reference::listing::Listing;
 use reference::{fault, Fault};
 
 const REACHED: usize = 120;
@@ -12,75 +14,106 @@ const DAMAGED: usize = 500;
 const RANDOM: usize = 20_000;
 const TABLES: [(&str, usize); 4] = [("pd", DOMAINS), ("cq", QUEUES), ("mr", REGIONS), ("qp", PAIRS)];
 
-pub fn compare(other: &dyn Lower, rng: &mut Rng, tally: &mut Tally) {
+pub fn compare(both: &mut Both, rng: &mut Rng) {
     for fault in Fault::ALL {
-        tally.require("accepts", format!("{fault:?}"));
+        both.tally.require("accepts", format!("{fault:?}"));
     }
-    tally.require("accepts", "accepted");
+    both.tally.require("accepts", "accepted");
     for (table, count) in TABLES {
-        tally.require("free", format!("{table} none"));
-        tally.require("free", format!("{table} 0"));
-        tally.require("free", format!("{table} {}", count - 1));
+        both.tally.require("free", format!("{table} none"));
+        both.tally.require("free", format!("{table} 0"));
+        both.tally.require("free", format!("{table} {}", count - 1));
     }
-    tally.require("free", "not accepted");
-    for n in 0..REACHED {
-        let state = reached_state(rng.word(), if n % 4 == 0 { 20 * n } else { 10 + 5 * n });
-        one(other, &state, tally);
-        each_field(other, &state, &region_slots(rng, &state), tally);
-        for _ in 0..DAMAGED {
-            one(other, &damage(rng, &state), tally);
+    for (check, answers) in [("destroy", &[0, 2, 10][..]), ("poll", &[0, 2, 9]), ("flush", &[0, 2, 3, 6, 9])] {
+        for answer in answers {
+            both.tally.require(check, format!("answer {answer}"));
         }
     }
-    full_tables(other, tally);
-    lengths(other, &reached_state(rng.word(), 400), tally);
-    random(other, rng, tally);
+    for n in 0..REACHED {
+        let state = reached_state(rng.word(), if n % 4 == 0 { 20 * n } else { 10 + 5 * n });
+        one(both, &state, true);
+        each_field(both, &state, &region_slots(rng, &state));
+        for n in 0..DAMAGED {
+            one(both, &damage(rng, &state), n % 10 == 0);
+        }
+    }
+    full_tables(both);
+    lengths(both, &reached_state(rng.word(), 400));
+    random(both, rng);
 }
 
-fn one(other: &dyn Lower, state: &[u8], tally: &mut Tally) {
-    accepted(other, state, tally);
-    free(other, state, tally);
+/// The state test and, on an accepted state, each creation and, if told so, the calls on each object that need no record.
+fn one(both: &mut Both, state: &[u8], objects: bool) {
+    accepted(both, state);
+    if let Some(card) = Listing::of(state) {
+        creations(both, state, &card);
+        if objects {
+            each_object(both, state);
+        }
+    }
 }
 
-fn accepted(other: &dyn Lower, state: &[u8], tally: &mut Tally) {
+/// A poll without a buffer answers 15 where the state is not accepted, else 12, and changes nothing.
+fn accepted(both: &mut Both, state: &[u8]) {
     let wanted = fault(state);
-    tally.count("accepts", wanted.map_or("accepted".into(), |fault| format!("{fault:?}")));
-    tally.same("accepts", other.accepts(state), wanted.is_none(), || format!("a state with {wanted:?}"));
+    both.tally.count("accepts", wanted.map_or("accepted".into(), |fault| format!("{fault:?}")));
+    let left = both.make("accepts", &Call::Poll { cqn: 0, buffer: 0 }, state, &[]);
+    assert_eq!(left.outcome.answer, if wanted.is_none() { 12 } else { 15 });
 }
 
-fn free(other: &dyn Lower, state: &[u8], tally: &mut Tally) {
-    for (table, ((name, count), wanted)) in TABLES.into_iter().zip(free_numbers(state)).enumerate() {
-        tally.count(
+/// A creation in each table takes the lowest free number, or there is none.
+fn creations(both: &mut Both, state: &[u8], card: &Listing) {
+    let domain = card.domains.iter().position(|&live| live).unwrap_or(0) as u32;
+    let queue = card.queues.iter().position(Option::is_some).unwrap_or(0) as u32;
+    let commands =
+        [create_domain(), create_queue(3), register(domain, 5, 0, 1, 1 << 40), create_pair(domain, 2, 1, queue, queue)];
+    for ((table, _), command) in TABLES.into_iter().zip(commands) {
+        let left = both.make("free", &control(command), state, &[]);
+        both.tally.count(
             "free",
-            match wanted as usize {
-                _ if wanted == NOT_ACCEPTED => "not accepted".into(),
-                n if n == count => format!("{name} none"),
-                n => format!("{name} {n}"),
+            match left.outcome.answer {
+                0 => format!("{table} {}", get32(&left.buffer, 1)),
+                8 => format!("{table} none"),
+                answer => format!("{table} answer {answer}"),
             },
         );
-        tally.same("free", other.free(state, table as u32), wanted, || format!("table {name}"));
+    }
+}
+
+/// Every object, and the number past each table, destroyed, polled and flushed.
+fn each_object(both: &mut Both, state: &[u8]) {
+    for number in 0..=REGIONS as u32 {
+        both.count("destroy", &control(deregister(number)), state, &[]);
+    }
+    for number in 0..=QUEUES as u32 {
+        both.count("destroy", &control(destroy_domain(number)), state, &[]);
+        both.count("destroy", &control(destroy_queue(number)), state, &[]);
+        both.count("destroy", &control(destroy_pair(number)), state, &[]);
+        both.count("poll", &Call::Poll { cqn: number, buffer: COMPLETION_BYTES + 1 }, state, &[]);
+        both.count("flush", &Call::Flush { qpn: number }, state, &[]);
     }
 }
 
 /// Each field in turn at each of its values, with the rest as it is; of regions those of the given slots.
-fn each_field(other: &dyn Lower, state: &[u8], slots: &[usize], tally: &mut Tally) {
+fn each_field(both: &mut Both, state: &[u8], slots: &[usize]) {
     let mut copy = state.to_vec();
     fields(state, slots, &mut |field| {
         for &value in field.values {
             field.set(&mut copy, value);
-            accepted(other, &copy, tally);
+            accepted(both, &copy);
         }
         copy[field.at..field.at + field.width].copy_from_slice(&state[field.at..field.at + field.width]);
     });
 }
 
 /// Tables with their first `n` numbers live, and with all live but number `n`.
-fn full_tables(other: &dyn Lower, tally: &mut Tally) {
+fn full_tables(both: &mut Both) {
     for (table, (_, count)) in TABLES.into_iter().enumerate() {
         for n in 0..=count {
             let live: Vec<bool> = (0..count).map(|k| k < n).collect();
-            one(other, &with_live(table, &live), tally);
+            one(both, &with_live(table, &live), true);
             let live: Vec<bool> = (0..count).map(|k| k != n).collect();
-            one(other, &with_live(table, &live), tally);
+            one(both, &with_live(table, &live), true);
         }
     }
 }
@@ -91,44 +124,45 @@ fn with_live(table: usize, live: &[bool]) -> Vec<u8> {
     reference::reset(&mut state, 4096);
     if table > 1 {
         state[DOMAIN_FLAGS] = 1;
-        state[QUEUE_ROWS] = 1;
+        state[QUEUE_FLAGS] = 1;
+        state[queue_row(0) + QUEUE_PLACES] = 1;
     }
-    for (n, &live) in live.iter().enumerate().filter(|(_, &live)| live) {
+    let (flags, _) = FLAGS[table];
+    for n in (0..live.len()).filter(|&n| live[n]) {
+        state[flags + n] = 1;
         match table {
-            0 => state[DOMAIN_FLAGS + n] = live.into(),
-            1 => state[QUEUE_ROWS + n * QUEUE_ROW] = 1 + n as u8,
+            0 => {}
+            1 => state[queue_row(n) + QUEUE_PLACES] = 1 + n as u8,
             2 => {
-                state[REGION_FLAGS + n] = 1;
-                state[REGION_ROWS + n * REGION_ROW + 1] = 1;
-                put64(&mut state, REGION_ROWS + n * REGION_ROW + 16, 1);
+                state[region_row(n) + REGION_VARIANT] = 1;
+                put64(&mut state, region_row(n) + REGION_LENGTH, 1);
             }
-            _ => state[PAIR_ROWS + n * PAIR_ROW..][..7].copy_from_slice(&[1, 0, 0, 0, 0, 0, NO_DESTINATION]),
+            _ => state[pair_row(n) + PAIR_DESTINATION] = NO_DESTINATION,
         }
     }
     state
 }
 
-fn lengths(other: &dyn Lower, state: &[u8], tally: &mut Tally) {
+fn lengths(both: &mut Both, state: &[u8]) {
     let longer = [state, &[0; 64]].concat();
     for length in 0..=longer.len() {
-        accepted(other, &longer[..length], tally);
+        accepted(both, &longer[..length]);
     }
-    free(other, &longer[..STATE_BYTES - 1], tally);
 }
 
-fn random(other: &dyn Lower, rng: &mut Rng, tally: &mut Tally) {
+fn random(both: &mut Both, rng: &mut Rng) {
     let mut state = vec![0; STATE_BYTES];
     for n in 0..RANDOM {
         rng.fill(&mut state);
         if n % 2 == 0 {
             put64(&mut state, MEMORY_LENGTH, 1 + rng.below(MOST_MEMORY));
-            for flags in [DOMAIN_FLAGS..DOMAIN_FLAGS + DOMAINS, REGION_FLAGS..REGION_FLAGS + REGIONS] {
-                state[flags].iter_mut().for_each(|byte| *byte &= 1);
+            for (at, length) in FLAGS {
+                state[at..at + length].iter_mut().for_each(|byte| *byte &= 1);
             }
         }
         if n % 4 == 0 {
-            state[QUEUE_ROWS..][..QUEUES * QUEUE_ROW].fill(0);
+            state[QUEUE_FLAGS..][..QUEUES].fill(0);
         }
-        accepted(other, &state, tally);
+        accepted(both, &state);
     }
 }

@@ -22,14 +22,11 @@ impl Tally {
         *self.counts.entry(check).or_default().entry(outcome.to_string()).or_default() += 1;
     }
 
-    pub fn same<T: PartialEq + std::fmt::Debug>(&mut self, check: &'static str, found: T, wanted: T, input: impl Fn() -> String) {
-        if found == wanted {
-            return;
-        }
+    pub fn differ(&mut self, check: &'static str, difference: impl ToString) {
         let differences = self.differences.entry(check).or_default();
         *differences += 1;
         if *differences <= SHOWN {
-            println!("DIFFERS {check}: {found:?}, reference {wanted:?}, on {}", input());
+            println!("DIFFERS {check}: {}", difference.to_string());
         }
     }
 
@@ -48,9 +45,10 @@ impl Tally {
         for (check, outcome) in &missing {
             println!("NEVER SEEN {check}: {outcome}");
         }
+        let compared: u64 = self.counts.values().flat_map(BTreeMap::values).sum();
         let differences: u64 = self.differences.values().sum();
         let (seen, required) = (self.required.len() - missing.len(), self.required.len());
-        println!("{differences} differences; {seen} of {required} outcomes seen");
+        println!("{compared} comparisons, {differences} differences; {seen} of {required} outcomes seen");
         differences == 0 && missing.is_empty()
     }
 }

@@ -8,6 +8,7 @@ pub enum Fault {
     StateLength,
     MemoryLength,
     DomainFlag,
+    QueueFlag,
     QueuePlaces,
     QueueFirst,
     QueueCount,
@@ -36,10 +37,11 @@ pub enum Fault {
 }
 
 impl Fault {
-    pub const ALL: [Fault; 28] = [
+    pub const ALL: [Fault; 29] = [
         Fault::StateLength,
         Fault::MemoryLength,
         Fault::DomainFlag,
+        Fault::QueueFlag,
         Fault::QueuePlaces,
         Fault::QueueFirst,
         Fault::QueueCount,
@@ -86,79 +88,89 @@ pub fn fault(state: &[u8]) -> Option<Fault> {
 pub fn check(state: &State) -> Result<(), Fault> {
     let memory = get64(state, MEMORY_LENGTH);
     ensure((1..=MOST_MEMORY).contains(&memory), Fault::MemoryLength)?;
-    let domains = &state[DOMAIN_FLAGS..][..DOMAINS];
-    ensure(domains.iter().all(|&flag| flag <= 1), Fault::DomainFlag)?;
+    for number in 0..DOMAINS {
+        live(state[DOMAIN_FLAGS + number], Fault::DomainFlag)?;
+    }
     for number in 0..QUEUES {
-        check_queue(state, number)?;
+        if live(state[QUEUE_FLAGS + number], Fault::QueueFlag)? {
+            check_queue(state, number)?;
+        }
     }
     for number in 0..REGIONS {
-        match state[REGION_FLAGS + number] {
-            0 => {}
-            1 => check_region(state, number, memory)?,
-            _ => return Err(Fault::RegionFlag),
+        if live(state[REGION_FLAGS + number], Fault::RegionFlag)? {
+            check_region(state, number, memory)?;
         }
     }
     for number in 0..PAIRS {
-        match state[PAIR_ROWS + number * PAIR_ROW] {
-            0 => {}
-            1 => check_pair(state, number)?,
-            _ => return Err(Fault::PairFlag),
+        if live(state[PAIR_FLAGS + number], Fault::PairFlag)? {
+            check_pair(state, number)?;
         }
     }
     Ok(())
 }
 
-fn check_queue(state: &State, number: usize) -> Result<(), Fault> {
-    let row = QUEUE_ROWS + number * QUEUE_ROW;
-    let (places, first, count) = (state[row], state[row + 1], state[row + 2]);
-    if places == 0 {
-        return Ok(());
+/// What a live flag says.
+fn live(flag: u8, fault: Fault) -> Result<bool, Fault> {
+    match flag {
+        0 => Ok(false),
+        1 => Ok(true),
+        _ => Err(fault),
     }
-    ensure(usize::from(places) <= MOST_PLACES, Fault::QueuePlaces)?;
+}
+
+fn check_queue(state: &State, number: usize) -> Result<(), Fault> {
+    let row = queue_row(number);
+    let (places, first, count) = (state[row + QUEUE_PLACES], state[row + QUEUE_FIRST], state[row + QUEUE_COUNT]);
+    ensure((1..=MOST_PLACES).contains(&places.into()), Fault::QueuePlaces)?;
     ensure(usize::from(first) < MOST_PLACES, Fault::QueueFirst)?;
     ensure(count <= places, Fault::QueueCount)?;
     for unread in 0..count {
-        let place = usize::from(first + unread) % MOST_PLACES;
-        check_completion(state, COMPLETION_ROWS + (number * MOST_PLACES + place) * COMPLETION_BYTES)?;
+        check_completion(state, completion_row(number, usize::from(first + unread)))?;
     }
     Ok(())
 }
 
 fn check_completion(state: &State, row: usize) -> Result<(), Fault> {
-    ensure(matches!(state[row + 8], 0 | 1 | 3 | 4 | 7 | 8), Fault::CompletionStatus)?;
-    ensure(state[row + 9] <= 4, Fault::CompletionOpcode)?;
-    ensure(get32(state, row + 12) as usize <= MOST_MESSAGE, Fault::CompletionLength)?;
-    ensure((get32(state, row + 20) as usize) < PAIRS, Fault::CompletionOwner)
+    ensure(matches!(state[row + COMPLETION_STATUS], 0 | 1 | 3 | 4 | 7 | 8), Fault::CompletionStatus)?;
+    ensure(state[row + COMPLETION_OPCODE] <= 4, Fault::CompletionOpcode)?;
+    ensure(get32(state, row + COMPLETION_LENGTH) as usize <= MOST_MESSAGE, Fault::CompletionLength)?;
+    ensure((get32(state, row + COMPLETION_OWNER) as usize) < PAIRS, Fault::CompletionOwner)
 }
 
 fn check_region(state: &State, number: usize, memory: u64) -> Result<(), Fault> {
-    let row = REGION_ROWS + number * REGION_ROW;
-    let (start, length, virt) = (get64(state, row + 8), get64(state, row + 16), get64(state, row + 24));
-    ensure(state[row] <= LOCAL_WRITE | REMOTE_WRITE | REMOTE_READ, Fault::RegionAccess)?;
-    ensure(state[row + 1] != 0, Fault::RegionVariant)?;
-    ensure(live_domain(state, state[row + 2]), Fault::RegionDomain)?;
+    let row = region_row(number);
+    let start = get64(state, row + REGION_START);
+    let length = get64(state, row + REGION_LENGTH);
+    let virt = get64(state, row + REGION_VIRT);
+    ensure(state[row + REGION_ACCESS] <= LOCAL_WRITE | REMOTE_WRITE | REMOTE_READ, Fault::RegionAccess)?;
+    ensure(state[row + REGION_VARIANT] != 0, Fault::RegionVariant)?;
+    ensure(live_domain(state, state[row + REGION_DOMAIN]), Fault::RegionDomain)?;
     ensure(length != 0, Fault::RegionEmpty)?;
     ensure(length <= memory && start <= memory - length, Fault::RegionMemory)?;
     ensure(virt <= u64::MAX - length, Fault::RegionAddress)
 }
 
 fn check_pair(state: &State, number: usize) -> Result<(), Fault> {
-    let row = PAIR_ROWS + number * PAIR_ROW;
-    let waiting = WAITING_ROWS + number * WAITING_ROW;
-    let (destination, first, count) = (state[row + 6], state[waiting], state[waiting + 1]);
-    ensure(live_domain(state, state[row + 1]), Fault::PairDomain)?;
-    ensure(state[row + 2] <= 1, Fault::PairSignal)?;
-    ensure(live_queue(state, state[row + 3]), Fault::PairSendQueue)?;
-    ensure(live_queue(state, state[row + 4]), Fault::PairReceiveQueue)?;
-    ensure(matches!(state[row + 5], RESET | INIT | READY_TO_RECEIVE | READY_TO_SEND | ERROR), Fault::PairState)?;
+    let row = pair_row(number);
+    let (phase, destination) = (state[row + PAIR_STATE], state[row + PAIR_DESTINATION]);
+    ensure(live_domain(state, state[row + PAIR_DOMAIN]), Fault::PairDomain)?;
+    ensure(state[row + PAIR_SIGNAL] <= 1, Fault::PairSignal)?;
+    ensure(live_queue(state, state[row + PAIR_SEND_QUEUE]), Fault::PairSendQueue)?;
+    ensure(live_queue(state, state[row + PAIR_RECEIVE_QUEUE]), Fault::PairReceiveQueue)?;
+    ensure(matches!(phase, RESET | INIT | READY_TO_RECEIVE | READY_TO_SEND | ERROR), Fault::PairState)?;
     ensure(destination <= NO_DESTINATION, Fault::PairDestination)?;
     ensure(usize::from(destination) != number, Fault::PairNamesItself)?;
+    check_waiting(state, number)
+}
+
+fn check_waiting(state: &State, number: usize) -> Result<(), Fault> {
+    let row = waiting_row(number);
+    let (first, count) = (state[row + WAITING_FIRST], state[row + WAITING_COUNT]);
     ensure(usize::from(first) < MOST_WAITING, Fault::WaitingFirst)?;
     ensure(usize::from(count) <= MOST_WAITING, Fault::WaitingCount)?;
     for waiting in 0..count {
-        let place = usize::from(first + waiting) % MOST_WAITING;
-        let receive = RECEIVE_ROWS + (number * MOST_WAITING + place) * RECEIVE_ROW;
-        ensure(get32(state, receive + 8) as usize <= MOST_RECEIVE_PIECES, Fault::ReceivePieces)?;
+        let receive = receive_row(number, usize::from(first + waiting));
+        ensure(get32(state, receive + RECEIVE_COUNT) as usize <= MOST_RECEIVE_PIECES, Fault::ReceivePieces)?;
     }
     Ok(())
 }
@@ -168,7 +180,7 @@ fn live_domain(state: &State, number: u8) -> bool {
 }
 
 fn live_queue(state: &State, number: u8) -> bool {
-    usize::from(number) < QUEUES && state[QUEUE_ROWS + usize::from(number) * QUEUE_ROW] != 0
+    usize::from(number) < QUEUES && state[QUEUE_FLAGS + usize::from(number)] == 1
 }
 
 fn ensure(holds: bool, fault: Fault) -> Result<(), Fault> {

@@ -30,30 +30,6 @@ pub struct Pair {
     pub destination: u8,
 }
 
-fn queue_row(number: usize) -> usize {
-    QUEUE_ROWS + number * QUEUE_ROW
-}
-
-fn pair_row(number: usize) -> usize {
-    PAIR_ROWS + number * PAIR_ROW
-}
-
-fn waiting_row(number: usize) -> usize {
-    WAITING_ROWS + number * WAITING_ROW
-}
-
-fn region_row(number: usize) -> usize {
-    REGION_ROWS + number * REGION_ROW
-}
-
-fn receive_row(number: usize, place: usize) -> usize {
-    RECEIVE_ROWS + (number * MOST_WAITING + place % MOST_WAITING) * RECEIVE_ROW
-}
-
-fn completion_row(number: usize, place: usize) -> usize {
-    COMPLETION_ROWS + (number * MOST_PLACES + place % MOST_PLACES) * COMPLETION_BYTES
-}
-
 impl<'a> Card<'a> {
     /// Makes the test of answer 15.
     pub fn open(state: &'a mut [u8]) -> Result<Card<'a>, Refusal> {
@@ -82,25 +58,48 @@ impl<'a> Card<'a> {
 
     // ---- completion queues
 
+    fn live_queue(&self, number: usize) -> bool {
+        self.bytes[QUEUE_FLAGS + number] == 1
+    }
+
     pub fn queue(&self, number: u32) -> Result<usize, Refusal> {
-        live(number, QUEUES, |n| self.bytes[queue_row(n)] != 0)
+        live(number, QUEUES, |n| self.live_queue(n))
     }
 
     pub fn free_queue(&self) -> Option<usize> {
-        (0..QUEUES).find(|&n| self.bytes[queue_row(n)] == 0)
+        (0..QUEUES).find(|&n| !self.live_queue(n))
     }
 
-    /// Makes an empty queue, or with no places none.
-    pub fn set_queue(&mut self, number: usize, places: u8) {
-        self.bytes[queue_row(number)..][..3].copy_from_slice(&[places, 0, 0]);
+    /// Makes an empty queue.
+    pub fn create_queue(&mut self, number: usize, places: u8) {
+        self.set_head(number, places, 0, 0);
+        self.bytes[QUEUE_FLAGS + number] = 1;
+    }
+
+    pub fn drop_queue(&mut self, number: usize) {
+        self.bytes[QUEUE_FLAGS + number] = 0;
+    }
+
+    fn set_head(&mut self, number: usize, places: u8, first: u8, count: u8) {
+        let row = queue_row(number);
+        self.bytes[row + QUEUE_PLACES] = places;
+        self.bytes[row + QUEUE_FIRST] = first;
+        self.bytes[row + QUEUE_COUNT] = count;
+        self.bytes[row + QUEUE_ZERO] = 0;
+    }
+
+    /// Places, first place and count.
+    fn head(&self, number: usize) -> (u8, u8, u8) {
+        let row = queue_row(number);
+        (self.bytes[row + QUEUE_PLACES], self.bytes[row + QUEUE_FIRST], self.bytes[row + QUEUE_COUNT])
     }
 
     pub fn places(&self, number: usize) -> usize {
-        self.bytes[queue_row(number)].into()
+        self.head(number).0.into()
     }
 
     pub fn unread(&self, number: usize) -> usize {
-        self.bytes[queue_row(number) + 2].into()
+        self.head(number).2.into()
     }
 
     pub fn free_places(&self, number: usize) -> usize {
@@ -109,23 +108,21 @@ impl<'a> Card<'a> {
 
     /// Unread completion `index`, the oldest first.
     pub fn completion(&self, number: usize, index: usize) -> Completion {
-        let first = usize::from(self.bytes[queue_row(number) + 1]);
-        Completion::read(self.bytes, completion_row(number, first + index))
+        let (_, first, _) = self.head(number);
+        Completion::read(self.bytes, completion_row(number, usize::from(first) + index))
     }
 
     /// The queue has a free place.
     pub fn put_completion(&mut self, number: usize, completion: &Completion) {
-        let row = queue_row(number);
-        let (first, count) = (self.bytes[row + 1], self.bytes[row + 2]);
+        let (places, first, count) = self.head(number);
         completion.write(self.bytes, completion_row(number, usize::from(first + count)));
-        self.bytes[row + 2] = count + 1;
+        self.set_head(number, places, first, count + 1);
     }
 
     /// The queue has an unread completion.
     pub fn drop_completion(&mut self, number: usize) {
-        let row = queue_row(number);
-        self.bytes[row + 1] = (self.bytes[row + 1] + 1) % MOST_PLACES as u8;
-        self.bytes[row + 2] -= 1;
+        let (places, first, count) = self.head(number);
+        self.set_head(number, places, (first + 1) % MOST_PLACES as u8, count - 1);
     }
 
     // ---- regions
@@ -146,22 +143,26 @@ impl<'a> Card<'a> {
     pub fn region(&self, number: usize) -> Region {
         let row = region_row(number);
         Region {
-            access: self.bytes[row],
-            variant: self.bytes[row + 1],
-            domain: self.bytes[row + 2],
-            start: get64(self.bytes, row + 8),
-            length: get64(self.bytes, row + 16),
-            virt: get64(self.bytes, row + 24),
+            access: self.bytes[row + REGION_ACCESS],
+            variant: self.bytes[row + REGION_VARIANT],
+            domain: self.bytes[row + REGION_DOMAIN],
+            start: get64(self.bytes, row + REGION_START),
+            length: get64(self.bytes, row + REGION_LENGTH),
+            virt: get64(self.bytes, row + REGION_VIRT),
         }
     }
 
-    pub fn set_region(&mut self, number: usize, region: &Region) {
+    /// Makes a live region.
+    pub fn create_region(&mut self, number: usize, region: &Region) {
         let row = region_row(number);
         self.bytes[REGION_FLAGS + number] = 1;
-        self.bytes[row..row + 3].copy_from_slice(&[region.access, region.variant, region.domain]);
-        put64(self.bytes, row + 8, region.start);
-        put64(self.bytes, row + 16, region.length);
-        put64(self.bytes, row + 24, region.virt);
+        self.bytes[row + REGION_ACCESS] = region.access;
+        self.bytes[row + REGION_VARIANT] = region.variant;
+        self.bytes[row + REGION_DOMAIN] = region.domain;
+        self.bytes[row + REGION_ZERO] = 0;
+        put64(self.bytes, row + REGION_START, region.start);
+        put64(self.bytes, row + REGION_LENGTH, region.length);
+        put64(self.bytes, row + REGION_VIRT, region.virt);
     }
 
     pub fn drop_region(&mut self, number: usize) {
@@ -171,7 +172,7 @@ impl<'a> Card<'a> {
     // ---- queue pairs
 
     pub fn live_pair(&self, number: usize) -> bool {
-        self.bytes[pair_row(number)] == 1
+        self.bytes[PAIR_FLAGS + number] == 1
     }
 
     pub fn pair_number(&self, number: u32) -> Result<usize, Refusal> {
@@ -185,74 +186,97 @@ impl<'a> Card<'a> {
     pub fn pair(&self, number: usize) -> Pair {
         let row = pair_row(number);
         Pair {
-            domain: self.bytes[row + 1],
-            signal: self.bytes[row + 2],
-            send_queue: self.bytes[row + 3],
-            receive_queue: self.bytes[row + 4],
-            state: self.bytes[row + 5],
-            destination: self.bytes[row + 6],
+            domain: self.bytes[row + PAIR_DOMAIN],
+            signal: self.bytes[row + PAIR_SIGNAL],
+            send_queue: self.bytes[row + PAIR_SEND_QUEUE],
+            receive_queue: self.bytes[row + PAIR_RECEIVE_QUEUE],
+            state: self.bytes[row + PAIR_STATE],
+            destination: self.bytes[row + PAIR_DESTINATION],
         }
+    }
+
+    fn set_pair(&mut self, number: usize, pair: &Pair) {
+        let row = pair_row(number);
+        self.bytes[row + PAIR_DOMAIN] = pair.domain;
+        self.bytes[row + PAIR_SIGNAL] = pair.signal;
+        self.bytes[row + PAIR_SEND_QUEUE] = pair.send_queue;
+        self.bytes[row + PAIR_RECEIVE_QUEUE] = pair.receive_queue;
+        self.bytes[row + PAIR_STATE] = pair.state;
+        self.bytes[row + PAIR_DESTINATION] = pair.destination;
+        self.bytes[row + PAIR_ZERO..][..2].fill(0);
     }
 
     /// Makes a live pair without waiting receives.
     pub fn create_pair(&mut self, number: usize, pair: &Pair) {
-        let row = pair_row(number);
-        let Pair { domain, signal, send_queue, receive_queue, state, destination } = *pair;
-        let fields = [1, domain, signal, send_queue, receive_queue, state, destination];
-        self.bytes[row..row + 7].copy_from_slice(&fields);
-        self.bytes[waiting_row(number)..][..2].fill(0);
+        self.set_pair(number, pair);
+        self.set_waiting(number, 0, 0);
+        self.bytes[PAIR_FLAGS + number] = 1;
     }
 
     pub fn drop_pair(&mut self, number: usize) {
-        self.bytes[pair_row(number)..][..7].fill(0);
+        self.bytes[PAIR_FLAGS + number] = 0;
     }
 
     pub fn set_pair_state(&mut self, number: usize, state: u8) {
-        self.bytes[pair_row(number) + 5] = state;
+        let pair = Pair { state, ..self.pair(number) };
+        self.set_pair(number, &pair);
     }
 
     pub fn set_destination(&mut self, number: usize, destination: u8) {
-        self.bytes[pair_row(number) + 6] = destination;
+        let pair = Pair { destination, ..self.pair(number) };
+        self.set_pair(number, &pair);
     }
 
     // ---- waiting receives
 
+    /// First place and count.
+    fn waiting_head(&self, number: usize) -> (u8, u8) {
+        let row = waiting_row(number);
+        (self.bytes[row + WAITING_FIRST], self.bytes[row + WAITING_COUNT])
+    }
+
+    fn set_waiting(&mut self, number: usize, first: u8, count: u8) {
+        let row = waiting_row(number);
+        self.bytes[row + WAITING_FIRST] = first;
+        self.bytes[row + WAITING_COUNT] = count;
+    }
+
     pub fn waiting(&self, number: usize) -> usize {
-        self.bytes[waiting_row(number) + 1].into()
+        self.waiting_head(number).1.into()
     }
 
     /// Waiting receive `index`, the oldest first.
     pub fn receive(&self, number: usize, index: usize) -> ReceiveRecord {
-        let first = usize::from(self.bytes[waiting_row(number)]);
-        let row = receive_row(number, first + index);
+        let (first, _) = self.waiting_head(number);
+        let row = receive_row(number, usize::from(first) + index);
         ReceiveRecord {
             wr_id: get64(self.bytes, row),
-            count: get32(self.bytes, row + 8) as usize,
-            pieces: [Piece::read(self.bytes, row + 24), Piece::read(self.bytes, row + 40)],
+            count: get32(self.bytes, row + RECEIVE_COUNT) as usize,
+            pieces: RECEIVE_PIECES.map(|at| Piece::read(self.bytes, row + at)),
         }
     }
 
     /// Fewer than four receives wait.
     pub fn put_receive(&mut self, number: usize, receive: &ReceiveRecord) {
-        let waiting = waiting_row(number);
-        let (first, count) = (self.bytes[waiting], self.bytes[waiting + 1]);
+        let (first, count) = self.waiting_head(number);
         let row = receive_row(number, usize::from(first + count));
         put64(self.bytes, row, receive.wr_id);
-        put32(self.bytes, row + 8, receive.count as u32);
-        receive.pieces[0].write(self.bytes, row + 24);
-        receive.pieces[1].write(self.bytes, row + 40);
-        self.bytes[waiting + 1] = count + 1;
+        put32(self.bytes, row + RECEIVE_COUNT, receive.count as u32);
+        for (piece, at) in receive.pieces.iter().zip(RECEIVE_PIECES) {
+            piece.write(self.bytes, row + at);
+        }
+        self.set_waiting(number, first, count + 1);
     }
 
     /// A receive waits.
     pub fn drop_receive(&mut self, number: usize) {
-        let waiting = waiting_row(number);
-        self.bytes[waiting] = (self.bytes[waiting] + 1) % MOST_WAITING as u8;
-        self.bytes[waiting + 1] -= 1;
+        let (first, count) = self.waiting_head(number);
+        self.set_waiting(number, (first + 1) % MOST_WAITING as u8, count - 1);
     }
 
     pub fn drop_receives(&mut self, number: usize) {
-        self.bytes[waiting_row(number) + 1] = 0;
+        let (first, _) = self.waiting_head(number);
+        self.set_waiting(number, first, 0);
     }
 }
 

@@ -75,7 +75,7 @@ fn create_queue(card: &mut Card, places: u32) -> Result<Ack, Refusal> {
         return Err(Refusal::BadField);
     }
     let number = card.free_queue().ok_or(Refusal::Full)?;
-    card.set_queue(number, places as u8);
+    card.create_queue(number, places as u8);
     Ok(Ack::Number(number))
 }
 
@@ -85,7 +85,7 @@ fn destroy_queue(card: &mut Card, number: u32) -> Result<Ack, Refusal> {
     if live_pairs(card).any(names_it) {
         return Err(Refusal::InUse);
     }
-    card.set_queue(number, 0);
+    card.drop_queue(number);
     Ok(Ack::Empty)
 }
 
@@ -120,7 +120,7 @@ fn register(card: &mut Card, domain: u32, access: u32, start: u64, length: u64, 
         255 => 1,
         last => last + 1,
     };
-    card.set_region(number, &Region { access: access as u8, variant, domain: domain as u8, start, length, virt });
+    card.create_region(number, &Region { access: access as u8, variant, domain: domain as u8, start, length, virt });
     Ok(Ack::Keys { number, key: 256 * number as u32 + u32::from(variant) })
 }
 

@@ -12,34 +12,100 @@ pub const MOST_INLINE: usize = 512;
 pub const MOST_MESSAGE: usize = 4096;
 pub const MOST_MEMORY: u64 = 1 << 20;
 
-pub const MEMORY_LENGTH: usize = 0;
-pub const DOMAIN_FLAGS: usize = 16;
-pub const REGION_FLAGS: usize = DOMAIN_FLAGS + DOMAINS;
-pub const QUEUE_ROWS: usize = REGION_FLAGS + REGIONS;
-pub const QUEUE_ROW: usize = 4;
-pub const PAIR_ROWS: usize = QUEUE_ROWS + QUEUES * QUEUE_ROW;
-pub const PAIR_ROW: usize = 8;
-pub const WAITING_ROWS: usize = PAIR_ROWS + PAIRS * PAIR_ROW;
-pub const WAITING_ROW: usize = 2;
-pub const REGION_ROWS: usize = WAITING_ROWS + PAIRS * WAITING_ROW;
-pub const REGION_ROW: usize = 32;
-pub const RECEIVE_ROWS: usize = REGION_ROWS + REGIONS * REGION_ROW;
-pub const RECEIVE_ROW: usize = 56;
-pub const COMPLETION_ROWS: usize = RECEIVE_ROWS + PAIRS * MOST_WAITING * RECEIVE_ROW;
-pub const COMPLETION_BYTES: usize = 24;
-/// The length of the lent state. Tests, timing and tools know it by this name alone.
-pub const STATE_BYTES: usize = COMPLETION_ROWS + QUEUES * MOST_PLACES * COMPLETION_BYTES;
+// ---- where each table begins: one block for each kind of object, a column of live flags and then its rows
 
-/// First byte and length of each table that says what is live, what it names and where its rows stand.
-pub const HEADS: [(usize, usize); 7] = [
-    (MEMORY_LENGTH, 16),
-    (DOMAIN_FLAGS, DOMAINS),
-    (REGION_FLAGS, REGIONS),
-    (QUEUE_ROWS, QUEUES * QUEUE_ROW),
-    (PAIR_ROWS, PAIRS * PAIR_ROW),
-    (WAITING_ROWS, PAIRS * WAITING_ROW),
-    (REGION_ROWS, REGIONS * REGION_ROW),
-];
+pub const MEMORY_LENGTH: usize = 0;
+/// Eight bytes behind the memory length that nothing uses.
+pub const HEADER_UNUSED: usize = 8;
+pub const DOMAIN_FLAGS: usize = 16;
+pub const QUEUE_FLAGS: usize = DOMAIN_FLAGS + DOMAINS;
+pub const QUEUE_ROWS: usize = QUEUE_FLAGS + QUEUES;
+pub const COMPLETION_ROWS: usize = QUEUE_ROWS + QUEUES * QUEUE_ROW;
+pub const REGION_FLAGS: usize = COMPLETION_ROWS + QUEUES * MOST_PLACES * COMPLETION_BYTES;
+pub const REGION_ROWS: usize = REGION_FLAGS + REGIONS;
+pub const PAIR_FLAGS: usize = REGION_ROWS + REGIONS * REGION_ROW;
+pub const PAIR_ROWS: usize = PAIR_FLAGS + PAIRS;
+pub const WAITING_ROWS: usize = PAIR_ROWS + PAIRS * PAIR_ROW;
+pub const RECEIVE_ROWS: usize = WAITING_ROWS + PAIRS * WAITING_ROW;
+/// The length of the lent state. Tests, timing and tools know it by this name alone.
+pub const STATE_BYTES: usize = RECEIVE_ROWS + PAIRS * MOST_WAITING * RECEIVE_ROW;
+
+// ---- the length of each row, and its fields
+
+const QUEUE_ROW: usize = 4;
+pub const QUEUE_PLACES: usize = 0;
+pub const QUEUE_FIRST: usize = 1;
+pub const QUEUE_COUNT: usize = 2;
+pub const QUEUE_ZERO: usize = 3;
+
+pub const COMPLETION_BYTES: usize = 24;
+pub const COMPLETION_STATUS: usize = 8;
+pub const COMPLETION_OPCODE: usize = 9;
+pub const COMPLETION_ZERO: usize = 10;
+pub const COMPLETION_LENGTH: usize = 12;
+pub const COMPLETION_IMMEDIATE: usize = 16;
+pub const COMPLETION_OWNER: usize = 20;
+
+const REGION_ROW: usize = 32;
+pub const REGION_ACCESS: usize = 0;
+pub const REGION_VARIANT: usize = 1;
+pub const REGION_DOMAIN: usize = 2;
+pub const REGION_ZERO: usize = 3;
+pub const REGION_UNUSED: usize = 4;
+pub const REGION_START: usize = 8;
+pub const REGION_LENGTH: usize = 16;
+pub const REGION_VIRT: usize = 24;
+
+const PAIR_ROW: usize = 8;
+pub const PAIR_DOMAIN: usize = 0;
+pub const PAIR_SIGNAL: usize = 1;
+pub const PAIR_SEND_QUEUE: usize = 2;
+pub const PAIR_RECEIVE_QUEUE: usize = 3;
+pub const PAIR_STATE: usize = 4;
+pub const PAIR_DESTINATION: usize = 5;
+pub const PAIR_ZERO: usize = 6;
+
+const WAITING_ROW: usize = 2;
+pub const WAITING_FIRST: usize = 0;
+pub const WAITING_COUNT: usize = 1;
+
+const RECEIVE_ROW: usize = 56;
+pub const RECEIVE_COUNT: usize = 8;
+pub const RECEIVE_UNUSED: usize = 12;
+pub const RECEIVE_PIECES: [usize; MOST_RECEIVE_PIECES] = [24, 40];
+
+pub const fn queue_row(number: usize) -> usize {
+    QUEUE_ROWS + number * QUEUE_ROW
+}
+
+/// Place `place` of a queue's ring, counted on past its end.
+pub const fn completion_row(number: usize, place: usize) -> usize {
+    COMPLETION_ROWS + (number * MOST_PLACES + place % MOST_PLACES) * COMPLETION_BYTES
+}
+
+pub const fn region_row(number: usize) -> usize {
+    REGION_ROWS + number * REGION_ROW
+}
+
+pub const fn pair_row(number: usize) -> usize {
+    PAIR_ROWS + number * PAIR_ROW
+}
+
+pub const fn waiting_row(number: usize) -> usize {
+    WAITING_ROWS + number * WAITING_ROW
+}
+
+/// Place `place` of a queue pair's receives, counted on past its end.
+pub const fn receive_row(number: usize, place: usize) -> usize {
+    RECEIVE_ROWS + (number * MOST_WAITING + place % MOST_WAITING) * RECEIVE_ROW
+}
+
+/// First byte and length of each column of live flags.
+pub const FLAGS: [(usize, usize); 4] =
+    [(DOMAIN_FLAGS, DOMAINS), (QUEUE_FLAGS, QUEUES), (REGION_FLAGS, REGIONS), (PAIR_FLAGS, PAIRS)];
+
+/// First byte and length of each part that says what is live, what it names and where its rows stand.
+pub const HEADS: [(usize, usize); 2] = [(0, COMPLETION_ROWS), (REGION_FLAGS, RECEIVE_ROWS - REGION_FLAGS)];
 
 /// A queue pair's destination that names nobody.
 pub const NO_DESTINATION: u8 = 8;

@@ -170,22 +170,22 @@ impl Completion {
     pub fn read(bytes: &[u8], at: usize) -> Completion {
         Completion {
             wr_id: get64(bytes, at),
-            status: bytes[at + 8],
-            opcode: bytes[at + 9],
-            length: get32(bytes, at + 12),
-            immediate: get32(bytes, at + 16),
-            owner: get32(bytes, at + 20),
+            status: bytes[at + COMPLETION_STATUS],
+            opcode: bytes[at + COMPLETION_OPCODE],
+            length: get32(bytes, at + COMPLETION_LENGTH),
+            immediate: get32(bytes, at + COMPLETION_IMMEDIATE),
+            owner: get32(bytes, at + COMPLETION_OWNER),
         }
     }
 
     pub fn write(&self, bytes: &mut [u8], at: usize) {
         put64(bytes, at, self.wr_id);
-        bytes[at + 8] = self.status;
-        bytes[at + 9] = self.opcode;
-        bytes[at + 10..at + 12].fill(0);
-        put32(bytes, at + 12, self.length);
-        put32(bytes, at + 16, self.immediate);
-        put32(bytes, at + 20, self.owner);
+        bytes[at + COMPLETION_STATUS] = self.status;
+        bytes[at + COMPLETION_OPCODE] = self.opcode;
+        bytes[at + COMPLETION_ZERO..][..2].fill(0);
+        put32(bytes, at + COMPLETION_LENGTH, self.length);
+        put32(bytes, at + COMPLETION_IMMEDIATE, self.immediate);
+        put32(bytes, at + COMPLETION_OWNER, self.owner);
     }
 }
 
