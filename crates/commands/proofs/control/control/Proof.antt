@@ -8,13 +8,6 @@ use Rattle.commands.proofs.CallLaws.{control-state, control-short, cont
 use borrow.Author.Needs.{needs}
 use Rattle.commands.proofs.control.control.Statement.{statement}
 use Rattle.commands.proofs.control.control.Tie as tie
-use Rattle.commands.proofs.control.control.Reads as reads
-use Rattle.commands.proofs.control.control.Lts as lts
-use Rattle.commands.proofs.control.ack_of.Reads as ack-of-reads
-use Rattle.commands.proofs.control.answer_of.Reads as answer-of-reads
-use Rattle.commands.proofs.control.dispatch.Reads as dispatch-reads
-use Rattle.tables.proofs.records.write_ack.Reads as write-ack-reads
-use Rattle.validate.proofs.accept.accepted.Reads as accepted-reads
 
 accepted-requires : tie.Need-accepted-requires
 accepted-requires c κs = search needs
@@ -33,7 +26,8 @@ returns-2 c = control-short _ _ _ (sym (c .before .before .accepted .ensures) �
 
 dispatch-requires : tie.Need-dispatch-requires
 dispatch-requires c κs =
-    let e : accepts (now (c .before .before .before .before .before .before .before .before .args .state)) ≡ true = sym (c .before .before .before .accepted .ensures) ∙ not-false _ (c .before .before .if1 .left) in
+    let good = c .before .before in
+    let e : accepts (now (good .before .before .before .before .before .before .args .state)) ≡ true = sym (good .before .accepted .ensures) ∙ not-false _ (good .if1 .left) in
     (e, accepted _ e .sized)
 
 ack-of-requires : tie.Need-ack-of-requires
@@ -52,7 +46,12 @@ same-length-4 : tie.Need-same-length-4
 same-length-4 c = search needs
 
 returns-3 : tie.Need-returns-3
-returns-3 c = control-done _ _ _ (sym (c .before .before .before .before .before .before .before .before .before .before .before .before .accepted .ensures) ∙ not-false _ (c .before .before .before .before .before .before .before .before .before .before .before .if1 .left)) (c .before .before .before .before .before .before .before .before .before .before .if2 .left) (c .before .before .before .before .before .before .before .before .dispatch .result) _ (c .before .before .before .before .before .before .before .before .dispatch .ensures) _ (c .before .before .before .before .ack-of .ensures) _ (c .answer-of .ensures) _ (c .before .before .before .write-ack .ensures)
+returns-3 c =
+    let done = c .before .before .before .before .before .before .before .before in
+    let room = done .before .before in
+    let good = room .before in
+    control-done _ _ _ (sym (good .before .accepted .ensures) ∙ not-false _ (good .if1 .left)) (room .if2 .left) (done .dispatch .result) _
+    (done .dispatch .ensures) _ (c .before .before .before .before .ack-of .ensures) _ (c .answer-of .ensures) _ (c .before .before .before .write-ack .ensures)
 
 pub control-spec : {M : Type 1} → statement M
 control-spec =

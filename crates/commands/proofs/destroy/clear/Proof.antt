@@ -3,12 +3,6 @@ use Rattle.rules.specs.Bytes.{commandBytes}
 use borrow.Author.Needs.{needs}
 use Rattle.commands.proofs.destroy.clear.Statement.{statement}
 use Rattle.commands.proofs.destroy.clear.Tie as tie
-use Rattle.commands.proofs.destroy.clear.Reads as reads
-use Rattle.commands.proofs.destroy.clear.Lts as lts
-use Rattle.tables.proofs.rows.store_cq_flag.Reads as store-cq-flag-reads
-use Rattle.tables.proofs.rows.store_mr_flag.Reads as store-mr-flag-reads
-use Rattle.tables.proofs.rows.store_pd_flag.Reads as store-pd-flag-reads
-use Rattle.tables.proofs.rows.store_qp_flag.Reads as store-qp-flag-reads
 
 enum-told : tie.Need-enum-told
 enum-told c = search needs

@@ -4,11 +4,6 @@ use borrow.Author.Tests.{not-true, not-false}
 use borrow.Author.Needs.{needs}
 use Rattle.commands.proofs.destroy.destroy.Statement.{statement}
 use Rattle.commands.proofs.destroy.destroy.Tie as tie
-use Rattle.commands.proofs.destroy.destroy.Reads as reads
-use Rattle.commands.proofs.destroy.destroy.Lts as lts
-use Rattle.commands.proofs.destroy.clear.Reads as clear-reads
-use Rattle.commands.proofs.destroy.in_use.Reads as in-use-reads
-use Rattle.commands.proofs.destroy.is_live.Reads as is-live-reads
 
 enum-known-read : tie.Need-enum-known-read
 enum-known-read c = search needs
@@ -38,20 +33,24 @@ same-length-2 c = search needs
 
 returns-3 : tie.Need-returns-3
 returns-3 c =
-    rw (c .before .before .before .before .before .before .before .read .given .1)
-    (destroy-used _ (c .before .before .before .before .before .before .before .before .before .before .args .kind) _ (sym (c .before .before .before .before .is-live .ensures) ∙ not-false _ (c .before .before .before .if1 .left)) (sym (c .before .in-use .ensures) ∙ c .if2 .taken))
+    let live = c .before .before .before in
+    rw (live .before .before .before .before .read .given .1)
+    (destroy-used _ (live .before .before .before .before .before .before .before .args .kind) _ (sym (live .before .is-live .ensures) ∙ not-false _ (live .if1 .left)) (sym (c .before .in-use .ensures) ∙ c .if2 .taken))
 
 clear-requires : tie.Need-clear-requires
-clear-requires c κs = (sym (c .before .before .before .before .before .is-live .ensures) ∙ not-false _ (c .before .before .before .before .if1 .left), c .before .before .before .before .before .before .before .before .before .before .before .pre .1)
+clear-requires c κs =
+    let live = c .before .before .before .before in
+    (sym (live .before .is-live .ensures) ∙ not-false _ (live .if1 .left), live .before .before .before .before .before .before .before .pre .1)
 
 same-length-3 : tie.Need-same-length-3
 same-length-3 c = search needs
 
 returns-4 : tie.Need-returns-4
 returns-4 c =
-    rw (c .before .before .before .before .before .before .before .before .before .before .before .read .given .1)
-    (destroy-done _ (c .before .before .before .before .before .before .before .before .before .before .before .before .before .before .args .kind) _ (sym (c .before .before .before .before .before .before .before .before .is-live .ensures) ∙ not-false _ (c .before .before .before .before .before .before .before .if1 .left)) (sym (c .before .before .before .before .before .in-use .ensures) ∙ c .before .before .before .before .if2 .left) _
-    (c .before .before .clear .ensures))
+    let unused = c .before .before .before .before in
+    let live = unused .before .before .before in
+    rw (live .before .before .before .before .read .given .1)
+    (destroy-done _ (live .before .before .before .before .before .before .before .args .kind) _ (sym (live .before .is-live .ensures) ∙ not-false _ (live .if1 .left)) (sym (unused .before .in-use .ensures) ∙ unused .if2 .left) _ (c .before .before .clear .ensures))
 
 pub destroy-spec : {M : Type 1} → statement M
 destroy-spec =
