@@ -41,7 +41,7 @@ use Rattle.rules.specs.Control.{commandChecks, commandAck, commandEffect}
 use Rattle.rules.specs.Lists.{maybe}
 use Rattle.rules.specs.declared.Answer.{Answer}
 use Rattle.rules.specs.declared.Answer.the-variants as answer
-use Rattle.commands.specs.Control.{Ends, Ran, Chosen, Classed, numberChecks, classChecks, numbered, registering, creating, modifying, bare, ackOf, outcomeAck, outcomeAnswer}
+use Rattle.commands.specs.Control.{Ran, Chosen, Classed, numberChecks, classChecks, numbered, registering, creating, modifying, bare, ackOf, outcomeAck, outcomeAnswer}
 use Rattle.commands.specs.declared.Outcome.{Outcome}
 use Rattle.commands.specs.declared.Outcome.the-variants.{Refused, Done}
 use Rattle.commands.proofs.EffectLaws as effect
@@ -219,7 +219,7 @@ module _ (l k a : List ℕ) where
           rw (not-true (eqb n 5) (and-left x y v), not-true (eqb n 6) (and-right x y v), not-true (eqb n 12 || eqb n 15) (and-right (x && y) z w))
           at (refused-owes l call n (tests ∙ e))
 
-      pub control-done : (p : Outcome) (l′ : List ℕ) → Ends (classChecks (card l) k) l o p l′ → (x : Ack) → x ≡ outcomeAck p → (r : Answer) → r ≡ outcomeAnswer p
+      pub control-done : (p : Outcome) (l′ : List ℕ) → Classed l k p l′ → (x : Ack) → x ≡ outcomeAck p → (r : Answer) → r ≡ outcomeAnswer p
           → (a′ : List ℕ) → a′ ≡ putFields ackFields a 0 (ackValues x) → Owes l call r l′ [] a′
       control-done p l′ d x ex r er a′ ea = go (refusal (classChecks (card l) k)) refl
         where

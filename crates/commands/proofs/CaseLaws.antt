@@ -8,7 +8,7 @@ use native.Mathlib.Omega.{arith}
 use lib.Bits.{bitAnd, and-le-r}
 use lib.Dec.{eqb, ltb, leb}
 use lib.ListN.{length}
-use borrow.Author.Tests.{le-leb, lt-leb, leb-true, leb-false, lt-ltb, le-ltb, eqb-true, ne-eqb, eq-eqb}
+use borrow.Author.Tests.{not-true, not-false, le-leb, lt-leb, leb-true, leb-false, lt-ltb, le-ltb, eqb-true, ne-eqb, eq-eqb}
 use Rattle.wire.specs.Checks.{Check, _if_, refusal, only}
 use Rattle.wire.proofs.ScanLaws.{and-right}
 use Rattle.wire.specs.Table.{rowAt, putRow}
@@ -28,6 +28,13 @@ use Rattle.commands.specs.declared.Kind.{Kind}
 use Rattle.commands.specs.declared.Kind.the-variants.{Pd, Cq, Mr, Qp}
 use Rattle.commands.specs.declared.Outcome.{Outcome}
 use Rattle.commands.specs.declared.Outcome.the-variants.{Refused, Done}
+
+-- what a call of a test has shown, where its result r let the command pass, and where it did not
+pub passes : {r b : Bool} → r ≡ b → not r ≡ false → b ≡ true
+passes {r = r} e f = sym e ∙ not-false r f
+
+pub fails : {r b : Bool} → r ≡ b → not r ≡ true → b ≡ false
+fails {r = r} e f = sym e ∙ not-true r f
 
 -- a command that a test refuses, and one that passes all
 module _ (l : List ℕ) (q : Command) where

@@ -188,7 +188,8 @@ module _ (l : List ℕ) (ok : Accepted l) where
 
     limits : regionOk (rowAt memoryT l 0) row ≡ true
     limits =
-        rw (le-leb (g .access) mostAccess access, le-leb 1 v (variant .0), le-leb 1 (g .length) size, le-leb (g .start + g .length) (rowAt memoryT l 0) inside, le-leb (g .virt + g .length) mostAddress space)
+        rw (le-leb (g .access) mostAccess access, le-leb 1 v (variant .0), le-leb 1 (g .length) size)
+        (rw (le-leb (g .start + g .length) (rowAt memoryT l 0) inside, le-leb (g .virt + g .length) mostAddress space))
 
     abbrev m : List ℕ
     m = putRow mrT l n row

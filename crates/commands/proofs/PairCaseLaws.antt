@@ -35,7 +35,9 @@ module _ (l : List ℕ) where
         ≡ cond (createFine r) (cond (createLive (card l) r) (refusal (8 if leb qpCount (freeQpn (card l)) ∷ [])) (some 2)) (some 4)
     unfolding commandChecks
     create-tests =
-        rw (over 1 (r .signal)) (five (eqb (r .kind) 2) (leb (r .signal) 1) (card l .pd (r .pd)) (cqLive (card l) (r .scq)) (cqLive (card l) (r .rcq)) (8 if leb qpCount (freeQpn (card l)) ∷ []))
+        rw (over 1 (r .signal))
+        (five (eqb (r .kind) 2) (leb (r .signal) 1) (card l .pd (r .pd)) (cqLive (card l) (r .scq)) (cqLive (card l) (r .rcq))
+        (8 if leb qpCount (freeQpn (card l)) ∷ []))
       where
         five : (k s p x y : Bool) (cs : List Check) → refusal (4 if not k ∷ 4 if not s ∷ 2 if not p ∷ 2 if not x ∷ 2 if not y ∷ cs)
             ≡ cond (k && s) (cond (p && x && y) (refusal cs) (some 2)) (some 4)

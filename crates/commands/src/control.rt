@@ -37,7 +37,6 @@ ghost use lib.Dec.{leb};
 ghost use lib.ListN.{length};
 ghost use Rattle.wire.specs.Checks.{only};
 ghost use Rattle.wire.specs.Le.{leAt};
-ghost use Rattle.validate.specs.Accept.{accepts};
 ghost use Rattle.validate.specs.Search.{freeCqn, freeMrn};
 ghost use Rattle.tables.specs.State.{card};
 ghost use Rattle.tables.specs.Layout.{stateSize};
@@ -98,7 +97,7 @@ fn put_queue(state: &mut [u8], n: usize, places: u8)
 }
 
 fn create_cq(state: &mut [u8], read: NumberRead) -> Outcome
-    requires { ⌜ (accepts (now state) ≡ true) × (length (now state) ≡ stateSize) ⌝ }
+    requires { ⌜ length (now state) ≡ stateSize ⌝ }
     ensures { λ r. ⌜ Ran (now (state .entry)) (numbered Command.createCq read) r (now (state .exit)) ⌝ }
 {
     let NumberRead::Value(places) = read else {
@@ -118,7 +117,7 @@ fn create_cq(state: &mut [u8], read: NumberRead) -> Outcome
 // ---- domains
 
 fn create_pd(state: &mut [u8], command: &[u8]) -> Outcome
-    requires { ⌜ (accepts (now state) ≡ true) × (length (now state) ≡ stateSize) ⌝ }
+    requires { ⌜ length (now state) ≡ stateSize ⌝ }
     ensures { λ r. ⌜ Ran (now (state .entry)) (bare Command.createPd (now (command .entry))) r (now (state .exit)) ⌝ }
 {
     if command.len() != HEAD_SIZE {
@@ -172,7 +171,8 @@ fn key_of(n: usize, variant: u8) -> u32
 
 // The free slot n holds the region under the slot's next variant, which is returned.
 fn put_region(state: &mut [u8], n: usize, g: Registration) -> u8
-    requires { ⌜ (n < mrCount) × (length (now state) ≡ stateSize) × (n ≡ freeMrn (card (now state))) × (only mostAccess (g .access) ≡ true) × (card (now state) .pd (g .pd) ≡ true) ⌝ }
+    requires { ⌜ (n < mrCount) × (length (now state) ≡ stateSize) × (n ≡ freeMrn (card (now state)))
+        × (only mostAccess (g .access) ≡ true) × (card (now state) .pd (g .pd) ≡ true) ⌝ }
     ensures { λ r. ⌜ (r ≡ newVariant (card (now (state .entry)))) × (now (state .exit) ≡ commandBytes (now (state .entry)) (Command.register g)) ⌝ }
 {
     let variant = next_variant(rows::load_mr(state, n).variant);
@@ -190,7 +190,7 @@ fn put_region(state: &mut [u8], n: usize, g: Registration) -> u8
 }
 
 fn register(state: &mut [u8], read: RegisterRead) -> Outcome
-    requires { ⌜ (accepts (now state) ≡ true) × (length (now state) ≡ stateSize) ⌝ }
+    requires { ⌜ length (now state) ≡ stateSize ⌝ }
     ensures { λ r. ⌜ Ran (now (state .entry)) (registering read) r (now (state .exit)) ⌝ }
 {
     let RegisterRead::Value(g) = read else {
@@ -217,7 +217,7 @@ fn register(state: &mut [u8], read: RegisterRead) -> Outcome
 
 // The command number chooses the reader and the rules.
 fn run(state: &mut [u8], command: &[u8], number: u8) -> Outcome
-    requires { ⌜ (accepts (now state) ≡ true) × (length (now state) ≡ stateSize) × (number ≡ leAt 1 (now command) 1) ⌝ }
+    requires { ⌜ (length (now state) ≡ stateSize) × (number ≡ leAt 1 (now command) 1) ⌝ }
     ensures { λ r. ⌜ Chosen (now (state .entry)) (now (command .entry)) r (now (state .exit)) ⌝ }
 {
     match number {
@@ -235,7 +235,7 @@ fn run(state: &mut [u8], command: &[u8], number: u8) -> Outcome
 }
 
 fn dispatch(state: &mut [u8], command: &[u8]) -> Outcome
-    requires { ⌜ (accepts (now state) ≡ true) × (length (now state) ≡ stateSize) ⌝ }
+    requires { ⌜ length (now state) ≡ stateSize ⌝ }
     ensures { λ r. ⌜ Classed (now (state .entry)) (now (command .entry)) r (now (state .exit)) ⌝ }
 {
     match records::read_head(command) {

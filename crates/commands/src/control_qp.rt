@@ -25,7 +25,6 @@ ghost use mathlib.Core.Path.{_≡_};
 ghost use mathlib.Core.Bool.{true, false};
 ghost use Prim.Native.Nat.{_<_};
 ghost use lib.ListN.{length};
-ghost use Rattle.validate.specs.Accept.{accepts};
 ghost use Rattle.validate.specs.Search.{freeQpn};
 ghost use Rattle.tables.specs.State.{card};
 ghost use Rattle.tables.specs.Layout.{stateSize};
@@ -87,7 +86,7 @@ fn put_pair(state: &mut [u8], n: usize, r: CreateQp)
 }
 
 pub fn create_qp(state: &mut [u8], read: CreateQpRead) -> Outcome
-    requires { ⌜ (accepts (now state) ≡ true) × (length (now state) ≡ stateSize) ⌝ }
+    requires { ⌜ length (now state) ≡ stateSize ⌝ }
     ensures { λ r. ⌜ Ran (now (state .entry)) (creating read) r (now (state .exit)) ⌝ }
 {
     let CreateQpRead::Value(r) = read else {
@@ -168,7 +167,7 @@ fn move_pair(state: &mut [u8], r: ModifyQp)
 }
 
 pub fn modify_qp(state: &mut [u8], read: ModifyQpRead) -> Outcome
-    requires { ⌜ (accepts (now state) ≡ true) × (length (now state) ≡ stateSize) ⌝ }
+    requires { ⌜ length (now state) ≡ stateSize ⌝ }
     ensures { λ r. ⌜ Ran (now (state .entry)) (modifying read) r (now (state .exit)) ⌝ }
 {
     let ModifyQpRead::Value(r) = read else {

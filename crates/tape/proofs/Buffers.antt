@@ -1,8 +1,8 @@
 -- "lends buffers that never give 12": no call of a tape is answered 12, on any state. Assumes nothing.
 use mathlib.Core.Path.{_≡_, refl, sym}
 use mathlib.Core.Bool.{Bool, true, false, cond, not, true≢false}
-use mathlib.Core.List.{List, _∷_, _++_}
-use mathlib.Core.Option.{some}
+use mathlib.Core.List.{List, [], _∷_, _++_}
+use mathlib.Core.Option.{Option, some}
 use Prim.Native.Nat.{ℕ}
 use lib.Dec.{eqb}
 use lib.ListN.{drop}
@@ -13,11 +13,12 @@ use Rattle.validate.specs.Accept.{accepts}
 use Rattle.tables.specs.Card.{Card}
 use Rattle.tables.specs.State.{card}
 use Rattle.tables.specs.Commands.{Command, ackLeast, commandOf}
-use Rattle.tables.specs.Records.{sendChecks, receiveChecks}
+use Rattle.tables.specs.Records.{sendChecks, receiveChecks, completionCodec}
 use Rattle.tables.specs.Reset.{zeros}
 use Rattle.rules.specs.Call.{Call}
 use Rattle.rules.specs.Calls.{checks, controlChecks, bufferChecks, owedChecks}
 use Rattle.rules.specs.Control.{commandChecks}
+use Rattle.rules.specs.Lists.{maybe}
 use Rattle.rules.specs.Queues.{joinChecks, flushChecks, pollChecks}
 use Rattle.rules.specs.Send.{deliveryChecks}
 use Rattle.rules.proofs.Answers.{first-with, command-tests}
@@ -30,7 +31,7 @@ other n = not (eqb n 12)
 abbrev spare : Check → Bool
 spare t = other (t .no)
 
-command-spare : (c : Card) (k : Command) → all spare (commandChecks c k) ≡ true
+command-spare : (c : Card) (o : Option Command) → all spare (maybe [] (commandChecks c) o) ≡ true
 command-spare = command-tests other refl refl refl refl refl refl
 
 without : (cs : List Check) → all spare cs ≡ true → refusal cs ≡ some 12 → ⊥
@@ -47,8 +48,8 @@ module _ (l : List ℕ) where
   control-never : (b : List ℕ) → Never l (Call.control b (zeros ackLeast))
   unfolding all checks controlChecks
   control-never b e =
-      without (unusable ∷ (drop 1 (controlChecks b (zeros ackLeast)) ++ commandChecks (card l) (commandOf b)))
-      (rw (all-split spare (drop 1 (controlChecks b (zeros ackLeast))) (commandChecks (card l) (commandOf b)), command-spare (card l) (commandOf b)))
+      without (unusable ∷ (drop 1 (controlChecks b (zeros ackLeast)) ++ maybe [] (commandChecks (card l)) (commandOf b)))
+      (rw (all-split spare (drop 1 (controlChecks b (zeros ackLeast))) (maybe [] (commandChecks (card l)) (commandOf b)), command-spare (card l) (commandOf b)))
       e
 
   send-never : (q : ℕ) (x m : List ℕ) → Never l (Call.send q x m)
@@ -64,7 +65,7 @@ module _ (l : List ℕ) where
   flush-never q e = without (owedChecks card accepts l (Call.flush q)) refl e
 
   poll-never : (n : ℕ) → Never l (Call.poll n (zeros completionSize))
-  unfolding all checks bufferChecks pollChecks within clear apart
+  unfolding all checks bufferChecks pollChecks within clear apart completionCodec
   poll-never n e = without (unusable ∷ pollChecks (card l) n) refl e
 
   either : (b : Bool) (x y : Call) → Never l x → Never l y → Never l (cond b x y)

@@ -15,6 +15,7 @@ use Rattle.rules.specs.Answer.{number, status, isDone}
 use Rattle.rules.specs.Call.{Call}
 use Rattle.rules.specs.Calls.{Result, owed}
 use Rattle.rules.specs.Control.{commandAck}
+use Rattle.rules.specs.Lists.{maybe}
 use Rattle.rules.specs.declared.Answer.{Answer}
 use Rattle.rules.specs.declared.Answer.the-variants.{Done, Held, Refused}
 use Rattle.rules.specs.Contract.{bytesAfter}
@@ -71,7 +72,7 @@ memoryLeft l m (Call.poll n b) = m
 
 -- a control command writes its ack byte and numbers of 32 bits; one that is refused the ack byte, and none with 12 and 15
 abbrev pub ackWritten : Answer → Card → List ℕ → ℕ
-ackWritten (Done s) c k = 1 + 4 * length (commandAck c (commandOf k))
+ackWritten (Done s) c k = 1 + 4 * length (maybe [] (commandAck c) (commandOf k))
 ackWritten (Held x) c k = 1
 ackWritten (Refused n) c k = cond (eqb n 12 || eqb n 15) 0 1
 

@@ -2,6 +2,7 @@
 use mathlib.Core.Path.{_≡_, refl, sym, ap, _∙_}
 use mathlib.Core.Bool.{Bool, true, false, cond, _&&_, _||_}
 use mathlib.Core.List.{List, [], _∷_, _++_}
+use mathlib.Core.Option.{Option, none, some}
 use Prim.Native.Nat.{ℕ, zero, suc, _+_, min, _≤_, _<_}
 use native.Mathlib.Decide.{decLt}
 use native.Mathlib.Omega.{arith}
@@ -20,6 +21,7 @@ use Rattle.rules.specs.Answer.{isDone}
 use Rattle.rules.specs.Call.{Call}
 use Rattle.rules.specs.Calls.{Result, owed}
 use Rattle.rules.specs.Control.{commandAck}
+use Rattle.rules.specs.Lists.{maybe}
 use Rattle.rules.specs.declared.Answer.{Answer}
 use Rattle.rules.specs.declared.Answer.the-variants.{Done, Held, Refused}
 use Rattle.rules.specs.Contract.{bytesAfter}
@@ -73,12 +75,16 @@ numbers-most c (Command.createQp r) = omega arith
 numbers-most c (Command.modifyQp r) = omega arith
 numbers-most c (Command.destroyQp q) = omega arith
 
+some-most : (c : Card) (o : Option Command) → length (maybe [] (commandAck c) o) ≤ 3
+some-most c none = omega arith
+some-most c (some q) = numbers-most c q
+
 picked-most : (b : Bool) {x y most : ℕ} → x ≤ most → y ≤ most → cond b x y ≤ most
 picked-most true p q = p
 picked-most false p q = q
 
 ack-most : (r : Answer) (c : Card) (k : List ℕ) → ackWritten r c k ≤ 24
-ack-most (Done s) c k = let h = numbers-most c (commandOf k) in omega arith
+ack-most (Done s) c k = let h = some-most c (commandOf k) in omega arith
 ack-most (Held x) c k = omega arith
 ack-most (Refused n) c k = picked-most (eqb n 12 || eqb n 15) (omega arith) (omega arith)
 

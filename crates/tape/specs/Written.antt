@@ -13,6 +13,7 @@ use borrow.Author.Tests.{ltb-false, ne-eqb, eq-eqb}
 use types.Run.{OneOf}
 use Rattle.wire.specs.Checks.{Check, refusal}
 use Rattle.wire.proofs.CheckLaws.{passed}
+use Rattle.wire.specs.Codec.{decode}
 use Rattle.wire.specs.Le.{leAt}
 use Rattle.validate.specs.Accept.{accepts}
 use Rattle.tables.specs.Card.{Card}
@@ -27,6 +28,7 @@ use Rattle.rules.specs.Answer.{answered, isDone}
 use Rattle.rules.specs.Call.{Call}
 use Rattle.rules.specs.Calls.{checks, resetChecks, controlChecks, owedChecks, settled}
 use Rattle.rules.specs.Control.{commandAck, commandChecks}
+use Rattle.rules.specs.Lists.{maybe}
 use Rattle.rules.specs.declared.Answer.{Answer}
 use Rattle.rules.proofs.Answers.{answered-not-done}
 use Rattle.rules.proofs.Tests.{passed-before}
@@ -54,65 +56,63 @@ module _ (r : Answer) (b : List ℕ) (n : ℕ) (within : n ≤ length b) where
 
 -- ---- the size of an ack
 
-picked : (c : Card) (n : ℕ) (g : Registration) (p : CreateQp) (t : ModifyQp) (b2 b3 b5 b7 b8 b9 b10 b12 : Bool) →
-    (cond b2 5 (cond b3 1 (cond b5 1 (cond b7 13 (cond b8 1 (cond b9 5 (cond b10 1 (cond b12 1 5)))))))) ≡
-    1 + 4 * length (commandAck c (cond b2 (Command.createCq n) (cond b3 (Command.destroyCq n) (cond b5 (Command.destroyPd n) (cond b7 (Command.register g) (cond b8 (Command.deregister n) (cond b9 (Command.createQp p) (cond b10 (Command.modifyQp t) (cond b12 (Command.destroyQp n) Command.createPd)))))))))
+abbrev numbers : Card → Option Command → List ℕ
+numbers c o = maybe [] (commandAck c) o
+
+picked : (c : Card) (n : ℕ) (g : Registration) (p : CreateQp) (t : ModifyQp) (b2 b3 b4 b5 b7 b8 b9 b10 b12 : Bool) →
+    (cond b2 5 (cond b3 1 (cond b4 5 (cond b5 1 (cond b7 13 (cond b8 1 (cond b9 5 1))))))) ≡
+    1 + 4 * length (numbers c
+    (cond b2 (some (Command.createCq n)) (cond b3 (some (Command.destroyCq n)) (cond b4 (some Command.createPd) (cond b5 (some (Command.destroyPd n))
+    (cond b7 (some (Command.register g)) (cond b8 (some (Command.deregister n)) (cond b9 (some (Command.createQp p))
+    (cond b10 (some (Command.modifyQp t)) (cond b12 (some (Command.destroyQp n)) none))))))))))
 unfolding commandAck
-picked c n g p t true b3 b5 b7 b8 b9 b10 b12 = refl
-picked c n g p t false true b5 b7 b8 b9 b10 b12 = refl
-picked c n g p t false false true b7 b8 b9 b10 b12 = refl
-picked c n g p t false false false true b8 b9 b10 b12 = refl
-picked c n g p t false false false false true b9 b10 b12 = refl
-picked c n g p t false false false false false true b10 b12 = refl
-picked c n g p t false false false false false false true b12 = refl
-picked c n g p t false false false false false false false true = refl
-picked c n g p t false false false false false false false false = refl
+picked c n g p t true b3 b4 b5 b7 b8 b9 b10 b12 = refl
+picked c n g p t false true b4 b5 b7 b8 b9 b10 b12 = refl
+picked c n g p t false false true b5 b7 b8 b9 b10 b12 = refl
+picked c n g p t false false false true b7 b8 b9 b10 b12 = refl
+picked c n g p t false false false false true b8 b9 b10 b12 = refl
+picked c n g p t false false false false false true b9 b10 b12 = refl
+picked c n g p t false false false false false false true b10 b12 = refl
+picked c n g p t false false false false false false false true b12 = refl
+picked c n g p t false false false false false false false false true = refl
+picked c n g p t false false false false false false false false false = refl
 
 -- each command's ack, by the command byte
 abbrev pub ackSize : ℕ → ℕ
 ackSize n =
-    cond (eqb n 2) 5
-    (cond (eqb n 3) 1 (cond (eqb n 5) 1 (cond (eqb n 7) 13 (cond (eqb n 8) 1 (cond (eqb n 9) 5 (cond (eqb n 10) 1 (cond (eqb n 12) 1 5)))))))
+    cond (eqb n 2) 5 (cond (eqb n 3) 1 (cond (eqb n 4) 5 (cond (eqb n 5) 1 (cond (eqb n 7) 13 (cond (eqb n 8) 1 (cond (eqb n 9) 5 1))))))
 
-pub ack-size : (c : Card) (k : List ℕ) → ackSize (leAt 1 k 1) ≡ 1 + 4 * length (commandAck c (commandOf k))
+pub ack-size : (c : Card) (k : List ℕ) → ackSize (leAt 1 k 1) ≡ 1 + 4 * length (numbers c (commandOf k))
 unfolding commandOf
 ack-size c k =
     let n = leAt 1 k 1 in
     picked c (decode numberCodec k 2) (decode registerCodec k 2) (decode createQpCodec k 2) (decode modifyQpCodec k 2)
-    (eqb n 2) (eqb n 3) (eqb n 5) (eqb n 7) (eqb n 8) (eqb n 9) (eqb n 10) (eqb n 12)
+    (eqb n 2) (eqb n 3) (eqb n 4) (eqb n 5) (eqb n 7) (eqb n 8) (eqb n 9) (eqb n 10) (eqb n 12)
 
-same : (x y : Bool) → _≡_ {A = ℕ} 5 (cond x 5 (cond y 5 5))
-same true y = refl
-same false true = refl
-same false false = refl
+same : (x y z : Bool) → _≡_ {A = ℕ} 1 (cond x 1 (cond y 1 (cond z 1 1)))
+same true y z = refl
+same false true z = refl
+same false false true = refl
+same false false false = refl
 
 module _ (c : Card) (k : List ℕ) (n : ℕ) (byte : n ≡ leAt 1 k 1) where
-  sized : ackSize n ≡ 1 + 4 * length (commandAck c (commandOf k))
+  sized : ackSize n ≡ 1 + 4 * length (numbers c (commandOf k))
   sized = ap (λ (x : ℕ). ackSize x) byte ∙ ack-size c k
 
   -- a registration's number and keys
-  pub ack-keys : n ≡ 7 → 13 ≡ 1 + 4 * length (commandAck c (commandOf k))
+  pub ack-keys : n ≡ 7 → 13 ≡ 1 + 4 * length (numbers c (commandOf k))
   ack-keys e = rw e at sized
 
-  -- no number
-  pub ack-bare : OneOf (3 ∷ 5 ∷ 8 ∷ 10 ∷ 12 ∷ []) n → 1 ≡ 1 + 4 * length (commandAck c (commandOf k))
-  ack-bare h =
-      ⊎-elim (λ e. rw e at sized)
-      (⊎-elim (λ e. rw e at sized) (⊎-elim (λ e. rw e at sized) (⊎-elim (λ e. rw e at sized) (λ e. rw e at sized)))) h
-
   -- one number
-  pub ack-number : (n ≡ 7 → ⊥) → (OneOf (3 ∷ 5 ∷ 8 ∷ 10 ∷ 12 ∷ []) n → ⊥) → 5 ≡ 1 + 4 * length (commandAck c (commandOf k))
-  ack-number a b =
-      let e : 5 ≡ ackSize n =
-      rw (
-        ne-eqb n 3 (λ x. b (inl x)),
-        ne-eqb n 5 (λ x. b (inr (inl x))),
-        ne-eqb n 7 a,
-        ne-eqb n 8 (λ x. b (inr (inr (inl x)))),
-        ne-eqb n 10 (λ x. b (inr (inr (inr (inl x))))),
-        ne-eqb n 12 (λ x. b (inr (inr (inr (inr x))))),
-      )
-      (same (eqb n 2) (eqb n 9)) in
+  pub ack-number : OneOf (2 ∷ 4 ∷ 9 ∷ []) n → 5 ≡ 1 + 4 * length (numbers c (commandOf k))
+  ack-number h = ⊎-elim (λ e. rw e at sized) (⊎-elim (λ e. rw e at sized) (λ e. rw e at sized)) h
+
+  -- no number
+  pub ack-bare : (n ≡ 7 → ⊥) → (OneOf (2 ∷ 4 ∷ 9 ∷ []) n → ⊥) → 1 ≡ 1 + 4 * length (numbers c (commandOf k))
+  ack-bare a b =
+      let e : 1 ≡ ackSize n =
+      rw (ne-eqb n 2 (λ x. b (inl x)), ne-eqb n 4 (λ x. b (inr (inl x))), ne-eqb n 7 a, ne-eqb n 9 (λ x. b (inr (inr x))))
+      (same (eqb n 3) (eqb n 5) (eqb n 8)) in
       e ∙ sized
 
 -- a command answered 0 has its class and command bytes
@@ -127,7 +127,7 @@ done-two {l} {k} {a} {r} o d = by (refusal cs) refl
     cs = owedChecks card accepts l call
 
     by : (x : Option ℕ) → refusal cs ≡ x → 2 ≤ length k
-    by none e = ltb-false (length k) 2 (passed-before (controlChecks k a) (commandChecks (card l) (commandOf k)) (passed cs e .1) .1 .0)
+    by none e = ltb-false (length k) 2 (passed-before (controlChecks k a) (maybe [] (commandChecks (card l)) (commandOf k)) (passed cs e .1) .1 .0)
     by (some n) e = absurd (true≢false (sym d ∙ ap isDone (o .meets .answer) ∙ ap (λ (x : Option ℕ). isDone (settled x (card l) call .answer)) e ∙ answered-not-done n))
 
 -- ---- from what a call owes to its answer record

@@ -12,6 +12,7 @@ ghost use Rattle.tables.specs.Reset.{zeros, resetBytes};
 ghost use Rattle.rules.specs.Answer.{isDone};
 ghost use Rattle.rules.specs.Call.{Call};
 ghost use Rattle.rules.specs.Control.{commandAck};
+ghost use Rattle.rules.specs.Lists.{maybe};
 ghost use Rattle.tape.specs.Tape.{isMark, isKind, isLength, headerOf, ackWritten, answerHead, answerRecord, placed, badRecord, completionSize, callOf, memoryLeft, Answers, tapeMemory};
 
 const HEADER: usize = 6;
@@ -101,13 +102,13 @@ fn put_answer(out: &mut [u8], answer: Answer, bytes: &[u8], n: usize) -> usize
 // How many ack bytes a command writes that is answered 0.
 fn ack_size(command: &[u8]) -> usize
     requires { ⌜ 2 ≤ length (now command) ⌝ }
-    ensures { λ r. ⌜ ((c : Card) → r ≡ 1 + 4 * length (commandAck c (commandOf (now (command .entry))))) ⌝ }
+    ensures { λ r. ⌜ ((c : Card) → r ≡ 1 + 4 * length (maybe [] (commandAck c) (commandOf (now (command .entry))))) ⌝ }
     ensures { λ r. ⌜ r ≤ 13 ⌝ }
 {
     match wire::get8(command, 1) {
         7 => 13,
-        3 | 5 | 8 | 10 | 12 => 1,
-        _ => 5,
+        2 | 4 | 9 => 5,
+        _ => 1,
     }
 }
 

@@ -4,12 +4,14 @@
 //!        header state [SEED [CALLS]]      every peek against the reference, along lists of calls
 //!        header states FILE               the same on the states that a file holds
 //!        header numbers                   every number against the specification
+//!        header page                      the tables of docs/STATE.md against the specification
 //!        header names                     what numbers.txt can name
 //!
 //! A difference is told, and the exit status is not 0.
 
 mod c;
 mod numbers;
+mod page;
 mod records;
 mod specs;
 mod state;
@@ -27,9 +29,10 @@ fn main() -> ExitCode {
         (Some("records"), Ok(seed), Ok(values)) => compare_records(seed, values),
         (Some("state"), Ok(seed), Ok(calls)) => compare_states(seed, calls),
         (Some("numbers"), ..) => return compare_numbers(&root),
+        (Some("page"), ..) => return compare_page(&root),
         (Some("names"), ..) => return show_names(&root),
         _ => {
-            eprintln!("usage: header records [SEED [VALUES]] | state [SEED [CALLS]] | states FILE | numbers | names");
+            eprintln!("usage: header records [SEED [VALUES]] | state [SEED [CALLS]] | states FILE | numbers | page | names");
             return ExitCode::from(2);
         }
     }
@@ -84,6 +87,17 @@ fn compare_numbers(root: &Path) -> ExitCode {
             ExitCode::FAILURE
         }
     }
+}
+
+fn compare_page(root: &Path) -> ExitCode {
+    match page::compare(root) {
+        Ok(count) => println!("docs/STATE.md has the {count} tables of the specification"),
+        Err(difference) => {
+            println!("docs/STATE.md: {difference}");
+            return ExitCode::FAILURE;
+        }
+    }
+    ExitCode::SUCCESS
 }
 
 fn show_names(root: &Path) -> ExitCode {

@@ -12,10 +12,10 @@ returns : tie.Need-returns
 returns c = (λ d. ack-keys d (now (c .before .before .before .args .command)) (c .before .get8 .result) (c .before .get8 .ensures) (c .match .keys1), omega arith)
 
 returns-2 : tie.Need-returns-2
-returns-2 c = (λ d. ack-bare d (now (c .before .before .before .args .command)) (c .before .get8 .result) (c .before .get8 .ensures) (c .match .keys2), omega arith)
+returns-2 c = (λ d. ack-number d (now (c .before .before .before .args .command)) (c .before .get8 .result) (c .before .get8 .ensures) (c .match .keys2), omega arith)
 
 returns-3 : tie.Need-returns-3
-returns-3 c = (λ d. ack-number d (now (c .before .before .before .args .command)) (c .before .get8 .result) (c .before .get8 .ensures) (c .match .rest .0 .1) (c .match .rest .1), omega arith)
+returns-3 c = (λ d. ack-bare d (now (c .before .before .before .args .command)) (c .before .get8 .result) (c .before .get8 .ensures) (c .match .rest .0 .1) (c .match .rest .1), omega arith)
 
 pub ack-size-spec : {M : Type 1} → statement M
 ack-size-spec = tie.close (tie.spec get8-requires returns returns-2 returns-3)

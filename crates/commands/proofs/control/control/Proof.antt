@@ -1,8 +1,4 @@
-use denote.Ref.{now}
-use borrow.Author.Tests.{not-true, not-false}
-use mathlib.Core.Path.{_≡_, sym, _∙_}
-use mathlib.Core.Bool.{true}
-use Rattle.validate.specs.Accept.{accepts}
+use Rattle.commands.proofs.CaseLaws.{passes, fails}
 use Rattle.validate.proofs.AcceptedLaws.{accepted}
 use Rattle.commands.proofs.CallLaws.{control-state, control-short, control-done}
 use borrow.Author.Needs.{needs}
@@ -16,19 +12,18 @@ same-length : tie.Need-same-length
 same-length c = search needs
 
 returns : tie.Need-returns
-returns c = control-state _ _ _ (sym (c .before .accepted .ensures) ∙ not-true _ (c .if1 .taken))
+returns c = control-state _ _ _ (fails (c .before .accepted .ensures) (c .if1 .taken))
 
 same-length-2 : tie.Need-same-length-2
 same-length-2 c = search needs
 
 returns-2 : tie.Need-returns-2
-returns-2 c = control-short _ _ _ (sym (c .before .before .accepted .ensures) ∙ not-false _ (c .before .if1 .left)) (c .if2 .taken)
+returns-2 c = let good = c .before in control-short _ _ _ (passes (good .before .accepted .ensures) (good .if1 .left)) (c .if2 .taken)
 
 dispatch-requires : tie.Need-dispatch-requires
 dispatch-requires c κs =
     let good = c .before .before in
-    let e : accepts (now (good .before .before .before .before .before .before .args .state)) ≡ true = sym (good .before .accepted .ensures) ∙ not-false _ (good .if1 .left) in
-    (e, accepted _ e .sized)
+    accepted _ (passes (good .before .accepted .ensures) (good .if1 .left)) .sized
 
 ack-of-requires : tie.Need-ack-of-requires
 ack-of-requires c κs = search needs
@@ -50,7 +45,7 @@ returns-3 c =
     let done = c .before .before .before .before .before .before .before .before in
     let room = done .before .before in
     let good = room .before in
-    control-done _ _ _ (sym (good .before .accepted .ensures) ∙ not-false _ (good .if1 .left)) (room .if2 .left) (done .dispatch .result) _
+    control-done _ _ _ (passes (good .before .accepted .ensures) (good .if1 .left)) (room .if2 .left) (done .dispatch .result) _
     (done .dispatch .ensures) _ (c .before .before .before .before .ack-of .ensures) _ (c .answer-of .ensures) _ (c .before .before .before .write-ack .ensures)
 
 pub control-spec : {M : Type 1} → statement M

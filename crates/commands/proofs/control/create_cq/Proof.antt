@@ -1,7 +1,5 @@
 use native.Mathlib.Omega.{arith}
-use borrow.Author.Tests.{not-true, not-false}
-use mathlib.Core.Path.{sym, _∙_}
-use Rattle.commands.proofs.CaseLaws.{ran-wrong, create-cq-fields, places-small, create-cq-full, create-cq-done}
+use Rattle.commands.proofs.CaseLaws.{ran-wrong, create-cq-fields, places-small, create-cq-full, create-cq-done, passes, fails}
 use borrow.Author.Needs.{needs}
 use Rattle.commands.proofs.control.create_cq.Statement.{statement}
 use Rattle.commands.proofs.control.create_cq.Tie as tie
@@ -19,9 +17,7 @@ places-fine-requires : tie.Need-places-fine-requires
 places-fine-requires c κs = search needs
 
 returns-2 : tie.Need-returns-2
-returns-2 c =
-    rw (c .before .before .before .read .given .1)
-    (create-cq-fields _ _ (sym (c .before .places-fine .ensures) ∙ not-true _ (c .if1 .taken)))
+returns-2 c = rw (c .before .before .before .read .given .1) (create-cq-fields _ _ (fails (c .before .places-fine .ensures) (c .if1 .taken)))
 
 free-cqn-requires : tie.Need-free-cqn-requires
 free-cqn-requires c κs = search needs
@@ -33,12 +29,12 @@ returns-3 : tie.Need-returns-3
 returns-3 c =
     let fine = c .before .before .before in
     rw (fine .before .before .before .read .given .1)
-    (create-cq-full _ _ (sym (fine .before .places-fine .ensures) ∙ not-false _ (fine .if1 .left)) (c .before .free-cqn .result) (c .before .free-cqn .ensures) (c .if2 .taken))
+    (create-cq-full _ _ (passes (fine .before .places-fine .ensures) (fine .if1 .left)) _ (c .before .free-cqn .ensures) (c .if2 .taken))
 
 cast-put-queue : tie.Need-cast-put-queue
 cast-put-queue c =
     let fine = c .before .before .before .before in
-    omega (arith, places-small (fine .before .before .before .read .given .0 .0) (sym (fine .before .places-fine .ensures) ∙ not-false _ (fine .if1 .left)))
+    omega (arith, places-small (fine .before .before .before .read .given .0 .0) (passes (fine .before .places-fine .ensures) (fine .if1 .left)))
 
 put-queue-requires : tie.Need-put-queue-requires
 put-queue-requires c κs = search needs
@@ -54,8 +50,8 @@ returns-4 c =
     let room = c .before .before .before .before in
     let fine = room .before .before .before in
     rw (fine .before .before .before .read .given .1)
-    (create-cq-done _ _ (sym (fine .before .places-fine .ensures) ∙ not-false _ (fine .if1 .left)) (room .before .free-cqn .result) (room .before .free-cqn .ensures)
-    (room .if2 .left) _ (c .before .before .put-queue .ensures))
+    (create-cq-done _ _ (passes (fine .before .places-fine .ensures) (fine .if1 .left)) _ (room .before .free-cqn .ensures) (room .if2 .left) _
+    (c .before .before .put-queue .ensures))
 
 pub create-cq-spec : {M : Type 1} → statement M
 create-cq-spec =

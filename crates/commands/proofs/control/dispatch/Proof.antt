@@ -20,7 +20,7 @@ run-requires c κs =
     let head = c .before .before .before .before in
     let s = head .before .before .before in
     let k = now (s .args .command) in
-    (s .pre .0, s .pre .1, sym (head-number (refusal (headChecks k)) (leAt 1 k 1) _ (sym (head .read-head .ensures) ∙ c .before .before .n .given .1) .1))
+    (s .pre, sym (head-number (refusal (headChecks k)) (leAt 1 k 1) _ (sym (head .read-head .ensures) ∙ c .before .before .n .given .1) .1))
 
 enum-known-n-2 : tie.Need-enum-known-n-2
 enum-known-n-2 c = search needs
@@ -30,9 +30,10 @@ same-length c = search needs
 
 returns : tie.Need-returns
 returns c =
-    let head = c .before .before .before .before .before .before .before in
+    let read = c .before .before .before .before .before in
+    let head = read .before .before in
     let k = now (head .before .before .before .args .command) in
-    dispatch-passed _ k (head-number (refusal (headChecks k)) (leAt 1 k 1) _ (sym (head .read-head .ensures) ∙ c .before .before .before .before .before .n .given .1) .0) _ _
+    dispatch-passed _ k (head-number (refusal (headChecks k)) (leAt 1 k 1) _ (sym (head .read-head .ensures) ∙ read .n .given .1) .0) _ _
     (c .before .before .run .ensures)
 
 returns-2 : tie.Need-returns-2

@@ -14,7 +14,9 @@ same-length c = search needs
 
 returns : tie.Need-returns
 unfolding commandBytes
-returns c = rw (c .before .before .store-cq-flag .ensures, c .before .before .before .before .before .before .store-cq .ensures, c .before .before .before .before .before .before .before .before .before .pre .2)
+returns c =
+    let row = c .before .before .before .before .before .before in
+    rw (c .before .before .store-cq-flag .ensures, row .store-cq .ensures, row .before .before .before .pre .2)
 
 pub put-queue-spec : {M : Type 1} → statement M
 put-queue-spec = tie.close (tie.spec store-cq-requires store-cq-flag-requires same-length returns)

@@ -1,6 +1,4 @@
-use borrow.Author.Tests.{not-true, not-false}
-use mathlib.Core.Path.{sym, _∙_}
-use Rattle.commands.proofs.CaseLaws.{ran-wrong, register-access, register-dead, register-range, register-full, register-done}
+use Rattle.commands.proofs.CaseLaws.{ran-wrong, register-access, register-dead, register-range, register-full, register-done, passes, fails}
 use borrow.Author.Needs.{needs}
 use Rattle.commands.proofs.control.register.Statement.{statement}
 use Rattle.commands.proofs.control.register.Tie as tie
@@ -18,9 +16,7 @@ known-access-requires : tie.Need-known-access-requires
 known-access-requires c κs = search needs
 
 returns-2 : tie.Need-returns-2
-returns-2 c =
-    rw (c .before .before .before .read .given .1)
-    (register-access _ _ (sym (c .before .known-access .ensures) ∙ not-true _ (c .if1 .taken)))
+returns-2 c = rw (c .before .before .before .read .given .1) (register-access _ _ (fails (c .before .known-access .ensures) (c .if1 .taken)))
 
 pd-live-requires : tie.Need-pd-live-requires
 pd-live-requires c κs = search needs
@@ -32,7 +28,7 @@ returns-3 : tie.Need-returns-3
 returns-3 c =
     let known = c .before .before .before in
     rw (known .before .before .before .read .given .1)
-    (register-dead _ _ (sym (known .before .known-access .ensures) ∙ not-false _ (known .if1 .left)) (sym (c .before .pd-live .ensures) ∙ not-true _ (c .if2 .taken)))
+    (register-dead _ _ (passes (known .before .known-access .ensures) (known .if1 .left)) (fails (c .before .pd-live .ensures) (c .if2 .taken)))
 
 load-memory-requires : tie.Need-load-memory-requires
 load-memory-requires c κs = search needs
@@ -48,8 +44,8 @@ returns-4 c =
     let live = c .before .before .before .before in
     let known = live .before .before .before in
     rw (known .before .before .before .read .given .1)
-    (register-range _ _ (sym (known .before .known-access .ensures) ∙ not-false _ (known .if1 .left)) (sym (live .before .pd-live .ensures) ∙ not-false _ (live .if2 .left))
-    (rw (← (c .before .before .load-memory .ensures)) (sym (c .before .in-range .ensures) ∙ not-true _ (c .if3 .taken))))
+    (register-range _ _ (passes (known .before .known-access .ensures) (known .if1 .left)) (passes (live .before .pd-live .ensures) (live .if2 .left))
+    (rw (← (c .before .before .load-memory .ensures)) (fails (c .before .in-range .ensures) (c .if3 .taken))))
 
 free-mrn-requires : tie.Need-free-mrn-requires
 free-mrn-requires c κs = search needs
@@ -63,15 +59,16 @@ returns-5 c =
     let live = range .before .before .before .before in
     let known = live .before .before .before in
     rw (known .before .before .before .read .given .1)
-    (register-full _ _ (sym (known .before .known-access .ensures) ∙ not-false _ (known .if1 .left)) (sym (live .before .pd-live .ensures) ∙ not-false _ (live .if2 .left))
-    (rw (← (range .before .before .load-memory .ensures)) (sym (range .before .in-range .ensures) ∙ not-false _ (range .if3 .left))) (c .before .free-mrn .result) (c .before .free-mrn .ensures) (c .if4 .taken))
+    (register-full _ _ (passes (known .before .known-access .ensures) (known .if1 .left)) (passes (live .before .pd-live .ensures) (live .if2 .left))
+    (rw (← (range .before .before .load-memory .ensures)) (passes (range .before .in-range .ensures) (range .if3 .left))) _ (c .before .free-mrn .ensures) (c .if4 .taken))
 
 put-region-requires : tie.Need-put-region-requires
 put-region-requires c κs =
     let room = c .before in
     let live = room .before .before .before .before .before .before .before in
     let known = live .before .before .before in
-    (room .if4 .left, known .before .before .before .before .before .before .pre .1, room .before .free-mrn .ensures, sym (known .before .known-access .ensures) ∙ not-false _ (known .if1 .left), sym (live .before .pd-live .ensures) ∙ not-false _ (live .if2 .left))
+    let s = known .before .before .before .before .before .before in
+    (room .if4 .left, s .pre, room .before .free-mrn .ensures, passes (known .before .known-access .ensures) (known .if1 .left), passes (live .before .pd-live .ensures) (live .if2 .left))
 
 cast-t17 : tie.Need-cast-t17
 cast-t17 c = search needs
@@ -84,14 +81,15 @@ same-length-4 c = search needs
 
 returns-6 : tie.Need-returns-6
 returns-6 c =
-    let room = c .before .before .before .before .before in
+    let put = c .before .before .before in
+    let room = put .before .before in
     let range = room .before .before .before in
     let live = range .before .before .before .before in
     let known = live .before .before .before in
     rw (known .before .before .before .read .given .1)
-    (register-done _ _ (sym (known .before .known-access .ensures) ∙ not-false _ (known .if1 .left)) (sym (live .before .pd-live .ensures) ∙ not-false _ (live .if2 .left))
-    (rw (← (range .before .before .load-memory .ensures)) (sym (range .before .in-range .ensures) ∙ not-false _ (range .if3 .left))) (room .before .free-mrn .result) (room .before .free-mrn .ensures) (room .if4 .left)
-    (c .before .before .before .put-region .result) (c .before .before .before .put-region .ensures .0) _ (c .key-of .ensures) _ (c .before .before .before .put-region .ensures .1))
+    (register-done _ _ (passes (known .before .known-access .ensures) (known .if1 .left)) (passes (live .before .pd-live .ensures) (live .if2 .left))
+    (rw (← (range .before .before .load-memory .ensures)) (passes (range .before .in-range .ensures) (range .if3 .left))) _ (room .before .free-mrn .ensures) (room .if4 .left)
+    _ (put .put-region .ensures .0) _ (c .key-of .ensures) _ (put .put-region .ensures .1))
 
 pub register-spec : {M : Type 1} → statement M
 register-spec =

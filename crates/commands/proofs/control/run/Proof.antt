@@ -67,7 +67,7 @@ unfolding commandOf dataSize
 returns c =
     let at = c .before .before .before .before .before in
     let s = at .before .before .before in
-    let e : leAt 1 (now (s .args .command)) 1 ≡ 2 = sym (s .pre .2) ∙ at .match .keys1 in
+    let e : leAt 1 (now (s .args .command)) 1 ≡ 2 = sym (s .pre .1) ∙ at .match .keys1 in
     by-number _ _ _ _ Command.createCq (rw e) (λ n. refl) _ (c .before .before .before .read-number .ensures) (c .before .before .create-cq .ensures)
 
 same-length-2 : tie.Need-same-length-2
@@ -78,7 +78,7 @@ unfolding commandOf dataSize
 returns-2 c =
     let at = c .before .before .before .before .before in
     let s = at .before .before .before in
-    let e : leAt 1 (now (s .args .command)) 1 ≡ 3 = sym (s .pre .2) ∙ at .match .keys2 in
+    let e : leAt 1 (now (s .args .command)) 1 ≡ 3 = sym (s .pre .1) ∙ at .match .keys2 in
     by-number _ _ _ _ Command.destroyCq (rw e) (λ n. refl) _ (c .before .before .before .read-number2 .ensures) (c .before .before .destroy .ensures)
 
 same-length-3 : tie.Need-same-length-3
@@ -89,7 +89,7 @@ unfolding commandOf
 returns-3 c =
     let at = c .before .before .before .before in
     let s = at .before .before .before in
-    let e : leAt 1 (now (s .args .command)) 1 ≡ 4 = sym (s .pre .2) ∙ at .match .keys3 in
+    let e : leAt 1 (now (s .args .command)) 1 ≡ 4 = sym (s .pre .1) ∙ at .match .keys3 in
     by-nothing _ _ _ _ (rw e) (c .before .before .create-pd .ensures)
 
 same-length-4 : tie.Need-same-length-4
@@ -100,7 +100,7 @@ unfolding commandOf dataSize
 returns-4 c =
     let at = c .before .before .before .before .before in
     let s = at .before .before .before in
-    let e : leAt 1 (now (s .args .command)) 1 ≡ 5 = sym (s .pre .2) ∙ at .match .keys4 in
+    let e : leAt 1 (now (s .args .command)) 1 ≡ 5 = sym (s .pre .1) ∙ at .match .keys4 in
     by-number _ _ _ _ Command.destroyPd (rw e) (λ n. refl) _ (c .before .before .before .read-number3 .ensures) (c .before .before .destroy2 .ensures)
 
 same-length-5 : tie.Need-same-length-5
@@ -111,7 +111,7 @@ unfolding commandOf
 returns-5 c =
     let at = c .before .before .before .before .before in
     let s = at .before .before .before in
-    let e : leAt 1 (now (s .args .command)) 1 ≡ 7 = sym (s .pre .2) ∙ at .match .keys5 in
+    let e : leAt 1 (now (s .args .command)) 1 ≡ 7 = sym (s .pre .1) ∙ at .match .keys5 in
     by-registration _ _ _ _ (rw e) _ (c .before .before .before .read-register .ensures) (c .before .before .register .ensures)
 
 same-length-6 : tie.Need-same-length-6
@@ -122,7 +122,7 @@ unfolding commandOf dataSize
 returns-6 c =
     let at = c .before .before .before .before .before in
     let s = at .before .before .before in
-    let e : leAt 1 (now (s .args .command)) 1 ≡ 8 = sym (s .pre .2) ∙ at .match .keys6 in
+    let e : leAt 1 (now (s .args .command)) 1 ≡ 8 = sym (s .pre .1) ∙ at .match .keys6 in
     by-number _ _ _ _ Command.deregister (rw e) (λ n. refl) _ (c .before .before .before .read-number4 .ensures) (c .before .before .destroy3 .ensures)
 
 same-length-7 : tie.Need-same-length-7
@@ -133,7 +133,7 @@ unfolding commandOf
 returns-7 c =
     let at = c .before .before .before .before .before in
     let s = at .before .before .before in
-    let e : leAt 1 (now (s .args .command)) 1 ≡ 9 = sym (s .pre .2) ∙ at .match .keys7 in
+    let e : leAt 1 (now (s .args .command)) 1 ≡ 9 = sym (s .pre .1) ∙ at .match .keys7 in
     by-creation _ _ _ _ (rw e) _ (c .before .before .before .read-create-qp .ensures) (c .before .before .create-qp .ensures)
 
 same-length-8 : tie.Need-same-length-8
@@ -144,7 +144,7 @@ unfolding commandOf
 returns-8 c =
     let at = c .before .before .before .before .before in
     let s = at .before .before .before in
-    let e : leAt 1 (now (s .args .command)) 1 ≡ 10 = sym (s .pre .2) ∙ at .match .keys8 in
+    let e : leAt 1 (now (s .args .command)) 1 ≡ 10 = sym (s .pre .1) ∙ at .match .keys8 in
     by-move _ _ _ _ (rw e) _ (c .before .before .before .read-modify-qp .ensures) (c .before .before .modify-qp .ensures)
 
 same-length-9 : tie.Need-same-length-9
@@ -155,16 +155,17 @@ unfolding commandOf dataSize
 returns-9 c =
     let at = c .before .before .before .before .before in
     let s = at .before .before .before in
-    let e : leAt 1 (now (s .args .command)) 1 ≡ 12 = sym (s .pre .2) ∙ at .match .keys9 in
+    let e : leAt 1 (now (s .args .command)) 1 ≡ 12 = sym (s .pre .1) ∙ at .match .keys9 in
     by-number _ _ _ _ Command.destroyQp (rw e) (λ n. refl) _ (c .before .before .before .read-number5 .ensures) (c .before .before .destroy4 .ensures)
 
 returns-10 : tie.Need-returns-10
-returns-10 c = run-gap _ _ _ (c .before .before .before .pre .2) (c .match .keys10)
+returns-10 c = run-gap _ _ _ (c .before .before .before .pre .1) (c .match .keys10)
 
 returns-11 : tie.Need-returns-11
 returns-11 c =
     let r = c .match .rest in
-    run-unknown _ _ _ (c .before .before .before .pre .2) (r .0 .0 .0 .0 .0 .0 .0 .0 .0 .1) (r .0 .0 .0 .0 .0 .0 .0 .0 .1) (r .0 .0 .0 .0 .0 .0 .0 .1) (r .0 .0 .0 .0 .0 .0 .1)
+    run-unknown _ _ _ (c .before .before .before .pre .1)
+    (r .0 .0 .0 .0 .0 .0 .0 .0 .0 .1) (r .0 .0 .0 .0 .0 .0 .0 .0 .1) (r .0 .0 .0 .0 .0 .0 .0 .1) (r .0 .0 .0 .0 .0 .0 .1)
     (r .0 .0 .0 .0 .0 .1) (r .0 .0 .0 .0 .1) (r .0 .0 .0 .1) (r .0 .0 .1) (r .0 .1)
 
 pub run-spec : {M : Type 1} → statement M

@@ -1,6 +1,4 @@
-use borrow.Author.Tests.{not-true, not-false}
-use mathlib.Core.Path.{sym, _∙_}
-use Rattle.commands.proofs.CaseLaws.{ran-wrong}
+use Rattle.commands.proofs.CaseLaws.{ran-wrong, passes, fails}
 use Rattle.commands.proofs.PairCaseLaws.{create-qp-fields, create-qp-dead, create-qp-full, create-qp-done}
 use borrow.Author.Needs.{needs}
 use Rattle.commands.proofs.control_qp.create_qp.Statement.{statement}
@@ -19,9 +17,7 @@ create-fine-requires : tie.Need-create-fine-requires
 create-fine-requires c κs = search needs
 
 returns-2 : tie.Need-returns-2
-returns-2 c =
-    rw (c .before .before .before .read .given .1)
-    (create-qp-fields _ _ (sym (c .before .create-fine .ensures) ∙ not-true _ (c .if1 .taken)))
+returns-2 c = rw (c .before .before .before .read .given .1) (create-qp-fields _ _ (fails (c .before .create-fine .ensures) (c .if1 .taken)))
 
 create-live-requires : tie.Need-create-live-requires
 create-live-requires c κs = search needs
@@ -33,7 +29,7 @@ returns-3 : tie.Need-returns-3
 returns-3 c =
     let fine = c .before .before .before in
     rw (fine .before .before .before .read .given .1)
-    (create-qp-dead _ _ (sym (fine .before .create-fine .ensures) ∙ not-false _ (fine .if1 .left)) (sym (c .before .create-live .ensures) ∙ not-true _ (c .if2 .taken)))
+    (create-qp-dead _ _ (passes (fine .before .create-fine .ensures) (fine .if1 .left)) (fails (c .before .create-live .ensures) (c .if2 .taken)))
 
 free-qpn-requires : tie.Need-free-qpn-requires
 free-qpn-requires c κs = search needs
@@ -46,14 +42,15 @@ returns-4 c =
     let live = c .before .before .before in
     let fine = live .before .before .before in
     rw (fine .before .before .before .read .given .1)
-    (create-qp-full _ _ (sym (fine .before .create-fine .ensures) ∙ not-false _ (fine .if1 .left)) (sym (live .before .create-live .ensures) ∙ not-false _ (live .if2 .left)) (c .before .free-qpn .result) (c .before .free-qpn .ensures)
-    (c .if3 .taken))
+    (create-qp-full _ _ (passes (fine .before .create-fine .ensures) (fine .if1 .left)) (passes (live .before .create-live .ensures) (live .if2 .left)) _
+    (c .before .free-qpn .ensures) (c .if3 .taken))
 
 put-pair-requires : tie.Need-put-pair-requires
 put-pair-requires c κs =
     let room = c .before in
     let live = room .before .before .before in
-    (room .if3 .left, live .before .before .before .before .before .before .before .before .before .pre .1, room .before .free-qpn .ensures, sym (live .before .create-live .ensures) ∙ not-false _ (live .if2 .left))
+    let s = live .before .before .before .before .before .before .before .before .before in
+    (room .if3 .left, s .pre, room .before .free-qpn .ensures, passes (live .before .create-live .ensures) (live .if2 .left))
 
 cast-t14 : tie.Need-cast-t14
 cast-t14 c = search needs
@@ -67,8 +64,8 @@ returns-5 c =
     let live = room .before .before .before in
     let fine = live .before .before .before in
     rw (fine .before .before .before .read .given .1)
-    (create-qp-done _ _ (sym (fine .before .create-fine .ensures) ∙ not-false _ (fine .if1 .left)) (sym (live .before .create-live .ensures) ∙ not-false _ (live .if2 .left)) (room .before .free-qpn .result) (room .before .free-qpn .ensures)
-    (room .if3 .left) _ (c .before .before .put-pair .ensures))
+    (create-qp-done _ _ (passes (fine .before .create-fine .ensures) (fine .if1 .left)) (passes (live .before .create-live .ensures) (live .if2 .left)) _
+    (room .before .free-qpn .ensures) (room .if3 .left) _ (c .before .before .put-pair .ensures))
 
 pub create-qp-spec : {M : Type 1} → statement M
 create-qp-spec =

@@ -34,9 +34,11 @@ same-length c = search needs
 returns : tie.Need-returns
 returns c =
     let row = c .before .before .before .before .before .before .before in
+    let moved = row .before in
     let head = row .before .before .before .before in
     let s = head .before .before .before .before .before .before in
-    rw (← modify-bytes (now (s .args .state)) (s .args .r) (s .pre .2), c .before .before .store-waiting .ensures, row .store-qp .ensures, row .before .moved-pair .ensures, c .before .before .before .moved-head .ensures, head .before .before .load-qp .ensures, head .load-waiting .ensures)
+    rw (← modify-bytes (now (s .args .state)) (s .args .r) (s .pre .2), c .before .before .store-waiting .ensures, row .store-qp .ensures)
+    (rw (moved .moved-pair .ensures, c .before .before .before .moved-head .ensures, head .before .before .load-qp .ensures, head .load-waiting .ensures))
 
 pub move-pair-spec : {M : Type 1} → statement M
 move-pair-spec =

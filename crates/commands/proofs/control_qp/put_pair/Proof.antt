@@ -23,8 +23,9 @@ same-length c = search needs
 returns : tie.Need-returns
 unfolding commandBytes
 returns c =
-    let first = c .before .before .before .before .before .before .before .before .before .before .before in
-    rw (c .before .before .store-qp-flag .ensures, c .before .before .before .before .before .before .store-qp .ensures, first .store-waiting .ensures, c .before .before .before .before .before .before .before .new-pair .ensures, first .before .before .before .pre .2)
+    let row = c .before .before .before .before .before .before in
+    let head = row .before .before .before .before .before in
+    rw (c .before .before .store-qp-flag .ensures, row .store-qp .ensures, head .store-waiting .ensures, row .before .new-pair .ensures, head .before .before .before .pre .2)
 
 pub put-pair-spec : {M : Type 1} → statement M
 put-pair-spec =

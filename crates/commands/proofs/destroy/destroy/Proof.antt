@@ -1,6 +1,5 @@
-use Rattle.commands.proofs.CaseLaws.{ran-wrong, destroy-dead, destroy-used, destroy-done}
+use Rattle.commands.proofs.CaseLaws.{ran-wrong, destroy-dead, destroy-used, destroy-done, passes, fails}
 use mathlib.Core.Path.{sym, _∙_}
-use borrow.Author.Tests.{not-true, not-false}
 use borrow.Author.Needs.{needs}
 use Rattle.commands.proofs.destroy.destroy.Statement.{statement}
 use Rattle.commands.proofs.destroy.destroy.Tie as tie
@@ -22,8 +21,8 @@ same-length c = search needs
 
 returns-2 : tie.Need-returns-2
 returns-2 c =
-    rw (c .before .before .before .before .read .given .1)
-    (destroy-dead _ (c .before .before .before .before .before .before .before .args .kind) _ (sym (c .before .is-live .ensures) ∙ not-true _ (c .if1 .taken)))
+    let s = c .before .before .before .before .before .before .before in
+    rw (c .before .before .before .before .read .given .1) (destroy-dead _ (s .args .kind) _ (fails (c .before .is-live .ensures) (c .if1 .taken)))
 
 in-use-requires : tie.Need-in-use-requires
 in-use-requires c κs = search needs
@@ -34,13 +33,15 @@ same-length-2 c = search needs
 returns-3 : tie.Need-returns-3
 returns-3 c =
     let live = c .before .before .before in
+    let s = live .before .before .before .before .before .before .before in
     rw (live .before .before .before .before .read .given .1)
-    (destroy-used _ (live .before .before .before .before .before .before .before .args .kind) _ (sym (live .before .is-live .ensures) ∙ not-false _ (live .if1 .left)) (sym (c .before .in-use .ensures) ∙ c .if2 .taken))
+    (destroy-used _ (s .args .kind) _ (passes (live .before .is-live .ensures) (live .if1 .left)) (sym (c .before .in-use .ensures) ∙ c .if2 .taken))
 
 clear-requires : tie.Need-clear-requires
 clear-requires c κs =
     let live = c .before .before .before .before in
-    (sym (live .before .is-live .ensures) ∙ not-false _ (live .if1 .left), live .before .before .before .before .before .before .before .pre .1)
+    let s = live .before .before .before .before .before .before .before in
+    (passes (live .before .is-live .ensures) (live .if1 .left), s .pre)
 
 same-length-3 : tie.Need-same-length-3
 same-length-3 c = search needs
@@ -49,8 +50,10 @@ returns-4 : tie.Need-returns-4
 returns-4 c =
     let unused = c .before .before .before .before in
     let live = unused .before .before .before in
+    let s = live .before .before .before .before .before .before .before in
     rw (live .before .before .before .before .read .given .1)
-    (destroy-done _ (live .before .before .before .before .before .before .before .args .kind) _ (sym (live .before .is-live .ensures) ∙ not-false _ (live .if1 .left)) (sym (unused .before .in-use .ensures) ∙ unused .if2 .left) _ (c .before .before .clear .ensures))
+    (destroy-done _ (s .args .kind) _ (passes (live .before .is-live .ensures) (live .if1 .left)) (sym (unused .before .in-use .ensures) ∙ unused .if2 .left) _
+    (c .before .before .clear .ensures))
 
 pub destroy-spec : {M : Type 1} → statement M
 destroy-spec =
