@@ -72,18 +72,22 @@ carried c s x own far n m =
 
 -- ---- steps 3 to 6
 
+-- step 3 found no fault
+pub record OwnSide (c : Card) (e : Ends) (s : SendRecord) (sges : List Sge) (n : ℕ) : Type 0 where
+  pub short : n ≤ mostMessage
+  pub permitted : allowsAll c (e .own .pd) (ownMask (s .opcode)) (ownBy s sges) ≡ true
+
 -- what they ask of a message of n bytes
 pub record Sending (s : SendRecord) (x : List ℕ) (sges : List Sge) (n : ℕ) : Type 0 where
   pub size : 576 ≤ length x
   pub plain : isInline s ≡ false → s .count ≤ 4
   pub total : totalBy s sges ≡ n
-  pub most : n ≤ mostMessage
   pub short : isInline s ≡ true → (n ≤ mostInline) × (length (inlineBytes x) ≡ n)
 
--- the status of a message that is not too long
+-- "Total .. over 4,096: status 1. A local piece not permitted ..: status 3", and the statuses of steps 4 and 5
 abbrev pub statusIn : List ℕ → Ends → SendRecord → List Sge → ReceiveRecord → (n : ℕ) → ℕ
 statusIn l e s sges w n =
-    statusBy (fills (s .opcode)) true (allowsAll (card l) (e .own .pd) (ownMask (s .opcode)) (ownBy s sges))
+    statusBy (fills (s .opcode)) (leb n mostMessage) (allowsAll (card l) (e .own .pd) (ownMask (s .opcode)) (ownBy s sges))
     (leb n (sgeTotal (receiveSges w))) (allowsAll (card l) (e .far .pd) (farMask (s .opcode)) (sgeBytes (farList s w n)))
 
 -- they give the status st and leave the memory m′

@@ -9,8 +9,10 @@ use tables::ReceiveRecord;
 use tables::SendRecord;
 use tables::Sge;
 use tables::limits::INLINE_FLAG;
+use tables::limits::LOCAL_LENGTH;
 use tables::limits::LOCAL_PROTECTION;
 use tables::limits::LOCAL_WRITE;
+use tables::limits::MOST_MESSAGE;
 use tables::limits::READ;
 use tables::limits::REMOTE_ACCESS;
 use tables::limits::REMOTE_INVALID;
@@ -32,7 +34,7 @@ ghost use Rattle.tables.specs.Records.{isInline, receiveSges};
 ghost use Rattle.rules.specs.Touch.{fills, sgeTotal};
 ghost use Rattle.dma.specs.Grants.{allowsAll};
 ghost use Rattle.dma.specs.Places.{Ready};
-ghost use Rattle.engine.specs.Deliver.{takenRow, Sending, Delivery, totalBy, ownMask, ownBy, farCount, farList, farMask, Carries, carried};
+ghost use Rattle.engine.specs.Deliver.{takenRow, Sending, Delivery, totalBy, ownMask, ownBy, farCount, farList, farMask, Carries, carried, OwnSide};
 
 fn is_inline(s: SendRecord) -> bool
     ensures { λ r. ⌜ r ≡ isInline s ⌝ }
@@ -166,8 +168,8 @@ pub fn taken_receive(state: &[u8], d: usize, opcode: u8) -> ReceiveRecord
     }
 }
 
-// Steps 3 to 6 of a message of n bytes, which is not too long: the status, and on success the message moved.
-pub fn deliver(
+// Steps 4 to 6 of a message of n bytes, of which step 3 found no fault.
+fn deliver_far(
     state: &[u8],
     memory: &mut [u8],
     e: Ends,
@@ -178,12 +180,9 @@ pub fn deliver(
     n: u32,
 ) -> u8
     requires { ⌜ Ready (now state) (now memory) ⌝ }
-    requires { ⌜ (w .count ≤ 2) × Sending s (now sent) sges n ⌝ }
+    requires { ⌜ (w .count ≤ 2) × Sending s (now sent) sges n × OwnSide (card (now state)) e s sges n ⌝ }
     ensures { λ r. ⌜ Delivery (now (state .entry)) (now (memory .entry)) e s (now (sent .entry)) sges w n r (now (memory .exit)) ⌝ }
 {
-    if !own_permitted(state, e.own.pd, s, sges) {
-        return LOCAL_PROTECTION;
-    }
     if !fits_receive(s.opcode, w, n) {
         return REMOTE_INVALID;
     }
@@ -195,4 +194,28 @@ pub fn deliver(
     }
     move_bytes(state, memory, s, sent, sges, far, count, n);
     SUCCESS
+}
+
+// Steps 3 to 6 of a message of total bytes: the status, and on success the message moved.
+pub fn deliver(
+    state: &[u8],
+    memory: &mut [u8],
+    e: Ends,
+    s: SendRecord,
+    sent: &[u8],
+    sges: [Sge; 4],
+    w: ReceiveRecord,
+    total: u64,
+) -> u8
+    requires { ⌜ Ready (now state) (now memory) ⌝ }
+    requires { ⌜ (w .count ≤ 2) × Sending s (now sent) sges total ⌝ }
+    ensures { λ r. ⌜ Delivery (now (state .entry)) (now (memory .entry)) e s (now (sent .entry)) sges w total r (now (memory .exit)) ⌝ }
+{
+    if (MOST_MESSAGE as u64) < total {
+        return LOCAL_LENGTH;
+    }
+    if !own_permitted(state, e.own.pd, s, sges) {
+        return LOCAL_PROTECTION;
+    }
+    deliver_far(state, memory, e, s, sent, sges, w, total as u32)
 }

@@ -19,7 +19,7 @@ put-sender-requires c κs = search needs
 put-receiver-requires : tie.Need-put-receiver-requires
 put-receiver-requires c κs =
     let p = c .before .before .before .before .before .before .before .pre in
-    ((p .count, search needs), λ t. rw (c .before .before .before .put-sender .ensures) (p .second t))
+    ((p .count, search needs, p .short), λ t. rw (c .before .before .before .put-sender .ensures) (p .second t))
 
 fail-if-requires : tie.Need-fail-if-requires
 fail-if-requires c κs = search needs
