@@ -326,7 +326,7 @@ module _ (l : List ℕ) (a : accepts l ≡ true) (q : ℕ) (x : List ℕ) (s : S
 
   module _ (m : List ℕ) where
     abbrev mem : List ℕ
-    mem = carried c s x (take (s .count) (entries x s t)) (farList s w n) n m
+    mem = carried c s x (take (s .count) (entries x s t)) (farList s w n) m
 
     far-places : theirs ≡ true → map (place c) (farBytes r (takenBy c q)) ≡ places c (farList s w n)
     far-places j = ap (map (place c)) far-are ∙ placed-all c (far .pd) (farMask o) (sgeBytes (farList s w n)) j

@@ -95,15 +95,15 @@ module _ (l m : List ℕ) (e : Ends) (s : SendRecord) (x : List ℕ) (sges : Lis
       far-refused st i z =
           record {
             status = rw (short, h, z) (i ∙ far-status (fills o) fit k);
-            memory = rw i (unmoved (fills o) (carried (card l) s x (take (s .count) sges) (farList s w n) n m) m);
+            memory = rw i (unmoved (fills o) (carried (card l) s x (take (s .count) sges) (farList s w n) m) m);
           }
 
       module _ (z : theirs ≡ true) (list : List Sge) (is : list ≡ farList s w n) where
-        pub all-moved : (m′ : List ℕ) → m′ ≡ carried (card l) s x (take (s .count) sges) list n m → Delivery l m e s x sges w n 0 m′
+        pub all-moved : (m′ : List ℕ) → m′ ≡ carried (card l) s x (take (s .count) sges) list m → Delivery l m e s x sges w n 0 m′
         all-moved m′ i =
             record {
               status = rw (short, h, z) (done-status (fills o) fit k);
-              memory = i ∙ ap (λ (y : List Sge). carried (card l) s x (take (s .count) sges) y n m) is;
+              memory = i ∙ ap (λ (y : List Sge). carried (card l) s x (take (s .count) sges) y m) is;
             }
 
         far-total : (f : Bool) → (not f || fit) ≡ true → sgeTotal (cond f (cut n (receiveSges w)) (record { address = s .address; length = n; key = s .key } ∷ [])) ≡ n
@@ -111,13 +111,13 @@ module _ (l m : List ℕ) (e : Ends) (s : SendRecord) (x : List ℕ) (sges : Lis
         far-total true i = cut-total n (receiveSges w) (leb-true n (sgeTotal (receiveSges w)) i)
         far-total false i = add-zero n
 
-        pub carries : Sending s x sges n → Carries (card l) s x (take (s .count) sges) list n
+        pub carries : Sending s x sges n → Carries (card l) s x (take (s .count) sges) list
         carries y =
+            let f : sgeTotal list ≡ n = rw is (far-total (fills o) k) in
             record {
               size = y .size;
-              most = side .short;
+              most = rw f (side .short);
               target = permitted-mapped-all (card l) (e .far .pd) (farMask o) (sgeBytes list) (rw is z);
-              total = rw is (far-total (fills o) k);
-              plain = λ i. (permitted-mapped-all (card l) (e .own .pd) (ownMask o) (sgeBytes (take (s .count) sges)) (rw i at h), rw i at (y .total));
-              short = y .short;
+              plain = λ i. (permitted-mapped-all (card l) (e .own .pd) (ownMask o) (sgeBytes (take (s .count) sges)) (rw i at h), (rw i at (y .total)) ∙ sym f);
+              short = λ i. rw f (y .short i);
             }

@@ -55,18 +55,17 @@ farMask o = cond (fills o) 1 (cond (reads o) 4 2)
 
 -- ---- the message moved
 
--- what the move asks: both sides lie in live regions and have n bytes
-pub record Carries (c : Card) (s : SendRecord) (x : List ℕ) (own far : List Sge) (n : ℕ) : Type 0 where
+-- what the move asks: both sides lie in live regions and have as many bytes
+pub record Carries (c : Card) (s : SendRecord) (x : List ℕ) (own far : List Sge) : Type 0 where
   pub size : 576 ≤ length x
-  pub most : n ≤ mostMessage
+  pub most : sgeTotal far ≤ mostMessage
   pub target : mappedAll c (sgeBytes far) ≡ true
-  pub total : sgeTotal far ≡ n
-  pub plain : isInline s ≡ false → (mappedAll c (sgeBytes own) ≡ true) × (sgeTotal own ≡ n)
-  pub short : isInline s ≡ true → (n ≤ mostInline) × (length (inlineBytes x) ≡ n)
+  pub plain : isInline s ≡ false → (mappedAll c (sgeBytes own) ≡ true) × (sgeTotal own ≡ sgeTotal far)
+  pub short : isInline s ≡ true → (sgeTotal far ≤ mostInline) × (length (inlineBytes x) ≡ sgeTotal far)
 
 -- "Success. All source bytes are read before any is written": the memory m after it
-abbrev pub carried : Card → SendRecord → (x : List ℕ) → (own far : List Sge) → (n : ℕ) → (m : List ℕ) → List ℕ
-carried c s x own far n m =
+abbrev pub carried : Card → SendRecord → (x : List ℕ) → (own far : List Sge) → (m : List ℕ) → List ℕ
+carried c s x own far m =
     cond (isInline s) (stored m (places c far) (inlineBytes x))
     (cond (reads (s .opcode)) (moved m (places c far) (places c own)) (moved m (places c own) (places c far)))
 
@@ -94,4 +93,4 @@ statusIn l e s sges w n =
 pub record Delivery (l m : List ℕ) (e : Ends) (s : SendRecord) (x : List ℕ) (sges : List Sge) (w : ReceiveRecord) (n st : ℕ) (m′ : List ℕ)
     : Type 0 where
   pub status : st ≡ statusIn l e s sges w n
-  pub memory : m′ ≡ cond (eqb st 0) (carried (card l) s x (take (s .count) sges) (farList s w n) n m) m
+  pub memory : m′ ≡ cond (eqb st 0) (carried (card l) s x (take (s .count) sges) (farList s w n) m) m

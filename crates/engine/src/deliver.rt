@@ -128,11 +128,10 @@ fn move_bytes(
     sges: [Sge; 4],
     far: [Sge; 4],
     count: usize,
-    n: u32,
 )
-    requires { ⌜ Ready (now state) (now memory) ⌝ }
-    requires { ⌜ (count ≤ 4) × (isInline s ≡ false → s .count ≤ 4) × Carries (card (now state)) s (now sent) (take (s .count) sges) (take count far) n ⌝ }
-    ensures { λ _. ⌜ now (memory .exit) ≡ carried (card (now (state .entry))) s (now (sent .entry)) (take (s .count) sges) (take count far) n (now (memory .entry)) ⌝ }
+    requires { ⌜ Ready (now state) (now memory) × (count ≤ 4) × (isInline s ≡ false → s .count ≤ 4) ⌝ }
+    requires { ⌜ Carries (card (now state)) s (now sent) (take (s .count) sges) (take count far) ⌝ }
+    ensures { λ _. ⌜ now (memory .exit) ≡ carried (card (now (state .entry))) s (now (sent .entry)) (take (s .count) sges) (take count far) (now (memory .entry)) ⌝ }
 {
     if is_inline(s) {
         let bytes = records::inline_bytes(sent);
@@ -192,7 +191,7 @@ fn deliver_far(
     if !permit::sges_permitted(state, e.far.pd, mask, far, count) {
         return settle::choose(meet::fills_receive(s.opcode), REMOTE_INVALID, REMOTE_ACCESS);
     }
-    move_bytes(state, memory, s, sent, sges, far, count, n);
+    move_bytes(state, memory, s, sent, sges, far, count);
     SUCCESS
 }
 

@@ -23,8 +23,8 @@ own-permitted-requires c κs = let b = c .before .before .before .before in (b .
 returns-2 : tie.Need-returns-2
 returns-2 c =
     let a = c .before .before .before .before .before .before .args in
-    own-refused (now (a .state)) (now (a .memory)) (a .e) (a .s) (now (a .sent)) (a .sges) (a .w) (a .total) (let h = c .before .before .if1 .left in omega arith)
-    (sym (c .before .own-permitted .ensures) ∙ not-true _ (c .if2 .taken))
+    own-refused (now (a .state)) (now (a .memory)) (a .e) (a .s) (now (a .sent)) (a .sges) (a .w) (a .total)
+    (let h = c .before .before .if1 .left in omega arith) (sym (c .before .own-permitted .ensures) ∙ not-true _ (c .if2 .taken))
 
 cast-deliver-far : tie.Need-cast-deliver-far
 cast-deliver-far c = search needs

@@ -69,7 +69,7 @@ move-bytes-requires c κs =
     (k .far-count .result) (k .far-count .ensures) (f .far-sges .ensures) (p .sges-permitted .result) (p .sges-permitted .ensures) in
     let y = carries l m (a .e) (a .s) x (a .sges) (a .w) (a .n) (b .pre .1 .2) (sym (f .before .before .fits-receive .ensures) ∙ not-false _ (f .before .if1 .left))
     (sym j ∙ not-false _ (c .before .if2 .left)) _ i (b .pre .1 .1) in
-    (b .pre .0, (count-most (a .s .opcode) (a .w) (b .pre .1 .0) (k .far-count .result) (k .far-count .ensures), b .pre .1 .1 .plain, y))
+    ((b .pre .0, count-most (a .s .opcode) (a .w) (b .pre .1 .0) (k .far-count .result) (k .far-count .ensures), b .pre .1 .1 .plain), y)
 
 same-length : tie.Need-same-length
 same-length c = search needs

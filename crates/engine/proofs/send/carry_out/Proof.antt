@@ -30,19 +30,21 @@ taken-receive-requires c κs =
 
 deliver-requires : tie.Need-deliver-requires
 deliver-requires c κs =
-    let b = c .before .before .before .before .before .before .before .before .before .before in
+    let k = c .before .before in
+    let b = k .before .before .before .before .before .before .before .before in
     let a = b .args in
-    let k = ending (now (a .state)) (now (a .memory)) (now (a .sent)) (a .s) (a .e .q) (b .pre .0 .accepted) (b .pre .1 .0) (b .pre .1 .1 .good) (a .e) (b .pre .1 .1 .rows)
-    _ (c .before .before .before .before .before .before .send-sges .ensures) _ (c .before .before .before .before .before .total-of .ensures) _ (c .before .before .taken-receive .ensures) in
-    (b .pre .0, (k .count, k .sending))
+    let z = ending (now (a .state)) (now (a .memory)) (now (a .sent)) (a .s) (a .e .q) (b .pre .0 .accepted) (b .pre .1 .0) (b .pre .1 .1 .good) (a .e)
+    (b .pre .1 .1 .rows) _ (k .before .before .before .before .send-sges .ensures) _ (k .before .before .before .total-of .ensures) _ (k .taken-receive .ensures) in
+    (b .pre .0, (z .count, z .sending))
 
 settle-requires : tie.Need-settle-requires
 settle-requires c κs =
-    let b = c .before .before .before .before .before .before .before .before .before .before .before .before .before .before in
+    let k = c .before .before .before .before .before .before in
+    let b = k .before .before .before .before .before .before .before .before in
     let a = b .args in
-    let k = ending (now (a .state)) (now (a .memory)) (now (a .sent)) (a .s) (a .e .q) (b .pre .0 .accepted) (b .pre .1 .0) (b .pre .1 .1 .good) (a .e) (b .pre .1 .1 .rows)
-    _ (c .before .before .before .before .before .before .before .before .before .before .send-sges .ensures) _ (c .before .before .before .before .before .before .before .before .before .total-of .ensures) _ (c .before .before .before .before .before .before .taken-receive .ensures) in
-    k .settling _ _ (c .before .before .before .deliver .ensures)
+    let z = ending (now (a .state)) (now (a .memory)) (now (a .sent)) (a .s) (a .e .q) (b .pre .0 .accepted) (b .pre .1 .0) (b .pre .1 .1 .good) (a .e)
+    (b .pre .1 .1 .rows) _ (k .before .before .before .before .send-sges .ensures) _ (k .before .before .before .total-of .ensures) _ (k .taken-receive .ensures) in
+    z .settling _ _ (c .before .before .before .deliver .ensures)
 
 same-length : tie.Need-same-length
 same-length c = search needs
@@ -52,12 +54,13 @@ same-length-2 c = search needs
 
 returns : tie.Need-returns
 returns c =
-    let b = c .before .before .before .before .before .before .before .before .before .before .before .before .before .before .before .before .before in
+    let k = c .before .before .before .before .before .before .before .before .before in
+    let b = k .before .before .before .before .before .before .before .before in
     let a = b .args in
-    let k = ending (now (a .state)) (now (a .memory)) (now (a .sent)) (a .s) (a .e .q) (b .pre .0 .accepted) (b .pre .1 .0) (b .pre .1 .1 .good) (a .e) (b .pre .1 .1 .rows)
-    _ (c .before .before .before .before .before .before .before .before .before .before .before .before .before .send-sges .ensures) _ (c .before .before .before .before .before .before .before .before .before .before .before .before .total-of .ensures) _ (c .before .before .before .before .before .before .before .before .before .taken-receive .ensures) in
-    let z = k .carried _ _ (c .before .before .before .before .before .before .deliver .ensures) in
-    record { status = z .status; bytes = c .before .before .settle .ensures ∙ z .bytes; memory = z .memory }
+    let z = ending (now (a .state)) (now (a .memory)) (now (a .sent)) (a .s) (a .e .q) (b .pre .0 .accepted) (b .pre .1 .0) (b .pre .1 .1 .good) (a .e)
+    (b .pre .1 .1 .rows) _ (k .before .before .before .before .send-sges .ensures) _ (k .before .before .before .total-of .ensures) _ (k .taken-receive .ensures) in
+    let y = z .carried _ _ (c .before .before .before .before .before .before .deliver .ensures) in
+    record { status = y .status; bytes = c .before .before .settle .ensures ∙ y .bytes; memory = y .memory }
 
 pub carry-out-spec : {M : Type 1} → statement M
 carry-out-spec =
