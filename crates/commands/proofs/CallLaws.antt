@@ -19,6 +19,9 @@ use Rattle.tables.specs.Card.{Card}
 use Rattle.tables.specs.State.{card}
 use Rattle.tables.specs.Commands.{headChecks, numberRead, registerRead, createQpRead, modifyQpRead, ackValues, Command, numberCodec, registerCodec, createQpCodec, modifyQpCodec, ackFields, ackLeast, dataSize, commandOf}
 use Rattle.tables.specs.declared.Ack.{Ack}
+use Rattle.tables.specs.declared.CreateQp.{CreateQp}
+use Rattle.tables.specs.declared.ModifyQp.{ModifyQp}
+use Rattle.tables.specs.declared.Registration.{Registration}
 use Rattle.tables.specs.declared.CreateQpRead.{CreateQpRead}
 use Rattle.tables.specs.declared.CreateQpRead.the-variants as create
 use Rattle.tables.specs.declared.ModifyQpRead.{ModifyQpRead}
@@ -38,7 +41,7 @@ use Rattle.rules.specs.Control.{commandChecks, commandAck, commandEffect}
 use Rattle.rules.specs.Lists.{maybe}
 use Rattle.rules.specs.declared.Answer.{Answer}
 use Rattle.rules.specs.declared.Answer.the-variants as answer
-use Rattle.commands.specs.Control.{Ends, Ran, numberChecks, classChecks, numbered, registering, creating, modifying, bare, ackOf, outcomeAck, outcomeAnswer}
+use Rattle.commands.specs.Control.{Ran, Chosen, Classed, numberChecks, classChecks, numbered, registering, creating, modifying, bare, ackOf, outcomeAck, outcomeAnswer}
 use Rattle.commands.specs.declared.Outcome.{Outcome}
 use Rattle.commands.specs.declared.Outcome.the-variants.{Refused, Done}
 use Rattle.commands.proofs.EffectLaws as effect
@@ -47,89 +50,83 @@ use Rattle.commands.proofs.PairEffectLaws as pairs
 
 -- ---- the command number chooses
 
-module _ (l k : List ℕ) where
-  abbrev Chosen : Outcome → List ℕ → Type 0
-  Chosen r l′ = Ends (numberChecks (card l) k) l (commandOf k) r l′
+-- a reading by the data's length, made into a command
+made : {A : Type 0} (f : A → Option Command) (b : Bool) (right wrong : A) → f (cond b right wrong) ≡ cond b (f right) (f wrong)
+made f true right wrong = refl
+made f false right wrong = refl
 
+module _ (l k : List ℕ) where
   -- the number says that it is the command q; o is q where its data has its length
   chosen : (q : Command) → commandOf k ≡ some q → (o : Option Command) → o ≡ cond (eqb (length k) (2 + dataSize q)) (some q) none
-      → (r : Outcome) (l′ : List ℕ) → Ran l o r l′ → Chosen r l′
+      → (r : Outcome) (l′ : List ℕ) → Ran l o r l′ → Chosen l k r l′
   chosen q c o is r l′ x = go (eqb (length k) (2 + dataSize q)) refl (rw is at x)
     where
-      go : (b : Bool) → eqb (length k) (2 + dataSize q) ≡ b → Ran l (cond b (some q) none) r l′ → Chosen r l′
+      go : (b : Bool) → eqb (length k) (2 + dataSize q) ≡ b → Ran l (cond b (some q) none) r l′ → Chosen l k r l′
       go true e y = record { outcome = rw (c, e) (y .outcome); bytes = rw (c, e) (y .bytes) }
       go false e y = record { outcome = rw (c, e) (y .outcome); bytes = rw (c, e) (y .bytes) }
 
   -- by the data of the command
   module _ (r : Outcome) (l′ : List ℕ) where
     pub by-number : (f : ℕ → Command) → commandOf k ≡ some (f (decode numberCodec k 2)) → ((n : ℕ) → dataSize (f n) ≡ numberCodec .size)
-        → (x : NumberRead) → x ≡ numberRead k → Ran l (numbered f x) r l′ → Chosen r l′
-    by-number f c s x is = chosen (f (decode numberCodec k 2)) c (numbered f x) (rw (s (decode numberCodec k 2), is) (go (eqb (length k) (2 + numberCodec .size)))) r l′
-      where
-        go : (b : Bool) → numbered f (cond b (number.Value (decode numberCodec k 2)) number.Wrong) ≡ cond b (some (f (decode numberCodec k 2))) none
-        go true = refl
-        go false = refl
+        → (x : NumberRead) → x ≡ numberRead k → Ran l (numbered f x) r l′ → Chosen l k r l′
+    by-number f c s x is =
+        let d : ℕ = decode numberCodec k 2 in
+        chosen (f d) c (numbered f x) (rw (s d, is) (made (numbered f) (eqb (length k) (2 + numberCodec .size)) (number.Value d) number.Wrong)) r l′
 
-    pub by-nothing : commandOf k ≡ some Command.createPd → Ran l (bare Command.createPd k) r l′ → Chosen r l′
+    pub by-nothing : commandOf k ≡ some Command.createPd → Ran l (bare Command.createPd k) r l′ → Chosen l k r l′
     unfolding dataSize
     by-nothing c = chosen Command.createPd c (bare Command.createPd k) refl r l′
 
     pub by-registration : commandOf k ≡ some (Command.register (decode registerCodec k 2)) → (x : RegisterRead) → x ≡ registerRead k
-        → Ran l (registering x) r l′ → Chosen r l′
+        → Ran l (registering x) r l′ → Chosen l k r l′
     unfolding dataSize
-    by-registration c x is = chosen (Command.register (decode registerCodec k 2)) c (registering x) (rw is (go (eqb (length k) (2 + registerCodec .size)))) r l′
-      where
-        go : (b : Bool) → registering (cond b (register.Value (decode registerCodec k 2)) register.Wrong) ≡ cond b (some (Command.register (decode registerCodec k 2))) none
-        go true = refl
-        go false = refl
+    by-registration c x is =
+        let d : Registration = decode registerCodec k 2 in
+        chosen (Command.register d) c (registering x)
+        (rw is (made registering (eqb (length k) (2 + registerCodec .size)) (register.Value d) register.Wrong)) r l′
 
     pub by-creation : commandOf k ≡ some (Command.createQp (decode createQpCodec k 2)) → (x : CreateQpRead) → x ≡ createQpRead k
-        → Ran l (creating x) r l′ → Chosen r l′
+        → Ran l (creating x) r l′ → Chosen l k r l′
     unfolding dataSize
-    by-creation c x is = chosen (Command.createQp (decode createQpCodec k 2)) c (creating x) (rw is (go (eqb (length k) (2 + createQpCodec .size)))) r l′
-      where
-        go : (b : Bool) → creating (cond b (create.Value (decode createQpCodec k 2)) create.Wrong) ≡ cond b (some (Command.createQp (decode createQpCodec k 2))) none
-        go true = refl
-        go false = refl
+    by-creation c x is =
+        let d : CreateQp = decode createQpCodec k 2 in
+        chosen (Command.createQp d) c (creating x)
+        (rw is (made creating (eqb (length k) (2 + createQpCodec .size)) (create.Value d) create.Wrong)) r l′
 
     pub by-move : commandOf k ≡ some (Command.modifyQp (decode modifyQpCodec k 2)) → (x : ModifyQpRead) → x ≡ modifyQpRead k
-        → Ran l (modifying x) r l′ → Chosen r l′
+        → Ran l (modifying x) r l′ → Chosen l k r l′
     unfolding dataSize
-    by-move c x is = chosen (Command.modifyQp (decode modifyQpCodec k 2)) c (modifying x) (rw is (go (eqb (length k) (2 + modifyQpCodec .size)))) r l′
-      where
-        go : (b : Bool) → modifying (cond b (modify.Value (decode modifyQpCodec k 2)) modify.Wrong) ≡ cond b (some (Command.modifyQp (decode modifyQpCodec k 2))) none
-        go true = refl
-        go false = refl
+    by-move c x is =
+        let d : ModifyQp = decode modifyQpCodec k 2 in
+        chosen (Command.modifyQp d) c (modifying x)
+        (rw is (made modifying (eqb (length k) (2 + modifyQpCodec .size)) (modify.Value d) modify.Wrong)) r l′
 
   -- no command has the number
-  by-none : commandOf k ≡ none → Chosen (Refused 13) l
+  by-none : commandOf k ≡ none → Chosen l k (Refused 13) l
   by-none e = record { outcome = rw e; bytes = rw e }
 
   module _ (n : ℕ) (is : n ≡ leAt 1 k 1) where
-    pub run-gap : (n ≡ 6) ⊎ (n ≡ 11) → Chosen (Refused 13) l
+    pub run-gap : (n ≡ 6) ⊎ (n ≡ 11) → Chosen l k (Refused 13) l
     unfolding commandOf
     run-gap (inl e) = by-none (rw (← is, e))
     run-gap (inr e) = by-none (rw (← is, e))
 
     pub run-unknown : (n ≡ 2 → ⊥) → (n ≡ 3 → ⊥) → (n ≡ 4 → ⊥) → (n ≡ 5 → ⊥) → (n ≡ 7 → ⊥) → (n ≡ 8 → ⊥) → (n ≡ 9 → ⊥) → (n ≡ 10 → ⊥) → (n ≡ 12 → ⊥)
-        → Chosen (Refused 13) l
+        → Chosen l k (Refused 13) l
     unfolding commandOf
     run-unknown a b c d e f g h i =
         by-none
         (rw (← is, ne-eqb n 2 a, ne-eqb n 3 b, ne-eqb n 4 c, ne-eqb n 5 d, ne-eqb n 7 e, ne-eqb n 8 f, ne-eqb n 9 g, ne-eqb n 10 h, ne-eqb n 12 i))
 
   -- ---- the tests before: the length, and the class
-  abbrev Classed : Outcome → List ℕ → Type 0
-  Classed r l′ = Ends (classChecks (card l) k) l (commandOf k) r l′
-
   -- the head is refused
-  pub dispatch-stopped : (n : ℕ) → refusal (headChecks k) ≡ some n → Classed (Refused n) l
+  pub dispatch-stopped : (n : ℕ) → refusal (headChecks k) ≡ some n → Classed l k (Refused n) l
   dispatch-stopped n e =
       let z : refusal (classChecks (card l) k) ≡ some n = refusal-append (headChecks k) (numberChecks (card l) k) ∙ rw e in
       record { outcome = rw z; bytes = rw z }
 
   -- it is not
-  pub dispatch-passed : refusal (headChecks k) ≡ none → (r : Outcome) (l′ : List ℕ) → Chosen r l′ → Classed r l′
+  pub dispatch-passed : refusal (headChecks k) ≡ none → (r : Outcome) (l′ : List ℕ) → Chosen l k r l′ → Classed l k r l′
   dispatch-passed e r l′ x =
       let z : refusal (classChecks (card l) k) ≡ refusal (numberChecks (card l) k) =
       refusal-append (headChecks k) (numberChecks (card l) k) ∙ rw e in
@@ -222,7 +219,7 @@ module _ (l k a : List ℕ) where
           rw (not-true (eqb n 5) (and-left x y v), not-true (eqb n 6) (and-right x y v), not-true (eqb n 12 || eqb n 15) (and-right (x && y) z w))
           at (refused-owes l call n (tests ∙ e))
 
-      pub control-done : (p : Outcome) (l′ : List ℕ) → Ends (classChecks (card l) k) l o p l′ → (x : Ack) → x ≡ outcomeAck p → (r : Answer) → r ≡ outcomeAnswer p
+      pub control-done : (p : Outcome) (l′ : List ℕ) → Classed l k p l′ → (x : Ack) → x ≡ outcomeAck p → (r : Answer) → r ≡ outcomeAnswer p
           → (a′ : List ℕ) → a′ ≡ putFields ackFields a 0 (ackValues x) → Owes l call r l′ [] a′
       control-done p l′ d x ex r er a′ ea = go (refusal (classChecks (card l) k)) refl
         where

@@ -3,31 +3,38 @@ use mathlib.Core.Path.{_≡_, refl, sym, ap, ap₂, _∙_}
 use mathlib.Core.Bool.{Bool, true, false, cond, not, _&&_}
 use mathlib.Core.List.{List, [], _∷_}
 use mathlib.Core.Option.{none, some}
-use Prim.Native.Nat.{ℕ, _+_, _*_, _%_, _≤_, _<_}
-use native.Mathlib.Nat.{mod-eq-of-lt}
+use Prim.Native.Nat.{ℕ, _+_, _≤_, _<_}
 use native.Mathlib.Omega.{arith}
 use lib.Bits.{bitAnd, and-le-r}
 use lib.Dec.{eqb, ltb, leb}
 use lib.ListN.{length}
-use borrow.Author.Tests.{le-leb, lt-leb, leb-true, leb-false, lt-ltb, le-ltb, eqb-true, ne-eqb, eq-eqb}
+use borrow.Author.Tests.{not-true, not-false, le-leb, lt-leb, leb-true, leb-false, lt-ltb, le-ltb, eqb-true, ne-eqb, eq-eqb}
 use Rattle.wire.specs.Checks.{Check, _if_, refusal, only}
 use Rattle.wire.proofs.ScanLaws.{and-right}
 use Rattle.wire.specs.Table.{rowAt, putRow}
 use Rattle.tables.specs.State.{card}
-use Rattle.tables.specs.Layout.{memoryT, pdFlagT, mrFlagT, mrT, cqT, cqFlagT}
+use Rattle.tables.specs.Layout.{memoryT, pdFlagT, mrT}
 use Rattle.tables.specs.Limits.{pdCount, cqCount, mrCount, mostPlaces, mostAddress, mostAccess}
-use Rattle.tables.proofs.ObjectLaws.{memory-is, pd-below, mr-variant}
+use Rattle.tables.proofs.ObjectLaws.{memory-is, mr-variant}
 use Rattle.tables.specs.Commands.{Command}
 use Rattle.validate.specs.Search.{freePdn, freeCqn, freeMrn}
 use Rattle.tables.specs.declared.Ack.the-variants as ack
 use Rattle.tables.specs.declared.Registration.{Registration}
+use Rattle.rules.specs.Permit.{keyOf}
 use Rattle.rules.specs.Control.{commandChecks, commandAck, nextVariant, newVariant}
-use Rattle.rules.specs.Bytes.{commandBytes, emptyQueue, regionRow}
-use Rattle.commands.specs.Control.{Ran, ackOf, bare, inRange, lowRegistration, destroyOf, liveOf, usedOf}
+use Rattle.rules.specs.Bytes.{commandBytes}
+use Rattle.commands.specs.Control.{Ran, ackOf, bare, inRange, destroyOf, liveOf, usedOf}
 use Rattle.commands.specs.declared.Kind.{Kind}
 use Rattle.commands.specs.declared.Kind.the-variants.{Pd, Cq, Mr, Qp}
 use Rattle.commands.specs.declared.Outcome.{Outcome}
 use Rattle.commands.specs.declared.Outcome.the-variants.{Refused, Done}
+
+-- what a call of a test has shown, where its result r let the command pass, and where it did not
+pub passes : {r b : Bool} → r ≡ b → not r ≡ false → b ≡ true
+passes {r = r} e f = sym e ∙ not-false r f
+
+pub fails : {r b : Bool} → r ≡ b → not r ≡ true → b ≡ false
+fails {r = r} e f = sym e ∙ not-true r f
 
 -- a command that a test refuses, and one that passes all
 module _ (l : List ℕ) (q : Command) where
@@ -50,8 +57,15 @@ module _ (l k : List ℕ) (q : Command) where
   pub bare-right : length k ≡ 2 → bare q k ≡ some q
   bare-right h = rw (eq-eqb (length k) 2 h)
 
-pub low : (n : ℕ) → n < 256 → n % 256 ≡ n
-low n h = mod-eq-of-lt h
+-- the fields that a byte of the state holds
+pub places-small : (p : ℕ) → (leb 1 p && leb p mostPlaces) ≡ true → p < 256
+places-small p e = let b : p ≤ mostPlaces = leb-true p mostPlaces (and-right (leb 1 p) (leb p mostPlaces) e) in omega arith
+
+pub access-most : (a : ℕ) → only mostAccess a ≡ true → a ≤ mostAccess
+access-most a e =
+    let x : bitAnd a mostAccess ≡ a = eqb-true (bitAnd a mostAccess) a e in
+    let y : bitAnd a mostAccess ≤ mostAccess = and-le-r a mostAccess in
+    omega arith
 
 pub over : (a b : ℕ) → ltb a b ≡ not (leb b a)
 over a b = by (leb b a) refl
@@ -108,14 +122,12 @@ module _ (l : List ℕ) where
       unfolding commandChecks
       create-cq-full h = ran-refused l (Command.createCq p) 8 (rw (passed, le-leb cqCount (freeCqn (card l)) (omega arith)))
 
-      pub create-cq-done : n < cqCount → (l′ : List ℕ) → l′ ≡ putRow cqFlagT (putRow cqT l n (emptyQueue (p % 256))) n 1
+      pub create-cq-done : n < cqCount → (l′ : List ℕ) → l′ ≡ commandBytes l (Command.createCq p)
           → Ran l (some (Command.createCq p)) (Done (ack.Number n)) l′
-      unfolding commandChecks commandAck commandBytes
+      unfolding commandChecks commandAck
       create-cq-done h l′ s =
-          let b : p ≤ mostPlaces = leb-true p mostPlaces (and-right (leb 1 p) (leb p mostPlaces) passed) in
           ran-done l (Command.createCq p) (rw (passed, lt-leb cqCount (freeCqn (card l)) (omega arith))) (Done (ack.Number n)) l′
-          (ap (λ (x : ℕ). Done (ack.Number x)) is)
-          (s ∙ ap₂ (λ (x y : ℕ). putRow cqFlagT (putRow cqT l x (emptyQueue y)) x 1) is (low p (omega arith)))
+          (ap (λ (x : ℕ). Done (ack.Number x)) is) s
 
   -- ---- create PD
   module _ (n : ℕ) (is : n ≡ freePdn (card l)) where
@@ -130,9 +142,13 @@ module _ (l : List ℕ) where
         (ap (λ (x : ℕ). Done (ack.Number x)) is) (s ∙ ap (λ (x : ℕ). putRow pdFlagT l x 1) is)
 
   -- ---- register
+  pub new-variant : (n : ℕ) → n ≡ freeMrn (card l) → n < mrCount → nextVariant (rowAt mrT l n .variant) ≡ newVariant (card l)
+  new-variant n is h = ap nextVariant (sym (mr-variant l n h) ∙ ap (λ (x : ℕ). card l .mr x .variant) is)
+
   module _ (g : Registration) where
     -- the tests of answer 11 are one
-    range-tests : (cs : List Check) → refusal (11 if eqb (g .length) 0 ∷ 11 if ltb (card l .memory) (g .start + g .length) ∷ 11 if ltb mostAddress (g .virt + g .length) ∷ cs)
+    range-tests : (cs : List Check)
+        → refusal (11 if eqb (g .length) 0 ∷ 11 if ltb (card l .memory) (g .start + g .length) ∷ 11 if ltb mostAddress (g .virt + g .length) ∷ cs)
         ≡ cond (inRange (rowAt memoryT l 0) g) (refusal cs) (some 11)
     range-tests cs =
         rw (memory-is l, over (rowAt memoryT l 0) (g .start + g .length), over mostAddress (g .virt + g .length))
@@ -166,21 +182,9 @@ module _ (l : List ℕ) where
           pub register-full : mrCount ≤ n → Ran l (some (Command.register g)) (Refused 8) l
           register-full h = ran-refused l (Command.register g) 8 (register-tests ∙ rw (inside, le-leb mrCount (freeMrn (card l)) (omega arith)))
 
-          low-registration : lowRegistration g ≡ g
-          low-registration =
-              let a : g .access ≤ mostAccess = (let e : bitAnd (g .access) mostAccess ≡ g .access = eqb-true (bitAnd (g .access) mostAccess) (g .access) known in
-              let b : bitAnd (g .access) mostAccess ≤ mostAccess = and-le-r (g .access) mostAccess in omega arith) in
-              let d : g .pd < pdCount = pd-below l (g .pd) live in
-              rw (low (g .access) (omega arith), low (g .pd) (omega arith))
-
-          pub register-done : n < mrCount → (v : ℕ) → v ≡ nextVariant (rowAt mrT l n .variant) → (l′ : List ℕ)
-              → l′ ≡ putRow mrFlagT (putRow mrT l n (regionRow (lowRegistration g) v)) n 1
-              → Ran l (some (Command.register g)) (Done (ack.Keys n (256 * n + v))) l′
-          unfolding commandAck commandBytes
-          register-done h v e l′ s =
-              let y : v ≡ newVariant (card l) = e ∙ ap nextVariant (sym (mr-variant l n h) ∙ ap (λ (x : ℕ). card l .mr x .variant) is) in
+          pub register-done : n < mrCount → (v : ℕ) → v ≡ newVariant (card l) → (key : ℕ) → key ≡ keyOf n v → (l′ : List ℕ)
+              → l′ ≡ commandBytes l (Command.register g) → Ran l (some (Command.register g)) (Done (ack.Keys n key)) l′
+          unfolding commandAck
+          register-done h v e key f l′ s =
               ran-done l (Command.register g) (register-tests ∙ rw (inside, lt-leb mrCount (freeMrn (card l)) (omega arith)))
-              (Done (ack.Keys n (256 * n + v))) l′
-              (ap₂ (λ (x z : ℕ). Done (ack.Keys x (256 * x + z))) is y)
-              (s ∙ ap (λ (x : Registration). putRow mrFlagT (putRow mrT l n (regionRow x v)) n 1) low-registration
-              ∙ ap₂ (λ (x z : ℕ). putRow mrFlagT (putRow mrT l x (regionRow g z)) x 1) is y)
+              (Done (ack.Keys n key)) l′ (ap (λ (x : ℕ). Done (ack.Keys n x)) f ∙ ap₂ (λ (x z : ℕ). Done (ack.Keys x (keyOf x z))) is e) s

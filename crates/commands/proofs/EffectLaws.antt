@@ -7,10 +7,9 @@ use mathlib.Core.List.{List, [], _∷_}
 use mathlib.Core.Option.{none}
 use Prim.Native.Nat.{ℕ, _+_, _≤_, _<_}
 use native.Mathlib.Omega.{arith}
-use lib.Bits.{bitAnd, and-le-r}
 use lib.Dec.{eqb, ltb, leb}
 use lib.ListN.{length}
-use borrow.Author.Tests.{leb-true, leb-false, ltb-false, le-leb, eqb-true, not-false, eqb-false}
+use borrow.Author.Tests.{leb-true, leb-false, ltb-false, le-leb, not-false, eqb-false}
 use Rattle.wire.specs.Checks.{_if_, refusal, Passed, only}
 use Rattle.wire.proofs.CheckLaws.{passed}
 use Rattle.wire.specs.Codec.{Fit, Fits}
@@ -38,6 +37,7 @@ use Rattle.tables.specs.declared.Registration.{Registration}
 use Rattle.rules.proofs.Variants.{next-small}
 use Rattle.rules.specs.Control.{commandChecks, commandEffect, nextVariant, newVariant}
 use Rattle.rules.specs.Bytes.{commandBytes, emptyQueue, regionRow}
+use Rattle.commands.proofs.CaseLaws.{access-most}
 
 -- what a command that is done leaves of an accepted state
 pub record Kept (l : List ℕ) (q : Command) : Type 0 where
@@ -148,10 +148,7 @@ module _ (l : List ℕ) (ok : Accepted l) where
     below = leb-false mrCount n (tests .1 .1 .1 .1 .1 .0)
 
     access : g .access ≤ mostAccess
-    access =
-        let a : bitAnd (g .access) mostAccess ≡ g .access = eqb-true (bitAnd (g .access) mostAccess) (g .access) (not-false (only mostAccess (g .access)) (tests .0)) in
-        let b : bitAnd (g .access) mostAccess ≤ mostAccess = and-le-r (g .access) mostAccess in
-        omega arith
+    access = access-most (g .access) (not-false (only mostAccess (g .access)) (tests .0))
 
     domain : card l .pd (g .pd) ≡ true
     domain = not-false (card l .pd (g .pd)) (tests .1 .0)
@@ -191,7 +188,8 @@ module _ (l : List ℕ) (ok : Accepted l) where
 
     limits : regionOk (rowAt memoryT l 0) row ≡ true
     limits =
-        rw (le-leb (g .access) mostAccess access, le-leb 1 v (variant .0), le-leb 1 (g .length) size, le-leb (g .start + g .length) (rowAt memoryT l 0) inside, le-leb (g .virt + g .length) mostAddress space)
+        rw (le-leb (g .access) mostAccess access, le-leb 1 v (variant .0), le-leb 1 (g .length) size)
+        (rw (le-leb (g .start + g .length) (rowAt memoryT l 0) inside, le-leb (g .virt + g .length) mostAddress space))
 
     abbrev m : List ℕ
     m = putRow mrT l n row

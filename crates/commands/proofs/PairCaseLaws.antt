@@ -4,6 +4,7 @@ use mathlib.Core.Bool.{Bool, true, false, cond, not, _&&_, _||_, false≢true}
 use mathlib.Core.List.{List, [], _∷_}
 use mathlib.Core.Option.{some}
 use Prim.Native.Nat.{ℕ, _+_, _%_, _≤_, _<_}
+use native.Mathlib.Nat.{mod-eq-of-lt}
 use native.Mathlib.Omega.{arith}
 use lib.Dec.{eqb, leb}
 use borrow.Author.Tests.{le-leb, lt-leb, leb-false}
@@ -13,7 +14,7 @@ use Rattle.wire.specs.Table.{rowAt, putRow}
 use Rattle.tables.specs.Card.{cqLive, Qp}
 use Rattle.validate.specs.Accept.{isState}
 use Rattle.tables.specs.State.{card, pairAt}
-use Rattle.tables.specs.Layout.{qpFlagT, qpT, waitingT}
+use Rattle.tables.specs.Layout.{qpT, waitingT}
 use Rattle.tables.specs.Limits.{pdCount, cqCount, qpCount}
 use Rattle.tables.proofs.ObjectLaws.{pd-below, cq-below, qp-below, qp-flag, qp-row}
 use Rattle.tables.specs.Commands.{Command}
@@ -22,10 +23,10 @@ use Rattle.tables.specs.declared.Ack.the-variants as ack
 use Rattle.tables.specs.declared.CreateQp.{CreateQp}
 use Rattle.tables.specs.declared.ModifyQp.{ModifyQp}
 use Rattle.rules.specs.Control.{commandChecks, commandAck, isMove, stateBit, destBit}
-use Rattle.rules.specs.Bytes.{commandBytes, newPair, noneWait, movedPair, movedHead}
-use Rattle.commands.specs.Control.{Ran, createFine, createLive, modifyBad, lowPair}
+use Rattle.rules.specs.Bytes.{commandBytes, movedPair, movedHead}
+use Rattle.commands.specs.Control.{Ran, createFine, createLive, modifyBad}
 use Rattle.commands.specs.declared.Outcome.the-variants.{Refused, Done}
-use Rattle.commands.proofs.CaseLaws.{ran-refused, ran-done, low, over}
+use Rattle.commands.proofs.CaseLaws.{ran-refused, ran-done, over}
 
 module _ (l : List ℕ) where
   -- ---- create QP
@@ -34,7 +35,9 @@ module _ (l : List ℕ) where
         ≡ cond (createFine r) (cond (createLive (card l) r) (refusal (8 if leb qpCount (freeQpn (card l)) ∷ [])) (some 2)) (some 4)
     unfolding commandChecks
     create-tests =
-        rw (over 1 (r .signal)) (five (eqb (r .kind) 2) (leb (r .signal) 1) (card l .pd (r .pd)) (cqLive (card l) (r .scq)) (cqLive (card l) (r .rcq)) (8 if leb qpCount (freeQpn (card l)) ∷ []))
+        rw (over 1 (r .signal))
+        (five (eqb (r .kind) 2) (leb (r .signal) 1) (card l .pd (r .pd)) (cqLive (card l) (r .scq)) (cqLive (card l) (r .rcq))
+        (8 if leb qpCount (freeQpn (card l)) ∷ []))
       where
         five : (k s p x y : Bool) (cs : List Check) → refusal (4 if not k ∷ 4 if not s ∷ 2 if not p ∷ 2 if not x ∷ 2 if not y ∷ cs)
             ≡ cond (k && s) (cond (p && x && y) (refusal cs) (some 2)) (some 4)
@@ -56,25 +59,23 @@ module _ (l : List ℕ) where
         pub create-qp-full : qpCount ≤ n → Ran l (some (Command.createQp r)) (Refused 8) l
         create-qp-full h = ran-refused l (Command.createQp r) 8 (create-tests ∙ rw (good, live, le-leb qpCount (freeQpn (card l)) (omega arith)))
 
-        low-pair : lowPair r ≡ r
-        low-pair =
-            let p : Bool = card l .pd (r .pd) in
-            let x : Bool = cqLive (card l) (r .scq) in
-            let y : Bool = cqLive (card l) (r .rcq) in
-            let e : (p && x) ≡ true = and-left (p && x) y live in
-            let a : r .pd < pdCount = pd-below l (r .pd) (and-left p x e) in
-            let b : r .scq < cqCount = cq-below l (r .scq) (and-right p x e) in
-            let c : r .rcq < cqCount = cq-below l (r .rcq) (and-right (p && x) y live) in
-            rw (low (r .pd) (omega arith), low (r .scq) (omega arith), low (r .rcq) (omega arith))
-
-        pub create-qp-done : n < qpCount → (l′ : List ℕ) → l′ ≡ putRow qpFlagT (putRow qpT (putRow waitingT l n noneWait) n (newPair (lowPair r))) n 1
-            → Ran l (some (Command.createQp r)) (Done (ack.Number n)) l′
-        unfolding commandAck commandBytes
+        pub create-qp-done : n < qpCount → (l′ : List ℕ) → l′ ≡ commandBytes l (Command.createQp r) → Ran l (some (Command.createQp r)) (Done (ack.Number n)) l′
+        unfolding commandAck
         create-qp-done h l′ s =
             ran-done l (Command.createQp r) (create-tests ∙ rw (good, live, lt-leb qpCount (freeQpn (card l)) (omega arith))) (Done (ack.Number n)) l′
-            (ap (λ (x : ℕ). Done (ack.Number x)) is)
-            (s ∙ ap (λ (x : CreateQp). putRow qpFlagT (putRow qpT (putRow waitingT l n noneWait) n (newPair x)) n 1) low-pair
-            ∙ ap (λ (x : ℕ). putRow qpFlagT (putRow qpT (putRow waitingT l x noneWait) x (newPair r)) x 1) is)
+            (ap (λ (x : ℕ). Done (ack.Number x)) is) s
+
+    -- the numbers that a new queue pair names
+    pub create-small : createLive (card l) r ≡ true → (r .pd < 256) × (r .scq < 256) × (r .rcq < 256)
+    create-small live =
+        let p : Bool = card l .pd (r .pd) in
+        let x : Bool = cqLive (card l) (r .scq) in
+        let y : Bool = cqLive (card l) (r .rcq) in
+        let e : (p && x) ≡ true = and-left (p && x) y live in
+        let a : r .pd < pdCount = pd-below l (r .pd) (and-left p x e) in
+        let b : r .scq < cqCount = cq-below l (r .scq) (and-right p x e) in
+        let c : r .rcq < cqCount = cq-below l (r .rcq) (and-right (p && x) y live) in
+        (omega arith, omega arith, omega arith)
 
   -- ---- modify QP
   module _ (r : ModifyQp) where
@@ -128,21 +129,26 @@ module _ (l : List ℕ) where
         pub modify-stays : isMove (rowAt qpT l q .state) (r .state) ≡ false → Ran l (some (Command.modifyQp r)) (Refused 3) l
         modify-stays e = ran-refused l (Command.modifyQp r) 3 (modify-tests ∙ rw (good, live, state-is, e))
 
-        -- a destination is named where it is stored
-        low-dest : (x : ℕ) → cond (eqb (r .state) 2) (r .dest % 256) x ≡ cond (eqb (r .state) 2) (r .dest) x
-        low-dest x =
-            go (has destBit (r .mask)) (eqb (r .state) 2)
-            (or-right early unnamed (or-left (early || unnamed) misnamed good)) (or-right (early || unnamed) misnamed good)
-          where
-            go : (d t : Bool) → (not d && t) ≡ false → (d && (leb qpCount (r .dest) || eqb (r .dest) q)) ≡ false → cond t (r .dest % 256) x ≡ cond t (r .dest) x
-            go d false e f = refl
-            go false true e f = absurd (false≢true (sym e))
-            go true true e f =
-                let h : r .dest < qpCount = leb-false qpCount (r .dest) (or-left (leb qpCount (r .dest)) (eqb (r .dest) q) f) in low (r .dest) (omega arith)
-
-        pub modify-done : isMove (rowAt qpT l q .state) (r .state) ≡ true → (l′ : List ℕ)
-            → l′ ≡ putRow waitingT (putRow qpT l q (movedPair (rowAt qpT l q) (r .state) (r .dest % 256))) q (movedHead (rowAt waitingT l q) (r .state))
+        pub modify-done : isMove (rowAt qpT l q .state) (r .state) ≡ true → (l′ : List ℕ) → l′ ≡ commandBytes l (Command.modifyQp r)
             → Ran l (some (Command.modifyQp r)) (Done ack.Done) l′
-        unfolding commandAck commandBytes
-        modify-done e l′ s =
-            ran-done l (Command.modifyQp r) (modify-tests ∙ rw (good, live, state-is, e)) (Done ack.Done) l′ refl (s ∙ rw (low-dest (rowAt qpT l q .dest)))
+        unfolding commandAck
+        modify-done e l′ s = ran-done l (Command.modifyQp r) (modify-tests ∙ rw (good, live, state-is, e)) (Done ack.Done) l′ refl s
+
+      -- a destination is named where it is stored
+      low-dest : (x : ℕ) → cond (eqb (r .state) 2) (r .dest % 256) x ≡ cond (eqb (r .state) 2) (r .dest) x
+      low-dest x =
+          go (has destBit (r .mask)) (eqb (r .state) 2)
+          (or-right early unnamed (or-left (early || unnamed) misnamed good)) (or-right (early || unnamed) misnamed good)
+        where
+          go : (d t : Bool) → (not d && t) ≡ false → (d && (leb qpCount (r .dest) || eqb (r .dest) q)) ≡ false
+              → cond t (r .dest % 256) x ≡ cond t (r .dest) x
+          go d false e f = refl
+          go false true e f = absurd (false≢true (sym e))
+          go true true e f =
+              let h : r .dest < qpCount = leb-false qpCount (r .dest) (or-left (leb qpCount (r .dest)) (eqb (r .dest) q) f) in
+              mod-eq-of-lt (omega arith)
+
+      pub modify-bytes : putRow waitingT (putRow qpT l q (movedPair (rowAt qpT l q) (r .state) (r .dest % 256))) q (movedHead (rowAt waitingT l q) (r .state))
+          ≡ commandBytes l (Command.modifyQp r)
+      unfolding commandBytes
+      modify-bytes = rw (low-dest (rowAt qpT l q .dest))

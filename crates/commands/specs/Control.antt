@@ -4,7 +4,7 @@ use mathlib.Core.Path.{_≡_}
 use mathlib.Core.Bool.{Bool, true, false, cond, not, _&&_, _||_}
 use mathlib.Core.List.{List, [], _∷_, _++_}
 use mathlib.Core.Option.{Option, none, some}
-use Prim.Native.Nat.{ℕ, _+_, _%_}
+use Prim.Native.Nat.{ℕ, _+_}
 use lib.Dec.{eqb, leb}
 use lib.ListN.{length}
 use Rattle.wire.specs.Checks.{Check, _if_, refusal, has, only}
@@ -88,6 +88,13 @@ numberChecks c k =
 abbrev pub classChecks : Card → List ℕ → List Check
 classChecks c k = headChecks k ++ numberChecks c k
 
+-- the command that the bytes k are, from its number on, and from its length on
+abbrev pub Chosen : (l k : List ℕ) → Outcome → (l′ : List ℕ) → Type 0
+Chosen l k r l′ = Ends (numberChecks (card l) k) l (commandOf k) r l′
+
+abbrev pub Classed : (l k : List ℕ) → Outcome → (l′ : List ℕ) → Type 0
+Classed l k r l′ = Ends (classChecks (card l) k) l (commandOf k) r l′
+
 -- ---- the command that its data makes; none where the data has not its length
 
 abbrev pub numbered : (ℕ → Command) → NumberRead → Option Command
@@ -156,11 +163,3 @@ modifyBad r =
     || (has destBit (r .mask) && not (eqb (r .state) 2))
     || (not (has destBit (r .mask)) && eqb (r .state) 2)
     || (has destBit (r .mask) && (leb qpCount (r .dest) || eqb (r .dest) (r .qpn)))
-
--- ---- numbers of 32 bits cut to the low byte that is stored
-
-abbrev pub lowPair : CreateQp → CreateQp
-lowPair r = record { pd = r .pd % 256; kind = r .kind; signal = r .signal; scq = r .scq % 256; rcq = r .rcq % 256 }
-
-abbrev pub lowRegistration : Registration → Registration
-lowRegistration g = record { pd = g .pd % 256; access = g .access % 256; start = g .start; length = g .length; virt = g .virt }

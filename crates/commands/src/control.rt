@@ -37,19 +37,22 @@ ghost use lib.Dec.{leb};
 ghost use lib.ListN.{length};
 ghost use Rattle.wire.specs.Checks.{only};
 ghost use Rattle.wire.specs.Le.{leAt};
-ghost use Rattle.wire.specs.Table.{rowAt, putRow};
-ghost use Rattle.validate.specs.Accept.{accepts};
+ghost use Rattle.validate.specs.Search.{freeCqn, freeMrn};
 ghost use Rattle.tables.specs.State.{card};
-ghost use Rattle.tables.specs.Layout.{stateSize, mrFlagT, mrT};
-ghost use Rattle.tables.specs.Limits.{mrCount, mostPlaces, mostAccess};
-ghost use Rattle.tables.specs.Commands.{Command, commandOf};
+ghost use Rattle.tables.specs.Layout.{stateSize};
+ghost use Rattle.tables.specs.Limits.{cqCount, mrCount, mostPlaces, mostAccess};
+ghost use Rattle.tables.specs.Commands.{Command};
+ghost use Rattle.rules.specs.Bytes.{commandBytes};
 ghost use Rattle.rules.specs.Call.{Call};
-ghost use Rattle.rules.specs.Control.{nextVariant};
-ghost use Rattle.rules.specs.Bytes.{regionRow};
-ghost use Rattle.commands.specs.Control.{Ran, Ends, numbered, registering, bare, numberChecks, classChecks, inRange, lowRegistration, outcomeAck, outcomeAnswer};
 ghost use Rattle.rules.specs.Contract.{Owes};
+ghost use Rattle.rules.specs.Control.{nextVariant, newVariant};
+ghost use Rattle.rules.specs.Permit.{keyOf};
+ghost use Rattle.commands.specs.Control.{Ran, Chosen, Classed, numbered, registering, bare, inRange, outcomeAck, outcomeAnswer};
 
 const ACK_LEAST: usize = 13;
+
+// The class byte and the command byte.
+const HEAD_SIZE: usize = 2;
 
 // The command numbers of document 01's table.
 const CREATE_CQ: u8 = 2;
@@ -79,8 +82,22 @@ fn places_fine(n: u32) -> bool
     (1 <= n) & (places <= MOST_PLACES)
 }
 
-pub fn create_cq(state: &mut [u8], read: NumberRead) -> Outcome
-    requires { ⌜ (accepts (now state) ≡ true) × (length (now state) ≡ stateSize) ⌝ }
+// The free number n is a completion queue with no completion.
+fn put_queue(state: &mut [u8], n: usize, places: u8)
+    requires { ⌜ (n < cqCount) × (length (now state) ≡ stateSize) × (n ≡ freeCqn (card (now state))) ⌝ }
+    ensures { λ _. ⌜ now (state .exit) ≡ commandBytes (now (state .entry)) (Command.createCq places) ⌝ }
+{
+    let head = QueueHead {
+        places: places,
+        first: 0,
+        count: 0,
+    };
+    rows::store_cq(state, n, head);
+    rows::store_cq_flag(state, n, 1);
+}
+
+fn create_cq(state: &mut [u8], read: NumberRead) -> Outcome
+    requires { ⌜ length (now state) ≡ stateSize ⌝ }
     ensures { λ r. ⌜ Ran (now (state .entry)) (numbered Command.createCq read) r (now (state .exit)) ⌝ }
 {
     let NumberRead::Value(places) = read else {
@@ -93,23 +110,17 @@ pub fn create_cq(state: &mut [u8], read: NumberRead) -> Outcome
     if CQ_COUNT <= n {
         return Outcome::Refused(FULL);
     }
-    let head = QueueHead {
-        places: (places % 256) as u8,
-        first: 0,
-        count: 0,
-    };
-    rows::store_cq(state, n, head);
-    rows::store_cq_flag(state, n, 1);
+    put_queue(state, n, places as u8);
     Outcome::Done(Ack::Number(n as u32))
 }
 
 // ---- domains
 
-pub fn create_pd(state: &mut [u8], command: &[u8]) -> Outcome
-    requires { ⌜ (accepts (now state) ≡ true) × (length (now state) ≡ stateSize) ⌝ }
+fn create_pd(state: &mut [u8], command: &[u8]) -> Outcome
+    requires { ⌜ length (now state) ≡ stateSize ⌝ }
     ensures { λ r. ⌜ Ran (now (state .entry)) (bare Command.createPd (now (command .entry))) r (now (state .exit)) ⌝ }
 {
-    if command.len() != 2 {
+    if command.len() != HEAD_SIZE {
         return Outcome::Refused(WRONG_LENGTH);
     }
     let n = find::free_pdn(state);
@@ -137,25 +148,38 @@ fn in_range(memory: u64, g: Registration) -> bool
     !(g.length == 0) & in_memory & in_space
 }
 
+// The variants of a slot's keys.
+const FIRST_VARIANT: u8 = 1;
+
+const LAST_VARIANT: u8 = 255;
+
 fn next_variant(v: u8) -> u8
     ensures { λ r. ⌜ r ≡ nextVariant v ⌝ }
 {
-    if 255 <= v {
-        return 1;
+    if LAST_VARIANT <= v {
+        return FIRST_VARIANT;
     }
     v + 1
 }
 
-// Slot n holds the region under the slot's next variant, which is returned.
+fn key_of(n: usize, variant: u8) -> u32
+    requires { ⌜ n < mrCount ⌝ }
+    ensures { λ r. ⌜ r ≡ keyOf n variant ⌝ }
+{
+    256 * (n as u32) + variant as u32
+}
+
+// The free slot n holds the region under the slot's next variant, which is returned.
 fn put_region(state: &mut [u8], n: usize, g: Registration) -> u8
-    requires { ⌜ (n < mrCount) × (length (now state) ≡ stateSize) ⌝ }
-    ensures { λ r. ⌜ (r ≡ nextVariant (rowAt mrT (now (state .entry)) n .variant)) × (now (state .exit) ≡ putRow mrFlagT (putRow mrT (now (state .entry)) n (regionRow (lowRegistration g) r)) n 1) ⌝ }
+    requires { ⌜ (n < mrCount) × (length (now state) ≡ stateSize) × (n ≡ freeMrn (card (now state)))
+        × (only mostAccess (g .access) ≡ true) × (card (now state) .pd (g .pd) ≡ true) ⌝ }
+    ensures { λ r. ⌜ (r ≡ newVariant (card (now (state .entry)))) × (now (state .exit) ≡ commandBytes (now (state .entry)) (Command.register g)) ⌝ }
 {
     let variant = next_variant(rows::load_mr(state, n).variant);
     let row = Region {
-        access: (g.access % 256) as u8,
+        access: g.access as u8,
         variant: variant,
-        pd: (g.pd % 256) as u8,
+        pd: g.pd as u8,
         start: g.start,
         length: g.length,
         virt: g.virt,
@@ -165,8 +189,8 @@ fn put_region(state: &mut [u8], n: usize, g: Registration) -> u8
     variant
 }
 
-pub fn register(state: &mut [u8], read: RegisterRead) -> Outcome
-    requires { ⌜ (accepts (now state) ≡ true) × (length (now state) ≡ stateSize) ⌝ }
+fn register(state: &mut [u8], read: RegisterRead) -> Outcome
+    requires { ⌜ length (now state) ≡ stateSize ⌝ }
     ensures { λ r. ⌜ Ran (now (state .entry)) (registering read) r (now (state .exit)) ⌝ }
 {
     let RegisterRead::Value(g) = read else {
@@ -186,15 +210,15 @@ pub fn register(state: &mut [u8], read: RegisterRead) -> Outcome
         return Outcome::Refused(FULL);
     }
     let variant = put_region(state, n, g);
-    Outcome::Done(Ack::Keys(n as u32, 256 * (n as u32) + variant as u32))
+    Outcome::Done(Ack::Keys(n as u32, key_of(n, variant)))
 }
 
 // ---- any command
 
 // The command number chooses the reader and the rules.
 fn run(state: &mut [u8], command: &[u8], number: u8) -> Outcome
-    requires { ⌜ (accepts (now state) ≡ true) × (length (now state) ≡ stateSize) × (number ≡ leAt 1 (now command) 1) ⌝ }
-    ensures { λ r. ⌜ Ends (numberChecks (card (now (state .entry))) (now (command .entry))) (now (state .entry)) (commandOf (now (command .entry))) r (now (state .exit)) ⌝ }
+    requires { ⌜ (length (now state) ≡ stateSize) × (number ≡ leAt 1 (now command) 1) ⌝ }
+    ensures { λ r. ⌜ Chosen (now (state .entry)) (now (command .entry)) r (now (state .exit)) ⌝ }
 {
     match number {
         CREATE_CQ => create_cq(state, records::read_number(command)),
@@ -211,8 +235,8 @@ fn run(state: &mut [u8], command: &[u8], number: u8) -> Outcome
 }
 
 fn dispatch(state: &mut [u8], command: &[u8]) -> Outcome
-    requires { ⌜ (accepts (now state) ≡ true) × (length (now state) ≡ stateSize) ⌝ }
-    ensures { λ r. ⌜ Ends (classChecks (card (now (state .entry))) (now (command .entry))) (now (state .entry)) (commandOf (now (command .entry))) r (now (state .exit)) ⌝ }
+    requires { ⌜ length (now state) ≡ stateSize ⌝ }
+    ensures { λ r. ⌜ Classed (now (state .entry)) (now (command .entry)) r (now (state .exit)) ⌝ }
 {
     match records::read_head(command) {
         HeadRead::Number(n) => run(state, command, n),

@@ -22,18 +22,17 @@ use tables::rows;
 use validate::accept;
 use validate::find;
 ghost use mathlib.Core.Path.{_≡_};
-ghost use mathlib.Core.Bool.{true};
+ghost use mathlib.Core.Bool.{true, false};
 ghost use Prim.Native.Nat.{_<_};
 ghost use lib.ListN.{length};
-ghost use Rattle.wire.specs.Table.{rowAt, putRow};
-ghost use Rattle.validate.specs.Accept.{accepts};
+ghost use Rattle.validate.specs.Search.{freeQpn};
 ghost use Rattle.tables.specs.State.{card};
-ghost use Rattle.tables.specs.Layout.{stateSize, qpFlagT, qpT, waitingT};
+ghost use Rattle.tables.specs.Layout.{stateSize};
 ghost use Rattle.tables.specs.Limits.{qpCount};
 ghost use Rattle.tables.specs.Commands.{Command};
+ghost use Rattle.rules.specs.Bytes.{commandBytes, newPair, movedPair, movedHead};
 ghost use Rattle.rules.specs.Control.{isMove};
-ghost use Rattle.rules.specs.Bytes.{newPair, noneWait, movedPair, movedHead};
-ghost use Rattle.commands.specs.Control.{Ran, creating, modifying, createFine, createLive, modifyBad, lowPair};
+ghost use Rattle.commands.specs.Control.{Ran, creating, modifying, createFine, createLive, modifyBad};
 
 // The attribute mask of modify QP: the state, and the destination.
 const STATE_BIT: u32 = 1;
@@ -62,22 +61,23 @@ fn create_live(state: &[u8], r: CreateQp) -> bool
 }
 
 fn new_pair(r: CreateQp) -> QueuePair
-    ensures { λ p. ⌜ p ≡ newPair (lowPair r) ⌝ }
+    requires { ⌜ (r .pd < 256) × (r .scq < 256) × (r .rcq < 256) ⌝ }
+    ensures { λ p. ⌜ p ≡ newPair r ⌝ }
 {
     QueuePair {
-        pd: (r.pd % 256) as u8,
+        pd: r.pd as u8,
         signal: r.signal,
-        scq: (r.scq % 256) as u8,
-        rcq: (r.rcq % 256) as u8,
+        scq: r.scq as u8,
+        rcq: r.rcq as u8,
         state: RESET,
         dest: NO_DEST,
     }
 }
 
-// Number n is a new queue pair, on which no receive waits.
+// The free number n is a new queue pair, on which no receive waits.
 fn put_pair(state: &mut [u8], n: usize, r: CreateQp)
-    requires { ⌜ (n < qpCount) × (length (now state) ≡ stateSize) ⌝ }
-    ensures { λ _. ⌜ now (state .exit) ≡ putRow qpFlagT (putRow qpT (putRow waitingT (now (state .entry)) n noneWait) n (newPair (lowPair r))) n 1 ⌝ }
+    requires { ⌜ (n < qpCount) × (length (now state) ≡ stateSize) × (n ≡ freeQpn (card (now state))) × (createLive (card (now state)) r ≡ true) ⌝ }
+    ensures { λ _. ⌜ now (state .exit) ≡ commandBytes (now (state .entry)) (Command.createQp r) ⌝ }
 {
     let head = WaitingHead { first: 0, count: 0 };
     rows::store_waiting(state, n, head);
@@ -86,7 +86,7 @@ fn put_pair(state: &mut [u8], n: usize, r: CreateQp)
 }
 
 pub fn create_qp(state: &mut [u8], read: CreateQpRead) -> Outcome
-    requires { ⌜ (accepts (now state) ≡ true) × (length (now state) ≡ stateSize) ⌝ }
+    requires { ⌜ length (now state) ≡ stateSize ⌝ }
     ensures { λ r. ⌜ Ran (now (state .entry)) (creating read) r (now (state .exit)) ⌝ }
 {
     let CreateQpRead::Value(r) = read else {
@@ -154,19 +154,20 @@ fn moved_head(h: WaitingHead, to: u8) -> WaitingHead
     r
 }
 
-// Queue pair n in the state that it moves to; a move to 0 drops its receives and its destination.
-fn move_pair(state: &mut [u8], n: usize, to: u8, dest: u8)
-    requires { ⌜ (n < qpCount) × (length (now state) ≡ stateSize) ⌝ }
-    ensures { λ _. ⌜ now (state .exit) ≡ putRow waitingT (putRow qpT (now (state .entry)) n (movedPair (rowAt qpT (now (state .entry)) n) to dest)) n (movedHead (rowAt waitingT (now (state .entry)) n) to) ⌝ }
+// The live queue pair in the state that it moves to; a move to 0 drops its receives and its destination.
+fn move_pair(state: &mut [u8], r: ModifyQp)
+    requires { ⌜ (r .qpn < qpCount) × (length (now state) ≡ stateSize) × (modifyBad r ≡ false) ⌝ }
+    ensures { λ _. ⌜ now (state .exit) ≡ commandBytes (now (state .entry)) (Command.modifyQp r) ⌝ }
 {
+    let n = r.qpn as usize;
     let p = rows::load_qp(state, n);
     let h = rows::load_waiting(state, n);
-    rows::store_qp(state, n, moved_pair(p, to, dest));
-    rows::store_waiting(state, n, moved_head(h, to));
+    rows::store_qp(state, n, moved_pair(p, r.state, (r.dest % 256) as u8));
+    rows::store_waiting(state, n, moved_head(h, r.state));
 }
 
 pub fn modify_qp(state: &mut [u8], read: ModifyQpRead) -> Outcome
-    requires { ⌜ (accepts (now state) ≡ true) × (length (now state) ≡ stateSize) ⌝ }
+    requires { ⌜ length (now state) ≡ stateSize ⌝ }
     ensures { λ r. ⌜ Ran (now (state .entry)) (modifying read) r (now (state .exit)) ⌝ }
 {
     let ModifyQpRead::Value(r) = read else {
@@ -178,11 +179,10 @@ pub fn modify_qp(state: &mut [u8], read: ModifyQpRead) -> Outcome
     if !qp_live(state, r.qpn) {
         return Outcome::Refused(NOT_LIVE);
     }
-    let n = r.qpn as usize;
-    let p = rows::load_qp(state, n);
+    let p = rows::load_qp(state, r.qpn as usize);
     if !is_move(p.state, r.state) {
         return Outcome::Refused(WRONG_MOVE);
     }
-    move_pair(state, n, r.state, (r.dest % 256) as u8);
+    move_pair(state, r);
     Outcome::Done(Ack::Done)
 }

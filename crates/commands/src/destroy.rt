@@ -14,7 +14,6 @@ use validate::find;
 ghost use mathlib.Core.Path.{_≡_};
 ghost use mathlib.Core.Bool.{true};
 ghost use lib.ListN.{length};
-ghost use Rattle.validate.specs.Accept.{accepts};
 ghost use Rattle.tables.specs.State.{card};
 ghost use Rattle.tables.specs.Layout.{stateSize};
 ghost use Rattle.rules.specs.Bytes.{commandBytes};
@@ -84,7 +83,7 @@ fn clear(state: &mut [u8], kind: Kind, n: u32)
 }
 
 pub fn destroy(state: &mut [u8], kind: Kind, read: NumberRead) -> Outcome
-    requires { ⌜ (accepts (now state) ≡ true) × (length (now state) ≡ stateSize) ⌝ }
+    requires { ⌜ length (now state) ≡ stateSize ⌝ }
     ensures { λ r. ⌜ Ran (now (state .entry)) (numbered (destroyOf kind) read) r (now (state .exit)) ⌝ }
 {
     let NumberRead::Value(n) = read else {

@@ -1,8 +1,6 @@
 use borrow.Author.Needs.{needs}
 use Rattle.commands.proofs.control.answer_of.Statement.{statement}
 use Rattle.commands.proofs.control.answer_of.Tie as tie
-use Rattle.commands.proofs.control.answer_of.Reads as reads
-use Rattle.commands.proofs.control.answer_of.Lts as lts
 
 enum-known-o : tie.Need-enum-known-o
 enum-known-o c = search needs

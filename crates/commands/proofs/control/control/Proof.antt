@@ -1,20 +1,9 @@
-use denote.Ref.{now}
-use borrow.Author.Tests.{not-true, not-false}
-use mathlib.Core.Path.{_≡_, sym, _∙_}
-use mathlib.Core.Bool.{true}
-use Rattle.validate.specs.Accept.{accepts}
+use Rattle.commands.proofs.CaseLaws.{passes, fails}
 use Rattle.validate.proofs.AcceptedLaws.{accepted}
 use Rattle.commands.proofs.CallLaws.{control-state, control-short, control-done}
 use borrow.Author.Needs.{needs}
 use Rattle.commands.proofs.control.control.Statement.{statement}
 use Rattle.commands.proofs.control.control.Tie as tie
-use Rattle.commands.proofs.control.control.Reads as reads
-use Rattle.commands.proofs.control.control.Lts as lts
-use Rattle.commands.proofs.control.ack_of.Reads as ack-of-reads
-use Rattle.commands.proofs.control.answer_of.Reads as answer-of-reads
-use Rattle.commands.proofs.control.dispatch.Reads as dispatch-reads
-use Rattle.tables.proofs.records.write_ack.Reads as write-ack-reads
-use Rattle.validate.proofs.accept.accepted.Reads as accepted-reads
 
 accepted-requires : tie.Need-accepted-requires
 accepted-requires c κs = search needs
@@ -23,18 +12,18 @@ same-length : tie.Need-same-length
 same-length c = search needs
 
 returns : tie.Need-returns
-returns c = control-state _ _ _ (sym (c .before .accepted .ensures) ∙ not-true _ (c .if1 .taken))
+returns c = control-state _ _ _ (fails (c .before .accepted .ensures) (c .if1 .taken))
 
 same-length-2 : tie.Need-same-length-2
 same-length-2 c = search needs
 
 returns-2 : tie.Need-returns-2
-returns-2 c = control-short _ _ _ (sym (c .before .before .accepted .ensures) ∙ not-false _ (c .before .if1 .left)) (c .if2 .taken)
+returns-2 c = let good = c .before in control-short _ _ _ (passes (good .before .accepted .ensures) (good .if1 .left)) (c .if2 .taken)
 
 dispatch-requires : tie.Need-dispatch-requires
 dispatch-requires c κs =
-    let e : accepts (now (c .before .before .before .before .before .before .before .before .args .state)) ≡ true = sym (c .before .before .before .accepted .ensures) ∙ not-false _ (c .before .before .if1 .left) in
-    (e, accepted _ e .sized)
+    let good = c .before .before in
+    accepted _ (passes (good .before .accepted .ensures) (good .if1 .left)) .sized
 
 ack-of-requires : tie.Need-ack-of-requires
 ack-of-requires c κs = search needs
@@ -52,7 +41,12 @@ same-length-4 : tie.Need-same-length-4
 same-length-4 c = search needs
 
 returns-3 : tie.Need-returns-3
-returns-3 c = control-done _ _ _ (sym (c .before .before .before .before .before .before .before .before .before .before .before .before .accepted .ensures) ∙ not-false _ (c .before .before .before .before .before .before .before .before .before .before .before .if1 .left)) (c .before .before .before .before .before .before .before .before .before .before .if2 .left) (c .before .before .before .before .before .before .before .before .dispatch .result) _ (c .before .before .before .before .before .before .before .before .dispatch .ensures) _ (c .before .before .before .before .ack-of .ensures) _ (c .answer-of .ensures) _ (c .before .before .before .write-ack .ensures)
+returns-3 c =
+    let done = c .before .before .before .before .before .before .before .before in
+    let room = done .before .before in
+    let good = room .before in
+    control-done _ _ _ (passes (good .before .accepted .ensures) (good .if1 .left)) (room .if2 .left) (done .dispatch .result) _
+    (done .dispatch .ensures) _ (c .before .before .before .before .ack-of .ensures) _ (c .answer-of .ensures) _ (c .before .before .before .write-ack .ensures)
 
 pub control-spec : {M : Type 1} → statement M
 control-spec =

@@ -1,16 +1,8 @@
-use Rattle.commands.proofs.CaseLaws.{ran-wrong}
-use borrow.Author.Tests.{not-true, not-false}
-use mathlib.Core.Path.{sym, _∙_}
-use Rattle.commands.proofs.CaseLaws.{create-cq-fields, create-cq-full, create-cq-done}
+use native.Mathlib.Omega.{arith}
+use Rattle.commands.proofs.CaseLaws.{ran-wrong, create-cq-fields, places-small, create-cq-full, create-cq-done, passes, fails}
 use borrow.Author.Needs.{needs}
 use Rattle.commands.proofs.control.create_cq.Statement.{statement}
 use Rattle.commands.proofs.control.create_cq.Tie as tie
-use Rattle.commands.proofs.control.create_cq.Reads as reads
-use Rattle.commands.proofs.control.create_cq.Lts as lts
-use Rattle.commands.proofs.control.places_fine.Reads as places-fine-reads
-use Rattle.tables.proofs.rows.store_cq.Reads as store-cq-reads
-use Rattle.tables.proofs.rows.store_cq_flag.Reads as store-cq-flag-reads
-use Rattle.validate.proofs.find.free_cqn.Reads as free-cqn-reads
 
 enum-known-read : tie.Need-enum-known-read
 enum-known-read c = search needs
@@ -25,9 +17,7 @@ places-fine-requires : tie.Need-places-fine-requires
 places-fine-requires c κs = search needs
 
 returns-2 : tie.Need-returns-2
-returns-2 c =
-    rw (c .before .before .before .read .given .1)
-    (create-cq-fields _ _ (sym (c .before .places-fine .ensures) ∙ not-true _ (c .if1 .taken)))
+returns-2 c = rw (c .before .before .before .read .given .1) (create-cq-fields _ _ (fails (c .before .places-fine .ensures) (c .if1 .taken)))
 
 free-cqn-requires : tie.Need-free-cqn-requires
 free-cqn-requires c κs = search needs
@@ -37,29 +27,31 @@ same-length c = search needs
 
 returns-3 : tie.Need-returns-3
 returns-3 c =
-    rw (c .before .before .before .before .before .before .read .given .1)
-    (create-cq-full _ _ (sym (c .before .before .before .before .places-fine .ensures) ∙ not-false _ (c .before .before .before .if1 .left)) (c .before .free-cqn .result) (c .before .free-cqn .ensures) (c .if2 .taken))
+    let fine = c .before .before .before in
+    rw (fine .before .before .before .read .given .1)
+    (create-cq-full _ _ (passes (fine .before .places-fine .ensures) (fine .if1 .left)) _ (c .before .free-cqn .ensures) (c .if2 .taken))
 
-cast-t11 : tie.Need-cast-t11
-cast-t11 c = search needs
+cast-put-queue : tie.Need-cast-put-queue
+cast-put-queue c =
+    let fine = c .before .before .before .before in
+    omega (arith, places-small (fine .before .before .before .read .given .0 .0) (passes (fine .before .places-fine .ensures) (fine .if1 .left)))
 
-store-cq-requires : tie.Need-store-cq-requires
-store-cq-requires c κs = search needs
+put-queue-requires : tie.Need-put-queue-requires
+put-queue-requires c κs = search needs
 
-store-cq-flag-requires : tie.Need-store-cq-flag-requires
-store-cq-flag-requires c κs = search needs
-
-cast-t10 : tie.Need-cast-t10
-cast-t10 c = search needs
+cast-t13 : tie.Need-cast-t13
+cast-t13 c = search needs
 
 same-length-2 : tie.Need-same-length-2
 same-length-2 c = search needs
 
 returns-4 : tie.Need-returns-4
 returns-4 c =
-    rw (c .before .before .before .before .before .before .before .before .before .before .before .before .before .before .read .given .1)
-    (create-cq-done _ _ (sym (c .before .before .before .before .before .before .before .before .before .before .before .before .places-fine .ensures) ∙ not-false _ (c .before .before .before .before .before .before .before .before .before .before .before .if1 .left)) (c .before .before .before .before .before .before .before .before .before .free-cqn .result) (c .before .before .before .before .before .before .before .before .before .free-cqn .ensures)
-    (c .before .before .before .before .before .before .before .before .if2 .left) _ (rw (c .before .before .store-cq-flag .ensures, c .before .before .before .before .before .before .store-cq .ensures)))
+    let room = c .before .before .before .before in
+    let fine = room .before .before .before in
+    rw (fine .before .before .before .read .given .1)
+    (create-cq-done _ _ (passes (fine .before .places-fine .ensures) (fine .if1 .left)) _ (room .before .free-cqn .ensures) (room .if2 .left) _
+    (c .before .before .put-queue .ensures))
 
 pub create-cq-spec : {M : Type 1} → statement M
 create-cq-spec =
@@ -73,9 +65,8 @@ create-cq-spec =
     free-cqn-requires
     same-length
     returns-3
-    cast-t11
-    store-cq-requires
-    store-cq-flag-requires
-    cast-t10
+    cast-put-queue
+    put-queue-requires
+    cast-t13
     same-length-2
     returns-4)

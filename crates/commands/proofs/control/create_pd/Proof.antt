@@ -4,13 +4,9 @@ use Rattle.commands.proofs.CaseLaws.{bare-wrong, bare-right, create-pd-
 use borrow.Author.Needs.{needs}
 use Rattle.commands.proofs.control.create_pd.Statement.{statement}
 use Rattle.commands.proofs.control.create_pd.Tie as tie
-use Rattle.commands.proofs.control.create_pd.Reads as reads
-use Rattle.commands.proofs.control.create_pd.Lts as lts
-use Rattle.tables.proofs.rows.store_pd_flag.Reads as store-pd-flag-reads
-use Rattle.validate.proofs.find.free_pdn.Reads as free-pdn-reads
 
 returns : tie.Need-returns
-returns c = bare-wrong (now (c .before .before .before .args .state)) (now (c .before .before .before .args .command)) Command.createPd (c .if1 .taken)
+returns c = let s = c .before .before .before in bare-wrong (now (s .args .state)) (now (s .args .command)) Command.createPd (c .if1 .taken)
 
 free-pdn-requires : tie.Need-free-pdn-requires
 free-pdn-requires c κs = search needs
@@ -20,7 +16,9 @@ same-length c = search needs
 
 returns-2 : tie.Need-returns-2
 returns-2 c =
-    rw (bare-right (now (c .before .before .before .before .before .before .args .state)) (now (c .before .before .before .before .before .before .args .command)) Command.createPd (c .before .before .before .if1 .left))
+    let right = c .before .before .before in
+    let s = right .before .before .before in
+    rw (bare-right (now (s .args .state)) (now (s .args .command)) Command.createPd (right .if1 .left))
     (create-pd-full _ (c .before .free-pdn .result) (c .before .free-pdn .ensures) (c .if2 .taken))
 
 store-pd-flag-requires : tie.Need-store-pd-flag-requires
@@ -34,8 +32,11 @@ same-length-2 c = search needs
 
 returns-3 : tie.Need-returns-3
 returns-3 c =
-    rw (bare-right (now (c .before .before .before .before .before .before .before .before .before .before .args .state)) (now (c .before .before .before .before .before .before .before .before .before .before .args .command)) Command.createPd (c .before .before .before .before .before .before .before .if1 .left))
-    (create-pd-done _ (c .before .before .before .before .before .free-pdn .result) (c .before .before .before .before .before .free-pdn .ensures) (c .before .before .before .before .if2 .left) _ (c .before .before .store-pd-flag .ensures))
+    let room = c .before .before .before .before in
+    let right = room .before .before .before in
+    let s = right .before .before .before in
+    rw (bare-right (now (s .args .state)) (now (s .args .command)) Command.createPd (right .if1 .left))
+    (create-pd-done _ (room .before .free-pdn .result) (room .before .free-pdn .ensures) (room .if2 .left) _ (c .before .before .store-pd-flag .ensures))
 
 pub create-pd-spec : {M : Type 1} → statement M
 create-pd-spec =

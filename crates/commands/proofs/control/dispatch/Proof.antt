@@ -8,10 +8,6 @@ use Rattle.commands.proofs.CallLaws.{dispatch-stopped, dispatch-passed}
 use borrow.Author.Needs.{needs}
 use Rattle.commands.proofs.control.dispatch.Statement.{statement}
 use Rattle.commands.proofs.control.dispatch.Tie as tie
-use Rattle.commands.proofs.control.dispatch.Reads as reads
-use Rattle.commands.proofs.control.dispatch.Lts as lts
-use Rattle.commands.proofs.control.run.Reads as run-reads
-use Rattle.tables.proofs.records.read_head.Reads as read-head-reads
 
 read-head-requires : tie.Need-read-head-requires
 read-head-requires c κs = search needs
@@ -21,9 +17,10 @@ enum-known-n c = search needs
 
 run-requires : tie.Need-run-requires
 run-requires c κs =
-    let a = c .before .before .before .before .before .before .before in
-    let k = now (a .args .command) in
-    (a .pre .0, a .pre .1, sym (head-number (refusal (headChecks k)) (leAt 1 k 1) _ (sym (c .before .before .before .before .read-head .ensures) ∙ c .before .before .n .given .1) .1))
+    let head = c .before .before .before .before in
+    let s = head .before .before .before in
+    let k = now (s .args .command) in
+    (s .pre, sym (head-number (refusal (headChecks k)) (leAt 1 k 1) _ (sym (head .read-head .ensures) ∙ c .before .before .n .given .1) .1))
 
 enum-known-n-2 : tie.Need-enum-known-n-2
 enum-known-n-2 c = search needs
@@ -33,13 +30,17 @@ same-length c = search needs
 
 returns : tie.Need-returns
 returns c =
-    let k = now (c .before .before .before .before .before .before .before .before .before .before .args .command) in
-    dispatch-passed _ k (head-number (refusal (headChecks k)) (leAt 1 k 1) _ (sym (c .before .before .before .before .before .before .before .read-head .ensures) ∙ c .before .before .before .before .before .n .given .1) .0) _ _ (c .before .before .run .ensures)
+    let read = c .before .before .before .before .before in
+    let head = read .before .before in
+    let k = now (head .before .before .before .args .command) in
+    dispatch-passed _ k (head-number (refusal (headChecks k)) (leAt 1 k 1) _ (sym (head .read-head .ensures) ∙ read .n .given .1) .0) _ _
+    (c .before .before .run .ensures)
 
 returns-2 : tie.Need-returns-2
 returns-2 c =
-    let k = now (c .before .before .before .before .before .before .args .command) in
-    dispatch-stopped _ k _ (head-refused (refusal (headChecks k)) (leAt 1 k 1) _ (sym (c .before .before .before .read-head .ensures) ∙ c .before .n2 .given .1))
+    let head = c .before .before .before in
+    let k = now (head .before .before .before .args .command) in
+    dispatch-stopped _ k _ (head-refused (refusal (headChecks k)) (leAt 1 k 1) _ (sym (head .read-head .ensures) ∙ c .before .n2 .given .1))
 
 pub dispatch-spec : {M : Type 1} → statement M
 dispatch-spec =

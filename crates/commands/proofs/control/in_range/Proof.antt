@@ -1,9 +1,6 @@
 use borrow.Author.Needs.{needs}
 use Rattle.commands.proofs.control.in_range.Statement.{statement}
 use Rattle.commands.proofs.control.in_range.Tie as tie
-use Rattle.commands.proofs.control.in_range.Reads as reads
-use Rattle.commands.proofs.control.in_range.Lts as lts
-use Rattle.wire.proofs.sum_within.Reads as sum-within-reads
 
 sum-within-requires : tie.Need-sum-within-requires
 sum-within-requires c κs = search needs

@@ -2,8 +2,6 @@ use borrow.Author.Tests.{le-leb, lt-leb}
 use borrow.Author.Needs.{needs}
 use Rattle.commands.proofs.control.next_variant.Statement.{statement}
 use Rattle.commands.proofs.control.next_variant.Tie as tie
-use Rattle.commands.proofs.control.next_variant.Reads as reads
-use Rattle.commands.proofs.control.next_variant.Lts as lts
 
 returns : tie.Need-returns
 returns c = rw (le-leb 255 (c .before .args .v) (c .if1 .taken))

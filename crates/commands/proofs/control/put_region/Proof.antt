@@ -1,15 +1,15 @@
-use mathlib.Core.Path.{ap, _∙_}
+use mathlib.Core.Path.{ap, _≡_, _∙_}
+use Rattle.rules.specs.Bytes.{commandBytes}
+use Rattle.rules.specs.Control.{nextVariant, newVariant}
+use Rattle.tables.specs.State.{card}
+use denote.Ref.{now}
+use native.Mathlib.Omega.{arith}
 use Rattle.tables.specs.declared.Region.{Region}
-use Rattle.rules.specs.Control.{nextVariant}
+use Rattle.tables.proofs.ObjectLaws.{pd-below}
+use Rattle.commands.proofs.CaseLaws.{access-most, new-variant}
 use borrow.Author.Needs.{needs}
 use Rattle.commands.proofs.control.put_region.Statement.{statement}
 use Rattle.commands.proofs.control.put_region.Tie as tie
-use Rattle.commands.proofs.control.put_region.Reads as reads
-use Rattle.commands.proofs.control.put_region.Lts as lts
-use Rattle.commands.proofs.control.next_variant.Reads as next-variant-reads
-use Rattle.tables.proofs.rows.load_mr.Reads as load-mr-reads
-use Rattle.tables.proofs.rows.store_mr.Reads as store-mr-reads
-use Rattle.tables.proofs.rows.store_mr_flag.Reads as store-mr-flag-reads
 
 load-mr-requires : tie.Need-load-mr-requires
 load-mr-requires c κs = search needs
@@ -17,11 +17,13 @@ load-mr-requires c κs = search needs
 next-variant-requires : tie.Need-next-variant-requires
 next-variant-requires c κs = search needs
 
-cast-t10 : tie.Need-cast-t10
-cast-t10 c = search needs
+cast-t9 : tie.Need-cast-t9
+cast-t9 c = let s = c .before .before .before .before .before in omega (arith, access-most (s .args .g .access) (s .pre .3))
 
-cast-t12 : tie.Need-cast-t12
-cast-t12 c = search needs
+cast-t10 : tie.Need-cast-t10
+cast-t10 c =
+    let s = c .before .before .before .before .before .before in
+    omega (arith, pd-below (now (s .args .state)) (s .args .g .pd) (s .pre .4))
 
 store-mr-requires : tie.Need-store-mr-requires
 store-mr-requires c κs = search needs
@@ -33,10 +35,13 @@ same-length : tie.Need-same-length
 same-length c = search needs
 
 returns : tie.Need-returns
-returns c = (
-  c .before .before .before .before .before .before .before .before .before .before .next-variant .ensures ∙ ap (λ (x : Region). nextVariant (x .variant)) (c .before .before .before .before .before .before .before .before .before .before .before .load-mr .ensures),
-  rw (c .before .before .store-mr-flag .ensures, c .before .before .before .before .before .before .store-mr .ensures),
-)
+unfolding commandBytes
+returns c =
+    let made = c .before .before .before .before .before .before .before .before .before .before in
+    let s = made .before .before .before .before in
+    let v : made .next-variant .result ≡ newVariant (card (now (s .args .state))) =
+    made .next-variant .ensures ∙ ap (λ (x : Region). nextVariant (x .variant)) (made .before .load-mr .ensures) ∙ new-variant _ _ (s .pre .2) (s .pre .0) in
+    (v, rw (c .before .before .store-mr-flag .ensures, c .before .before .before .before .before .before .store-mr .ensures, v, s .pre .2))
 
 pub put-region-spec : {M : Type 1} → statement M
 put-region-spec =
@@ -44,8 +49,8 @@ put-region-spec =
     (tie.spec
     load-mr-requires
     next-variant-requires
+    cast-t9
     cast-t10
-    cast-t12
     store-mr-requires
     store-mr-flag-requires
     same-length

@@ -7,18 +7,6 @@ use Rattle.commands.proofs.CallLaws.{by-number, by-nothing, by-registra
 use borrow.Author.Needs.{needs}
 use Rattle.commands.proofs.control.run.Statement.{statement}
 use Rattle.commands.proofs.control.run.Tie as tie
-use Rattle.commands.proofs.control.run.Reads as reads
-use Rattle.commands.proofs.control.run.Lts as lts
-use Rattle.commands.proofs.control.create_cq.Reads as create-cq-reads
-use Rattle.commands.proofs.control.create_pd.Reads as create-pd-reads
-use Rattle.commands.proofs.control.register.Reads as register-reads
-use Rattle.commands.proofs.control_qp.create_qp.Reads as create-qp-reads
-use Rattle.commands.proofs.control_qp.modify_qp.Reads as modify-qp-reads
-use Rattle.commands.proofs.destroy.destroy.Reads as destroy-reads
-use Rattle.tables.proofs.records.read_create_qp.Reads as read-create-qp-reads
-use Rattle.tables.proofs.records.read_modify_qp.Reads as read-modify-qp-reads
-use Rattle.tables.proofs.records.read_number.Reads as read-number-reads
-use Rattle.tables.proofs.records.read_register.Reads as read-register-reads
 
 read-number-requires : tie.Need-read-number-requires
 read-number-requires c κs = search needs
@@ -77,7 +65,9 @@ same-length c = search needs
 returns : tie.Need-returns
 unfolding commandOf dataSize
 returns c =
-    let e : leAt 1 (now (c .before .before .before .before .before .before .before .before .args .command)) 1 ≡ 2 = sym (c .before .before .before .before .before .before .before .before .pre .2) ∙ c .before .before .before .before .before .match .keys1 in
+    let at = c .before .before .before .before .before in
+    let s = at .before .before .before in
+    let e : leAt 1 (now (s .args .command)) 1 ≡ 2 = sym (s .pre .1) ∙ at .match .keys1 in
     by-number _ _ _ _ Command.createCq (rw e) (λ n. refl) _ (c .before .before .before .read-number .ensures) (c .before .before .create-cq .ensures)
 
 same-length-2 : tie.Need-same-length-2
@@ -86,7 +76,9 @@ same-length-2 c = search needs
 returns-2 : tie.Need-returns-2
 unfolding commandOf dataSize
 returns-2 c =
-    let e : leAt 1 (now (c .before .before .before .before .before .before .before .before .args .command)) 1 ≡ 3 = sym (c .before .before .before .before .before .before .before .before .pre .2) ∙ c .before .before .before .before .before .match .keys2 in
+    let at = c .before .before .before .before .before in
+    let s = at .before .before .before in
+    let e : leAt 1 (now (s .args .command)) 1 ≡ 3 = sym (s .pre .1) ∙ at .match .keys2 in
     by-number _ _ _ _ Command.destroyCq (rw e) (λ n. refl) _ (c .before .before .before .read-number2 .ensures) (c .before .before .destroy .ensures)
 
 same-length-3 : tie.Need-same-length-3
@@ -95,7 +87,9 @@ same-length-3 c = search needs
 returns-3 : tie.Need-returns-3
 unfolding commandOf
 returns-3 c =
-    let e : leAt 1 (now (c .before .before .before .before .before .before .before .args .command)) 1 ≡ 4 = sym (c .before .before .before .before .before .before .before .pre .2) ∙ c .before .before .before .before .match .keys3 in
+    let at = c .before .before .before .before in
+    let s = at .before .before .before in
+    let e : leAt 1 (now (s .args .command)) 1 ≡ 4 = sym (s .pre .1) ∙ at .match .keys3 in
     by-nothing _ _ _ _ (rw e) (c .before .before .create-pd .ensures)
 
 same-length-4 : tie.Need-same-length-4
@@ -104,7 +98,9 @@ same-length-4 c = search needs
 returns-4 : tie.Need-returns-4
 unfolding commandOf dataSize
 returns-4 c =
-    let e : leAt 1 (now (c .before .before .before .before .before .before .before .before .args .command)) 1 ≡ 5 = sym (c .before .before .before .before .before .before .before .before .pre .2) ∙ c .before .before .before .before .before .match .keys4 in
+    let at = c .before .before .before .before .before in
+    let s = at .before .before .before in
+    let e : leAt 1 (now (s .args .command)) 1 ≡ 5 = sym (s .pre .1) ∙ at .match .keys4 in
     by-number _ _ _ _ Command.destroyPd (rw e) (λ n. refl) _ (c .before .before .before .read-number3 .ensures) (c .before .before .destroy2 .ensures)
 
 same-length-5 : tie.Need-same-length-5
@@ -113,7 +109,9 @@ same-length-5 c = search needs
 returns-5 : tie.Need-returns-5
 unfolding commandOf
 returns-5 c =
-    let e : leAt 1 (now (c .before .before .before .before .before .before .before .before .args .command)) 1 ≡ 7 = sym (c .before .before .before .before .before .before .before .before .pre .2) ∙ c .before .before .before .before .before .match .keys5 in
+    let at = c .before .before .before .before .before in
+    let s = at .before .before .before in
+    let e : leAt 1 (now (s .args .command)) 1 ≡ 7 = sym (s .pre .1) ∙ at .match .keys5 in
     by-registration _ _ _ _ (rw e) _ (c .before .before .before .read-register .ensures) (c .before .before .register .ensures)
 
 same-length-6 : tie.Need-same-length-6
@@ -122,7 +120,9 @@ same-length-6 c = search needs
 returns-6 : tie.Need-returns-6
 unfolding commandOf dataSize
 returns-6 c =
-    let e : leAt 1 (now (c .before .before .before .before .before .before .before .before .args .command)) 1 ≡ 8 = sym (c .before .before .before .before .before .before .before .before .pre .2) ∙ c .before .before .before .before .before .match .keys6 in
+    let at = c .before .before .before .before .before in
+    let s = at .before .before .before in
+    let e : leAt 1 (now (s .args .command)) 1 ≡ 8 = sym (s .pre .1) ∙ at .match .keys6 in
     by-number _ _ _ _ Command.deregister (rw e) (λ n. refl) _ (c .before .before .before .read-number4 .ensures) (c .before .before .destroy3 .ensures)
 
 same-length-7 : tie.Need-same-length-7
@@ -131,7 +131,9 @@ same-length-7 c = search needs
 returns-7 : tie.Need-returns-7
 unfolding commandOf
 returns-7 c =
-    let e : leAt 1 (now (c .before .before .before .before .before .before .before .before .args .command)) 1 ≡ 9 = sym (c .before .before .before .before .before .before .before .before .pre .2) ∙ c .before .before .before .before .before .match .keys7 in
+    let at = c .before .before .before .before .before in
+    let s = at .before .before .before in
+    let e : leAt 1 (now (s .args .command)) 1 ≡ 9 = sym (s .pre .1) ∙ at .match .keys7 in
     by-creation _ _ _ _ (rw e) _ (c .before .before .before .read-create-qp .ensures) (c .before .before .create-qp .ensures)
 
 same-length-8 : tie.Need-same-length-8
@@ -140,7 +142,9 @@ same-length-8 c = search needs
 returns-8 : tie.Need-returns-8
 unfolding commandOf
 returns-8 c =
-    let e : leAt 1 (now (c .before .before .before .before .before .before .before .before .args .command)) 1 ≡ 10 = sym (c .before .before .before .before .before .before .before .before .pre .2) ∙ c .before .before .before .before .before .match .keys8 in
+    let at = c .before .before .before .before .before in
+    let s = at .before .before .before in
+    let e : leAt 1 (now (s .args .command)) 1 ≡ 10 = sym (s .pre .1) ∙ at .match .keys8 in
     by-move _ _ _ _ (rw e) _ (c .before .before .before .read-modify-qp .ensures) (c .before .before .modify-qp .ensures)
 
 same-length-9 : tie.Need-same-length-9
@@ -149,16 +153,20 @@ same-length-9 c = search needs
 returns-9 : tie.Need-returns-9
 unfolding commandOf dataSize
 returns-9 c =
-    let e : leAt 1 (now (c .before .before .before .before .before .before .before .before .args .command)) 1 ≡ 12 = sym (c .before .before .before .before .before .before .before .before .pre .2) ∙ c .before .before .before .before .before .match .keys9 in
+    let at = c .before .before .before .before .before in
+    let s = at .before .before .before in
+    let e : leAt 1 (now (s .args .command)) 1 ≡ 12 = sym (s .pre .1) ∙ at .match .keys9 in
     by-number _ _ _ _ Command.destroyQp (rw e) (λ n. refl) _ (c .before .before .before .read-number5 .ensures) (c .before .before .destroy4 .ensures)
 
 returns-10 : tie.Need-returns-10
-returns-10 c = run-gap _ _ _ (c .before .before .before .pre .2) (c .match .keys10)
+returns-10 c = run-gap _ _ _ (c .before .before .before .pre .1) (c .match .keys10)
 
 returns-11 : tie.Need-returns-11
 returns-11 c =
     let r = c .match .rest in
-    run-unknown _ _ _ (c .before .before .before .pre .2) (r .0 .0 .0 .0 .0 .0 .0 .0 .0 .1) (r .0 .0 .0 .0 .0 .0 .0 .0 .1) (r .0 .0 .0 .0 .0 .0 .0 .1) (r .0 .0 .0 .0 .0 .0 .1) (r .0 .0 .0 .0 .0 .1) (r .0 .0 .0 .0 .1) (r .0 .0 .0 .1) (r .0 .0 .1) (r .0 .1)
+    run-unknown _ _ _ (c .before .before .before .pre .1)
+    (r .0 .0 .0 .0 .0 .0 .0 .0 .0 .1) (r .0 .0 .0 .0 .0 .0 .0 .0 .1) (r .0 .0 .0 .0 .0 .0 .0 .1) (r .0 .0 .0 .0 .0 .0 .1)
+    (r .0 .0 .0 .0 .0 .1) (r .0 .0 .0 .0 .1) (r .0 .0 .0 .1) (r .0 .0 .1) (r .0 .1)
 
 pub run-spec : {M : Type 1} → statement M
 run-spec =

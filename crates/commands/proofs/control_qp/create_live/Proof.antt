@@ -1,10 +1,6 @@
 use borrow.Author.Needs.{needs}
 use Rattle.commands.proofs.control_qp.create_live.Statement.{statement}
 use Rattle.commands.proofs.control_qp.create_live.Tie as tie
-use Rattle.commands.proofs.control_qp.create_live.Reads as reads
-use Rattle.commands.proofs.control_qp.create_live.Lts as lts
-use Rattle.validate.proofs.accept.cq_live.Reads as cq-live-reads
-use Rattle.validate.proofs.accept.pd_live.Reads as pd-live-reads
 
 pd-live-requires : tie.Need-pd-live-requires
 pd-live-requires c κs = search needs

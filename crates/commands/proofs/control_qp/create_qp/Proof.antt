@@ -1,16 +1,8 @@
-use Rattle.commands.proofs.CaseLaws.{ran-wrong}
-use borrow.Author.Tests.{not-true, not-false}
-use mathlib.Core.Path.{sym, _∙_}
+use Rattle.commands.proofs.CaseLaws.{ran-wrong, passes, fails}
 use Rattle.commands.proofs.PairCaseLaws.{create-qp-fields, create-qp-dead, create-qp-full, create-qp-done}
 use borrow.Author.Needs.{needs}
 use Rattle.commands.proofs.control_qp.create_qp.Statement.{statement}
 use Rattle.commands.proofs.control_qp.create_qp.Tie as tie
-use Rattle.commands.proofs.control_qp.create_qp.Reads as reads
-use Rattle.commands.proofs.control_qp.create_qp.Lts as lts
-use Rattle.commands.proofs.control_qp.create_fine.Reads as create-fine-reads
-use Rattle.commands.proofs.control_qp.create_live.Reads as create-live-reads
-use Rattle.commands.proofs.control_qp.put_pair.Reads as put-pair-reads
-use Rattle.validate.proofs.find.free_qpn.Reads as free-qpn-reads
 
 enum-known-read : tie.Need-enum-known-read
 enum-known-read c = search needs
@@ -25,9 +17,7 @@ create-fine-requires : tie.Need-create-fine-requires
 create-fine-requires c κs = search needs
 
 returns-2 : tie.Need-returns-2
-returns-2 c =
-    rw (c .before .before .before .read .given .1)
-    (create-qp-fields _ _ (sym (c .before .create-fine .ensures) ∙ not-true _ (c .if1 .taken)))
+returns-2 c = rw (c .before .before .before .read .given .1) (create-qp-fields _ _ (fails (c .before .create-fine .ensures) (c .if1 .taken)))
 
 create-live-requires : tie.Need-create-live-requires
 create-live-requires c κs = search needs
@@ -37,8 +27,9 @@ same-length c = search needs
 
 returns-3 : tie.Need-returns-3
 returns-3 c =
-    rw (c .before .before .before .before .before .before .read .given .1)
-    (create-qp-dead _ _ (sym (c .before .before .before .before .create-fine .ensures) ∙ not-false _ (c .before .before .before .if1 .left)) (sym (c .before .create-live .ensures) ∙ not-true _ (c .if2 .taken)))
+    let fine = c .before .before .before in
+    rw (fine .before .before .before .read .given .1)
+    (create-qp-dead _ _ (passes (fine .before .create-fine .ensures) (fine .if1 .left)) (fails (c .before .create-live .ensures) (c .if2 .taken)))
 
 free-qpn-requires : tie.Need-free-qpn-requires
 free-qpn-requires c κs = search needs
@@ -48,11 +39,18 @@ same-length-2 c = search needs
 
 returns-4 : tie.Need-returns-4
 returns-4 c =
-    rw (c .before .before .before .before .before .before .before .before .before .read .given .1)
-    (create-qp-full _ _ (sym (c .before .before .before .before .before .before .before .create-fine .ensures) ∙ not-false _ (c .before .before .before .before .before .before .if1 .left)) (sym (c .before .before .before .before .create-live .ensures) ∙ not-false _ (c .before .before .before .if2 .left)) (c .before .free-qpn .result) (c .before .free-qpn .ensures) (c .if3 .taken))
+    let live = c .before .before .before in
+    let fine = live .before .before .before in
+    rw (fine .before .before .before .read .given .1)
+    (create-qp-full _ _ (passes (fine .before .create-fine .ensures) (fine .if1 .left)) (passes (live .before .create-live .ensures) (live .if2 .left)) _
+    (c .before .free-qpn .ensures) (c .if3 .taken))
 
 put-pair-requires : tie.Need-put-pair-requires
-put-pair-requires c κs = search needs
+put-pair-requires c κs =
+    let room = c .before in
+    let live = room .before .before .before in
+    let s = live .before .before .before .before .before .before .before .before .before in
+    (room .if3 .left, s .pre, room .before .free-qpn .ensures, passes (live .before .create-live .ensures) (live .if2 .left))
 
 cast-t14 : tie.Need-cast-t14
 cast-t14 c = search needs
@@ -62,8 +60,12 @@ same-length-3 c = search needs
 
 returns-5 : tie.Need-returns-5
 returns-5 c =
-    rw (c .before .before .before .before .before .before .before .before .before .before .before .before .before .read .given .1)
-    (create-qp-done _ _ (sym (c .before .before .before .before .before .before .before .before .before .before .before .create-fine .ensures) ∙ not-false _ (c .before .before .before .before .before .before .before .before .before .before .if1 .left)) (sym (c .before .before .before .before .before .before .before .before .create-live .ensures) ∙ not-false _ (c .before .before .before .before .before .before .before .if2 .left)) (c .before .before .before .before .before .free-qpn .result) (c .before .before .before .before .before .free-qpn .ensures) (c .before .before .before .before .if3 .left) _ (c .before .before .put-pair .ensures))
+    let room = c .before .before .before .before in
+    let live = room .before .before .before in
+    let fine = live .before .before .before in
+    rw (fine .before .before .before .read .given .1)
+    (create-qp-done _ _ (passes (fine .before .create-fine .ensures) (fine .if1 .left)) (passes (live .before .create-live .ensures) (live .if2 .left)) _
+    (room .before .free-qpn .ensures) (room .if3 .left) _ (c .before .before .put-pair .ensures))
 
 pub create-qp-spec : {M : Type 1} → statement M
 create-qp-spec =

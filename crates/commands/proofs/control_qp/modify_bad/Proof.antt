@@ -1,9 +1,6 @@
 use borrow.Author.Needs.{needs}
 use Rattle.commands.proofs.control_qp.modify_bad.Statement.{statement}
 use Rattle.commands.proofs.control_qp.modify_bad.Tie as tie
-use Rattle.commands.proofs.control_qp.modify_bad.Reads as reads
-use Rattle.commands.proofs.control_qp.modify_bad.Lts as lts
-use Rattle.validate.proofs.accept.is_state.Reads as is-state-reads
 
 add-unknown : tie.Need-add-unknown
 add-unknown c = search needs

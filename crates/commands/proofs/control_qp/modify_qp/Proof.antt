@@ -1,19 +1,10 @@
-use Rattle.commands.proofs.CaseLaws.{ran-wrong}
-use denote.Ref.{now}
-use borrow.Author.Tests.{not-true, not-false}
 use mathlib.Core.Path.{sym, _∙_}
 use Rattle.tables.proofs.ObjectLaws.{qp-below}
+use Rattle.commands.proofs.CaseLaws.{ran-wrong, passes, fails}
 use Rattle.commands.proofs.PairCaseLaws.{modify-fields, modify-dead, modify-stays, modify-done}
 use borrow.Author.Needs.{needs}
 use Rattle.commands.proofs.control_qp.modify_qp.Statement.{statement}
 use Rattle.commands.proofs.control_qp.modify_qp.Tie as tie
-use Rattle.commands.proofs.control_qp.modify_qp.Reads as reads
-use Rattle.commands.proofs.control_qp.modify_qp.Lts as lts
-use Rattle.commands.proofs.control_qp.is_move.Reads as is-move-reads
-use Rattle.commands.proofs.control_qp.modify_bad.Reads as modify-bad-reads
-use Rattle.commands.proofs.control_qp.move_pair.Reads as move-pair-reads
-use Rattle.commands.proofs.destroy.qp_live.Reads as qp-live-reads
-use Rattle.tables.proofs.rows.load_qp.Reads as load-qp-reads
 
 enum-known-read : tie.Need-enum-known-read
 enum-known-read c = search needs
@@ -28,9 +19,7 @@ modify-bad-requires : tie.Need-modify-bad-requires
 modify-bad-requires c κs = search needs
 
 returns-2 : tie.Need-returns-2
-returns-2 c =
-    rw (c .before .before .before .read .given .1)
-    (modify-fields _ _ (sym (c .before .modify-bad .ensures) ∙ c .if1 .taken))
+returns-2 c = rw (c .before .before .before .read .given .1) (modify-fields _ _ (sym (c .before .modify-bad .ensures) ∙ c .if1 .taken))
 
 qp-live-requires : tie.Need-qp-live-requires
 qp-live-requires c κs = search needs
@@ -40,14 +29,18 @@ same-length c = search needs
 
 returns-3 : tie.Need-returns-3
 returns-3 c =
-    rw (c .before .before .before .before .before .before .read .given .1)
-    (modify-dead _ _ (sym (c .before .before .before .before .modify-bad .ensures) ∙ c .before .before .before .if1 .left) (sym (c .before .qp-live .ensures) ∙ not-true _ (c .if2 .taken)))
+    let fine = c .before .before .before in
+    rw (fine .before .before .before .read .given .1)
+    (modify-dead _ _ (sym (fine .before .modify-bad .ensures) ∙ fine .if1 .left) (fails (c .before .qp-live .ensures) (c .if2 .taken)))
 
-cast-n : tie.Need-cast-n
-cast-n c = search needs
+cast-load-qp : tie.Need-cast-load-qp
+cast-load-qp c = search needs
 
 load-qp-requires : tie.Need-load-qp-requires
-load-qp-requires c κs = (qp-below (now (c .before .before .before .before .before .before .before .before .before .before .before .args .state)) _ (sym (c .before .before .before .qp-live .ensures) ∙ not-false _ (c .before .before .if2 .left)), c .before .before .before .before .before .before .before .before .before .before .before .pre .1)
+load-qp-requires c κs =
+    let live = c .before .before in
+    let s = live .before .before .before .before .before .before .before .before .before in
+    (qp-below _ _ (passes (live .before .qp-live .ensures) (live .if2 .left)), s .pre)
 
 is-move-requires : tie.Need-is-move-requires
 is-move-requires c κs = search needs
@@ -57,22 +50,31 @@ same-length-2 c = search needs
 
 returns-4 : tie.Need-returns-4
 returns-4 c =
-    rw (c .before .before .before .before .before .before .before .before .before .before .before .read .given .1)
-    (modify-stays _ _ (sym (c .before .before .before .before .before .before .before .before .before .modify-bad .ensures) ∙ c .before .before .before .before .before .before .before .before .if1 .left) (sym (c .before .before .before .before .before .before .qp-live .ensures) ∙ not-false _ (c .before .before .before .before .before .if2 .left)) (rw (← (c .before .before .load-qp .ensures)) (sym (c .before .is-move .ensures) ∙ not-true _ (c .if3 .taken))))
-
-cast-move-pair : tie.Need-cast-move-pair
-cast-move-pair c = search needs
+    let live = c .before .before .before .before .before in
+    let fine = live .before .before .before in
+    rw (fine .before .before .before .read .given .1)
+    (modify-stays _ _ (sym (fine .before .modify-bad .ensures) ∙ fine .if1 .left) (passes (live .before .qp-live .ensures) (live .if2 .left))
+    (rw (← (c .before .before .load-qp .ensures)) (fails (c .before .is-move .ensures) (c .if3 .taken))))
 
 move-pair-requires : tie.Need-move-pair-requires
-move-pair-requires c κs = (qp-below (now (c .before .before .before .before .before .before .before .before .before .before .before .before .before .before .before .before .args .state)) _ (sym (c .before .before .before .before .before .before .before .before .qp-live .ensures) ∙ not-false _ (c .before .before .before .before .before .before .before .if2 .left)), c .before .before .before .before .before .before .before .before .before .before .before .before .before .before .before .before .pre .1)
+move-pair-requires c κs =
+    let live = c .before .before .before .before .before .before in
+    let fine = live .before .before .before in
+    let s = fine .before .before .before .before .before .before in
+    (qp-below _ _ (passes (live .before .qp-live .ensures) (live .if2 .left)), s .pre, sym (fine .before .modify-bad .ensures) ∙ fine .if1 .left)
 
 same-length-3 : tie.Need-same-length-3
 same-length-3 c = search needs
 
 returns-5 : tie.Need-returns-5
 returns-5 c =
-    rw (c .before .before .before .before .before .before .before .before .before .before .before .before .before .before .before .before .read .given .1)
-    (modify-done _ _ (sym (c .before .before .before .before .before .before .before .before .before .before .before .before .before .before .modify-bad .ensures) ∙ c .before .before .before .before .before .before .before .before .before .before .before .before .before .if1 .left) (sym (c .before .before .before .before .before .before .before .before .before .before .before .qp-live .ensures) ∙ not-false _ (c .before .before .before .before .before .before .before .before .before .before .if2 .left)) (rw (← (c .before .before .before .before .before .before .before .load-qp .ensures)) (sym (c .before .before .before .before .before .before .is-move .ensures) ∙ not-false _ (c .before .before .before .before .before .if3 .left))) _ (c .before .before .move-pair .ensures))
+    let moves = c .before .before .before .before in
+    let live = moves .before .before .before .before .before in
+    let fine = live .before .before .before in
+    rw (fine .before .before .before .read .given .1)
+    (modify-done _ _ (sym (fine .before .modify-bad .ensures) ∙ fine .if1 .left) (passes (live .before .qp-live .ensures) (live .if2 .left))
+    (rw (← (moves .before .before .load-qp .ensures)) (passes (moves .before .is-move .ensures) (moves .if3 .left))) _
+    (c .before .before .move-pair .ensures))
 
 pub modify-qp-spec : {M : Type 1} → statement M
 modify-qp-spec =
@@ -86,12 +88,11 @@ modify-qp-spec =
     qp-live-requires
     same-length
     returns-3
-    cast-n
+    cast-load-qp
     load-qp-requires
     is-move-requires
     same-length-2
     returns-4
-    cast-move-pair
     move-pair-requires
     same-length-3
     returns-5)

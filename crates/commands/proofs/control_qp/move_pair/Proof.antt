@@ -1,20 +1,20 @@
+use Rattle.commands.proofs.PairCaseLaws.{modify-bytes}
+use denote.Ref.{now}
 use borrow.Author.Needs.{needs}
 use Rattle.commands.proofs.control_qp.move_pair.Statement.{statement}
 use Rattle.commands.proofs.control_qp.move_pair.Tie as tie
-use Rattle.commands.proofs.control_qp.move_pair.Reads as reads
-use Rattle.commands.proofs.control_qp.move_pair.Lts as lts
-use Rattle.commands.proofs.control_qp.moved_head.Reads as moved-head-reads
-use Rattle.commands.proofs.control_qp.moved_pair.Reads as moved-pair-reads
-use Rattle.tables.proofs.rows.load_qp.Reads as load-qp-reads
-use Rattle.tables.proofs.rows.load_waiting.Reads as load-waiting-reads
-use Rattle.tables.proofs.rows.store_qp.Reads as store-qp-reads
-use Rattle.tables.proofs.rows.store_waiting.Reads as store-waiting-reads
+
+cast-n : tie.Need-cast-n
+cast-n c = search needs
 
 load-qp-requires : tie.Need-load-qp-requires
 load-qp-requires c κs = search needs
 
 load-waiting-requires : tie.Need-load-waiting-requires
 load-waiting-requires c κs = search needs
+
+cast-moved-pair : tie.Need-cast-moved-pair
+cast-moved-pair c = search needs
 
 moved-pair-requires : tie.Need-moved-pair-requires
 moved-pair-requires c κs = search needs
@@ -32,14 +32,22 @@ same-length : tie.Need-same-length
 same-length c = search needs
 
 returns : tie.Need-returns
-returns c = rw (c .before .before .store-waiting .ensures, c .before .before .before .before .before .before .before .store-qp .ensures, c .before .before .before .before .before .before .before .before .moved-pair .ensures, c .before .before .before .moved-head .ensures, c .before .before .before .before .before .before .before .before .before .before .before .before .load-qp .ensures, c .before .before .before .before .before .before .before .before .before .before .load-waiting .ensures)
+returns c =
+    let row = c .before .before .before .before .before .before .before in
+    let moved = row .before in
+    let head = row .before .before .before .before in
+    let s = head .before .before .before .before .before .before in
+    rw (← modify-bytes (now (s .args .state)) (s .args .r) (s .pre .2), c .before .before .store-waiting .ensures, row .store-qp .ensures)
+    (rw (moved .moved-pair .ensures, c .before .before .before .moved-head .ensures, head .before .before .load-qp .ensures, head .load-waiting .ensures))
 
 pub move-pair-spec : {M : Type 1} → statement M
 move-pair-spec =
     tie.close
     (tie.spec
+    cast-n
     load-qp-requires
     load-waiting-requires
+    cast-moved-pair
     moved-pair-requires
     store-qp-requires
     moved-head-requires

@@ -1,8 +1,6 @@
 use borrow.Author.Tests.{eq-eqb, ne-eqb}
 use Rattle.commands.proofs.control_qp.moved_head.Statement.{statement}
 use Rattle.commands.proofs.control_qp.moved_head.Tie as tie
-use Rattle.commands.proofs.control_qp.moved_head.Reads as reads
-use Rattle.commands.proofs.control_qp.moved_head.Lts as lts
 
 returns : tie.Need-returns
 returns c = rw (eq-eqb (c .before .args .to) 0 (c .if1 .taken))

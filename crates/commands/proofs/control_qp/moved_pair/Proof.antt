@@ -1,8 +1,6 @@
 use borrow.Author.Tests.{eq-eqb, ne-eqb}
 use Rattle.commands.proofs.control_qp.moved_pair.Statement.{statement}
 use Rattle.commands.proofs.control_qp.moved_pair.Tie as tie
-use Rattle.commands.proofs.control_qp.moved_pair.Reads as reads
-use Rattle.commands.proofs.control_qp.moved_pair.Lts as lts
 
 returns : tie.Need-returns
 returns c = rw (eq-eqb (c .before .args .to) 0 (c .if1 .taken))

@@ -3,36 +3,30 @@ use Rattle.rules.specs.Bytes.{commandBytes}
 use borrow.Author.Needs.{needs}
 use Rattle.commands.proofs.destroy.clear.Statement.{statement}
 use Rattle.commands.proofs.destroy.clear.Tie as tie
-use Rattle.commands.proofs.destroy.clear.Reads as reads
-use Rattle.commands.proofs.destroy.clear.Lts as lts
-use Rattle.tables.proofs.rows.store_cq_flag.Reads as store-cq-flag-reads
-use Rattle.tables.proofs.rows.store_mr_flag.Reads as store-mr-flag-reads
-use Rattle.tables.proofs.rows.store_pd_flag.Reads as store-pd-flag-reads
-use Rattle.tables.proofs.rows.store_qp_flag.Reads as store-qp-flag-reads
 
 enum-told : tie.Need-enum-told
 enum-told c = search needs
 
 store-pd-flag-requires : tie.Need-store-pd-flag-requires
-store-pd-flag-requires c κs = (pd-below _ _ (rw (c .before .enum-told .given .1) at (c .before .before .before .before .pre .0)), c .before .before .before .before .pre .1)
+store-pd-flag-requires c κs = let s = c .before .before .before .before in (pd-below _ _ (rw (c .before .enum-told .given .1) at (s .pre .0)), s .pre .1)
 
 enum-told-2 : tie.Need-enum-told-2
 enum-told-2 c = search needs
 
 store-cq-flag-requires : tie.Need-store-cq-flag-requires
-store-cq-flag-requires c κs = (cq-below _ _ (rw (c .before .enum-told2 .given .1) at (c .before .before .before .before .pre .0)), c .before .before .before .before .pre .1)
+store-cq-flag-requires c κs = let s = c .before .before .before .before in (cq-below _ _ (rw (c .before .enum-told2 .given .1) at (s .pre .0)), s .pre .1)
 
 enum-told-3 : tie.Need-enum-told-3
 enum-told-3 c = search needs
 
 store-mr-flag-requires : tie.Need-store-mr-flag-requires
-store-mr-flag-requires c κs = (mr-below _ _ (rw (c .before .enum-told3 .given .1) at (c .before .before .before .before .pre .0)), c .before .before .before .before .pre .1)
+store-mr-flag-requires c κs = let s = c .before .before .before .before in (mr-below _ _ (rw (c .before .enum-told3 .given .1) at (s .pre .0)), s .pre .1)
 
 enum-told-4 : tie.Need-enum-told-4
 enum-told-4 c = search needs
 
 store-qp-flag-requires : tie.Need-store-qp-flag-requires
-store-qp-flag-requires c κs = (qp-below _ _ (rw (c .before .enum-told4 .given .1) at (c .before .before .before .before .pre .0)), c .before .before .before .before .pre .1)
+store-qp-flag-requires c κs = let s = c .before .before .before .before in (qp-below _ _ (rw (c .before .enum-told4 .given .1) at (s .pre .0)), s .pre .1)
 
 same-length : tie.Need-same-length
 same-length c = search needs

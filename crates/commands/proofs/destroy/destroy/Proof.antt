@@ -1,14 +1,8 @@
-use Rattle.commands.proofs.CaseLaws.{ran-wrong, destroy-dead, destroy-used, destroy-done}
+use Rattle.commands.proofs.CaseLaws.{ran-wrong, destroy-dead, destroy-used, destroy-done, passes, fails}
 use mathlib.Core.Path.{sym, _∙_}
-use borrow.Author.Tests.{not-true, not-false}
 use borrow.Author.Needs.{needs}
 use Rattle.commands.proofs.destroy.destroy.Statement.{statement}
 use Rattle.commands.proofs.destroy.destroy.Tie as tie
-use Rattle.commands.proofs.destroy.destroy.Reads as reads
-use Rattle.commands.proofs.destroy.destroy.Lts as lts
-use Rattle.commands.proofs.destroy.clear.Reads as clear-reads
-use Rattle.commands.proofs.destroy.in_use.Reads as in-use-reads
-use Rattle.commands.proofs.destroy.is_live.Reads as is-live-reads
 
 enum-known-read : tie.Need-enum-known-read
 enum-known-read c = search needs
@@ -27,8 +21,8 @@ same-length c = search needs
 
 returns-2 : tie.Need-returns-2
 returns-2 c =
-    rw (c .before .before .before .before .read .given .1)
-    (destroy-dead _ (c .before .before .before .before .before .before .before .args .kind) _ (sym (c .before .is-live .ensures) ∙ not-true _ (c .if1 .taken)))
+    let s = c .before .before .before .before .before .before .before in
+    rw (c .before .before .before .before .read .given .1) (destroy-dead _ (s .args .kind) _ (fails (c .before .is-live .ensures) (c .if1 .taken)))
 
 in-use-requires : tie.Need-in-use-requires
 in-use-requires c κs = search needs
@@ -38,19 +32,27 @@ same-length-2 c = search needs
 
 returns-3 : tie.Need-returns-3
 returns-3 c =
-    rw (c .before .before .before .before .before .before .before .read .given .1)
-    (destroy-used _ (c .before .before .before .before .before .before .before .before .before .before .args .kind) _ (sym (c .before .before .before .before .is-live .ensures) ∙ not-false _ (c .before .before .before .if1 .left)) (sym (c .before .in-use .ensures) ∙ c .if2 .taken))
+    let live = c .before .before .before in
+    let s = live .before .before .before .before .before .before .before in
+    rw (live .before .before .before .before .read .given .1)
+    (destroy-used _ (s .args .kind) _ (passes (live .before .is-live .ensures) (live .if1 .left)) (sym (c .before .in-use .ensures) ∙ c .if2 .taken))
 
 clear-requires : tie.Need-clear-requires
-clear-requires c κs = (sym (c .before .before .before .before .before .is-live .ensures) ∙ not-false _ (c .before .before .before .before .if1 .left), c .before .before .before .before .before .before .before .before .before .before .before .pre .1)
+clear-requires c κs =
+    let live = c .before .before .before .before in
+    let s = live .before .before .before .before .before .before .before in
+    (passes (live .before .is-live .ensures) (live .if1 .left), s .pre)
 
 same-length-3 : tie.Need-same-length-3
 same-length-3 c = search needs
 
 returns-4 : tie.Need-returns-4
 returns-4 c =
-    rw (c .before .before .before .before .before .before .before .before .before .before .before .read .given .1)
-    (destroy-done _ (c .before .before .before .before .before .before .before .before .before .before .before .before .before .before .args .kind) _ (sym (c .before .before .before .before .before .before .before .before .is-live .ensures) ∙ not-false _ (c .before .before .before .before .before .before .before .if1 .left)) (sym (c .before .before .before .before .before .in-use .ensures) ∙ c .before .before .before .before .if2 .left) _
+    let unused = c .before .before .before .before in
+    let live = unused .before .before .before in
+    let s = live .before .before .before .before .before .before .before in
+    rw (live .before .before .before .before .read .given .1)
+    (destroy-done _ (s .args .kind) _ (passes (live .before .is-live .ensures) (live .if1 .left)) (sym (unused .before .in-use .ensures) ∙ unused .if2 .left) _
     (c .before .before .clear .ensures))
 
 pub destroy-spec : {M : Type 1} → statement M

@@ -1,10 +1,6 @@
 use borrow.Author.Needs.{needs}
 use Rattle.commands.proofs.destroy.in_use.Statement.{statement}
 use Rattle.commands.proofs.destroy.in_use.Tie as tie
-use Rattle.commands.proofs.destroy.in_use.Reads as reads
-use Rattle.commands.proofs.destroy.in_use.Lts as lts
-use Rattle.validate.proofs.find.cq_in_use.Reads as cq-in-use-reads
-use Rattle.validate.proofs.find.pd_in_use.Reads as pd-in-use-reads
 
 enum-told : tie.Need-enum-told
 enum-told c = search needs

@@ -1,12 +1,6 @@
 use borrow.Author.Needs.{needs}
 use Rattle.commands.proofs.destroy.is_live.Statement.{statement}
 use Rattle.commands.proofs.destroy.is_live.Tie as tie
-use Rattle.commands.proofs.destroy.is_live.Reads as reads
-use Rattle.commands.proofs.destroy.is_live.Lts as lts
-use Rattle.commands.proofs.destroy.mr_live.Reads as mr-live-reads
-use Rattle.commands.proofs.destroy.qp_live.Reads as qp-live-reads
-use Rattle.validate.proofs.accept.cq_live.Reads as cq-live-reads
-use Rattle.validate.proofs.accept.pd_live.Reads as pd-live-reads
 
 enum-told : tie.Need-enum-told
 enum-told c = search needs

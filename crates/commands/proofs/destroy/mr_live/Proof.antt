@@ -2,9 +2,6 @@ use Rattle.tables.proofs.ObjectLaws.{mr-live, mr-out}
 use borrow.Author.Needs.{needs}
 use Rattle.commands.proofs.destroy.mr_live.Statement.{statement}
 use Rattle.commands.proofs.destroy.mr_live.Tie as tie
-use Rattle.commands.proofs.destroy.mr_live.Reads as reads
-use Rattle.commands.proofs.destroy.mr_live.Lts as lts
-use Rattle.tables.proofs.rows.load_mr_flag.Reads as load-mr-flag-reads
 
 load-mr-flag-requires : tie.Need-load-mr-flag-requires
 load-mr-flag-requires c κs = search needs

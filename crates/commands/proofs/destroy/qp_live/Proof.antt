@@ -2,9 +2,6 @@ use Rattle.tables.proofs.ObjectLaws.{qp-live, qp-out}
 use borrow.Author.Needs.{needs}
 use Rattle.commands.proofs.destroy.qp_live.Statement.{statement}
 use Rattle.commands.proofs.destroy.qp_live.Tie as tie
-use Rattle.commands.proofs.destroy.qp_live.Reads as reads
-use Rattle.commands.proofs.destroy.qp_live.Lts as lts
-use Rattle.tables.proofs.rows.load_qp_flag.Reads as load-qp-flag-reads
 
 load-qp-flag-requires : tie.Need-load-qp-flag-requires
 load-qp-flag-requires c κs = search needs
