@@ -4,44 +4,47 @@ use mathlib.Core.Bool.{true, false, cond, not}
 use mathlib.Core.List.{List, [], _∷_}
 use mathlib.Core.Option.{none, some}
 use Prim.Native.Nat.{ℕ, _+_, _*_, _<_}
+use native.Mathlib.Nat.{mod-lt}
 use native.Mathlib.Omega.{arith}
 use lib.ListN.{length}
 use lib.Dec.{eqb}
 use borrow.Author.Tests.{lt-ltb}
 use Rattle.wire.specs.Checks.{refusal}
 use Rattle.wire.specs.Codec.{Fit, Fits}
+use Rattle.wire.specs.Ring.{ringPlace}
 use Rattle.wire.specs.Slots.{upd}
-use Rattle.wire.specs.Table.{rowAt, finish}
-use Rattle.wire.proofs.TableLaws.{outside}
-use Rattle.validate.specs.Accept.{completionOk, accepts}
+use Rattle.wire.specs.Table.{rowAt, finish, putRow}
+use Rattle.wire.proofs.TableLaws.{outside, putRow-length, table-other, elsewhere}
 use Rattle.tables.specs.Card.{Card, Receive, withCq, withQp, withWaiting, tail, receiveOf}
-use Rattle.tables.specs.State.{card, pairAt, queueAt, PairRows}
-use Rattle.tables.specs.Layout.{stateSize, cqT, qpFlagT, qpT, waitingT, receiveT, flagCodec, pairCodec, waitingCodec}
+use Rattle.tables.specs.Layout.{stateSize, cqT, qpFlagT, qpT, waitingT, receiveT, flagCodec, pairCodec, waitingCodec, entryT, queueCodec}
+use Rattle.tables.specs.Limits.{qpCount, mostPlaces, mostWaiting, cqCount}
+use Rattle.tables.specs.Queue.{pushBytes, takeBytes, longer}
 use Rattle.tables.specs.Records.{receiveCodec, completionCodec}
-use Rattle.tables.specs.Limits.{qpCount, mostPlaces, mostWaiting}
-use Rattle.tables.specs.Queue.{pushBytes, takeBytes}
+use Rattle.tables.specs.State.{card, pairAt, queueAt, PairRows}
+use Rattle.tables.specs.declared.Completion.{Completion}
+use Rattle.tables.specs.declared.QueueHead.{QueueHead}
+use Rattle.tables.specs.declared.ReceiveRecord.{ReceiveRecord}
+use Rattle.tables.proofs.KindLaws.{pair-kept}
+use Rattle.tables.proofs.StoreLaws.{receive-fits}
+use Rattle.validate.specs.Accept.{completionOk, accepts}
 use Rattle.validate.proofs.AcceptedLaws.{Accepted}
 use Rattle.validate.proofs.QueueLaws.{queue-sound, push-only, push-card, push-accepted}
-use Rattle.tables.proofs.StoreLaws.{receive-fits}
 use Rattle.validate.proofs.WaitingLaws.{first-is, take-card, take-accepted}
-use Rattle.tables.proofs.KindLaws.{pair-kept}
+use Rattle.rules.specs.Bytes.{effectBytes, flushBytes}
 use Rattle.rules.specs.Call.{Call}
 use Rattle.rules.specs.Calls.{owedChecks, checks, statusOf, effect, memoryAfter, bufferAfter}
+use Rattle.rules.specs.Contract.{Owes}
 use Rattle.rules.specs.Lists.{isEmpty}
 use Rattle.rules.specs.Queues.{flushChecks, flushPut, flushed}
 use Rattle.rules.specs.Send.{room, Put, pushed, putAll, oldest, consumeIf}
-use Rattle.rules.specs.Bytes.{effectBytes, flushBytes}
-use Rattle.rules.specs.Contract.{Owes}
-use Rattle.queues.specs.Live.{LiveQueue, LivePair, Flushable}
-use Rattle.queues.proofs.LiveLaws.{queue-ok, queue-below, queue-flag, pair-ok, pair-below, pair-flag, pair-rcq, rcq-live, rcq-place, some-wait}
-use Rattle.rules.proofs.Exported.{refused-owes, done-owes}
-use Rattle.tables.specs.declared.Completion.{Completion}
-use Rattle.tables.specs.declared.ReceiveRecord.{ReceiveRecord}
 use Rattle.rules.specs.declared.Answer.the-variants.{Done, Held, Refused}
 use Rattle.rules.specs.declared.Cause.the-variants.{Place}
+use Rattle.rules.proofs.Exported.{refused-owes, done-owes}
+use Rattle.queues.specs.Live.{LiveQueue, LivePair, Flushable}
+use Rattle.queues.proofs.LiveLaws.{queue-ok, queue-below, queue-flag, pair-ok, pair-below, pair-flag, pair-rcq, rcq-live, rcq-place, some-wait}
 
 -- the completion of a flushed receive
-abbrev pub flushedEntry : ReceiveRecord → (q : ℕ) → Completion
+abbrev flushedEntry : ReceiveRecord → (q : ℕ) → Completion
 flushedEntry w q = record { wr = w .wr; status = 4; opcode = 3; length = 0; imm = 0; owner = q }
 
 flushed-fits : (w : ReceiveRecord) (q : ℕ) → Fits receiveCodec w → q < qpCount → Fits completionCodec (flushedEntry w q)
@@ -50,6 +53,24 @@ flushed-fits w q f h = (f .0, (omega arith, (omega arith, (omega arith, (omega a
 
 flushed-ok : (w : ReceiveRecord) (q : ℕ) → q < qpCount → completionOk (flushedEntry w q) ≡ true
 flushed-ok w q h = rw (lt-ltb q qpCount h)
+
+-- a completion that is put leaves the state's length and the heads of waiting receives
+module _ (l : List ℕ) (n : ℕ) (e : Completion) where
+  abbrev h : QueueHead
+  h = rowAt cqT l n
+
+  abbrev row : ℕ
+  row = mostPlaces * n + ringPlace mostPlaces (h .first) (h .count)
+
+  push-sized : length (pushBytes l n e) ≡ length l
+  unfolding pushBytes
+  push-sized = putRow-length cqT (putRow entryT l row e) n (longer h) ∙ putRow-length entryT l row e
+
+  push-waiting : n < cqCount → (q : ℕ) → q < qpCount → rowAt waitingT (pushBytes l n e) q ≡ rowAt waitingT l q
+  unfolding pushBytes elsewhere outside finish cqT entryT waitingT queueCodec completionCodec waitingCodec
+  push-waiting b q c =
+      let k : ringPlace mostPlaces (h .first) (h .count) < mostPlaces = mod-lt (h .first + h .count) (omega arith) in
+      table-other cqT waitingT tt (putRow entryT l row e) n (longer h) q b c ∙ table-other entryT waitingT tt l row e q (omega arith) c
 
 -- ---- the bytes after it
 
@@ -71,6 +92,11 @@ module _ {l : List ℕ} {q : ℕ} (f : Flushable l q) where
 
   waits : 0 < rowAt waitingT l q .count
   waits = some-wait s (f .waits)
+
+  -- the receive still waits when a completion has been put, whatever it is
+  pub flush-next : (n : ℕ) (x : Completion) → n < cqCount → (l′ : List ℕ) → l′ ≡ pushBytes l n x
+      → (length l′ ≡ stateSize) × (0 < rowAt waitingT l′ q .count)
+  flush-next n x b l′ m = (ap length m ∙ push-sized l n x ∙ pair-ok s .sized, rw (m, push-waiting l n x b q (pair-below s)) waits)
 
   abbrev r : LiveQueue l rcq
   r = rcq-live s
@@ -97,12 +123,8 @@ module _ {l : List ℕ} {q : ℕ} (f : Flushable l q) where
   unfolding pairAt
   mid-flag = ap (λ (x : PairRows). x .flag) mid-pair ∙ pair-flag s
 
-  pub flush-sized : length mid ≡ stateSize
-  flush-sized = mid-accepted .sized
-
-  pub flush-some : 0 < rowAt waitingT mid q .count
-  unfolding pairAt
-  flush-some = let z : rowAt waitingT mid q ≡ rowAt waitingT l q = ap (λ (x : PairRows). x .head) mid-pair in rw z waits
+  mid-waits : 0 < rowAt waitingT mid q .count
+  mid-waits = flush-next rcq e (queue-below r) mid refl .1
 
   -- the completion that the rules put
   wr-is : oldest (card l .qp q .waiting) .wr ≡ w .wr
@@ -118,7 +140,7 @@ module _ {l : List ℕ} {q : ℕ} (f : Flushable l q) where
 
   taken : card (takeBytes mid q) ≡ withQp (withCq (card l) (pushed (record { cqn = rcq; entry = e }) (card l .cq))) (consumeIf true q (card l .qp))
   taken =
-      take-card mid mid-accepted q (pair-below s) mid-flag flush-some
+      take-card mid mid-accepted q (pair-below s) mid-flag mid-waits
       ∙ ap (λ (c : Card). withQp c (upd (c .qp) q (withWaiting (c .qp q) (tail (c .qp q .waiting)))))
       (push-card l (queue-ok r) rcq (queue-below r) (queue-flag r) e e-fits free)
 
@@ -129,7 +151,7 @@ module _ {l : List ℕ} {q : ℕ} (f : Flushable l q) where
       ∙ sym (ap (λ (x : Put). withQp (withCq (card l) (putAll (x ∷ []) (card l .cq))) (consumeIf true q (card l .qp))) put-is)
 
   flush-accepted : Accepted (flushBytes l q)
-  flush-accepted = rw (← flush-bytes) (take-accepted mid mid-accepted q (pair-below s) mid-flag flush-some)
+  flush-accepted = rw (← flush-bytes) (take-accepted mid mid-accepted q (pair-below s) mid-flag mid-waits)
 
 -- ---- the call
 

@@ -55,7 +55,7 @@ module _ {l : List ℕ} {n : ℕ} (s : LiveQueue l n) where
   pub unread-none : isEmpty (card l .cq n .entries) ≡ eqb (h .count) 0
   unread-none = empty-is (card l .cq n .entries) ∙ rw unread-count
 
-  pub room-is : room (card l .cq n) 1 ≡ ltb (h .count) (h .places)
+  room-is : room (card l .cq n) 1 ≡ ltb (h .count) (h .places)
   room-is = rw (unread-count, add-one, ap (λ (q : Cq). q .places) (queue-is l queue-ok n queue-below queue-flag))
 
 module _ {l : List ℕ} {q : ℕ} (s : LivePair l q) where
@@ -86,13 +86,18 @@ module _ {l : List ℕ} {q : ℕ} (s : LivePair l q) where
   unfolding pairAt
   pair-rcq = ap (λ (x : Qp). x .rcq) (qp-row l q pair-below pair-flag)
 
-  -- its receive completion queue is live
+  -- the completion queues that it names
+  pub pair-queues : (p .scq < cqCount) × (p .rcq < cqCount)
+  unfolding pairAt
+  pair-queues = let u = pair-sound l pair-ok q pair-below pair-flag in (cq-below l (p .scq) (u .sends), cq-below l (p .rcq) (u .receives))
+
   pub rcq-live : LiveQueue l (p .rcq)
   unfolding pairAt
   rcq-live = record { ok = s .ok; live = pair-sound l pair-ok q pair-below pair-flag .receives }
 
-  pub rcq-room : room (card l .cq (card l .qp q .rcq)) 1 ≡ ltb (rowAt cqT l (p .rcq) .count) (rowAt cqT l (p .rcq) .places)
-  rcq-room = rw pair-rcq (room-is rcq-live)
+  pub rcq-room : (x : QueuePair) → x ≡ p → (u : QueueHead) → u ≡ rowAt cqT l (x .rcq)
+      → ltb (u .count) (u .places) ≡ room (card l .cq (card l .qp q .rcq)) 1
+  rcq-room x e u f = rw (f, e, pair-rcq) (sym (room-is rcq-live))
 
   pub waiting-count : length (card l .qp q .waiting) ≡ w .count
   unfolding pairAt
@@ -111,4 +116,4 @@ module _ {l : List ℕ} {q : ℕ} (s : LivePair l q) where
   some-wait e = let z = eqb-false (w .count) 0 (sym waiting-none ∙ e) in omega arith
 
   pub rcq-place : room (card l .cq (card l .qp q .rcq)) 1 ≡ true → rowAt cqT l (p .rcq) .count < rowAt cqT l (p .rcq) .places
-  rcq-place e = ltb-true (rowAt cqT l (p .rcq) .count) (rowAt cqT l (p .rcq) .places) (sym rcq-room ∙ e)
+  rcq-place e = let u : QueueHead = rowAt cqT l (p .rcq) in ltb-true (u .count) (u .places) (rcq-room p refl u refl ∙ e)

@@ -5,11 +5,6 @@ use Rattle.queues.proofs.FlushLaws.{flush-15, flush-dead}
 use borrow.Author.Needs.{needs}
 use Rattle.queues.proofs.flush.Statement.{statement}
 use Rattle.queues.proofs.flush.Tie as tie
-use Rattle.queues.proofs.flush.Reads as reads
-use Rattle.queues.proofs.flush.Lts as lts
-use Rattle.queues.proofs.flush_pair.Reads as flush-pair-reads
-use Rattle.queues.proofs.pair.live.Reads as live-reads
-use Rattle.validate.proofs.accept.accepted.Reads as accepted-reads
 
 accepted-requires : tie.Need-accepted-requires
 accepted-requires c κs = search needs
@@ -28,14 +23,17 @@ same-length-2 c = search needs
 
 returns-2 : tie.Need-returns-2
 returns-2 c =
-    let ok = sym (c .before .before .before .before .accepted .ensures) ∙ not-false _ (c .before .before .before .if1 .left) in
-    flush-dead _ (c .before .before .before .before .before .before .before .args .qpn) ok (sym (c .before .live .ensures) ∙ not-true _ (c .if2 .taken))
+    let c1 = c .before .before .before in
+    let ok = sym (c1 .before .accepted .ensures) ∙ not-false _ (c1 .if1 .left) in
+    flush-dead _ (c1 .before .before .before .before .args .qpn) ok (sym (c .before .live .ensures) ∙ not-true _ (c .if2 .taken))
 
-flush-pair-requires : tie.Need-flush-pair-requires
-flush-pair-requires c κs =
+flush-live-requires : tie.Need-flush-live-requires
+flush-live-requires c κs =
+    let c1 = c .before in
+    let c2 = c1 .before .before .before in
     record {
-      ok = sym (c .before .before .before .before .before .accepted .ensures) ∙ not-false _ (c .before .before .before .before .if1 .left);
-      live = sym (c .before .before .live .ensures) ∙ not-false _ (c .before .if2 .left);
+      ok = sym (c2 .before .accepted .ensures) ∙ not-false _ (c2 .if1 .left);
+      live = sym (c1 .before .live .ensures) ∙ not-false _ (c1 .if2 .left);
     }
 
 same-length-3 : tie.Need-same-length-3
@@ -54,6 +52,6 @@ flush-spec =
     live-requires
     same-length-2
     returns-2
-    flush-pair-requires
+    flush-live-requires
     same-length-3
     returns-3)

@@ -5,11 +5,6 @@ use Rattle.queues.proofs.PollLaws.{poll-15, poll-short, poll-dead}
 use borrow.Author.Needs.{needs}
 use Rattle.queues.proofs.poll.Statement.{statement}
 use Rattle.queues.proofs.poll.Tie as tie
-use Rattle.queues.proofs.poll.Reads as reads
-use Rattle.queues.proofs.poll.Lts as lts
-use Rattle.queues.proofs.poll_queue.Reads as poll-queue-reads
-use Rattle.validate.proofs.accept.accepted.Reads as accepted-reads
-use Rattle.validate.proofs.accept.cq_live.Reads as cq-live-reads
 
 accepted-requires : tie.Need-accepted-requires
 accepted-requires c κs = search needs
@@ -24,27 +19,36 @@ same-length-2 : tie.Need-same-length-2
 same-length-2 c = search needs
 
 returns-2 : tie.Need-returns-2
-returns-2 c = poll-short _ (c .before .before .before .before .before .before .args .cqn) _ (sym (c .before .before .accepted .ensures) ∙ not-false _ (c .before .if1 .left)) (c .if2 .taken)
+returns-2 c =
+    let c1 = c .before in
+    poll-short _ (c1 .before .before .before .before .before .args .cqn) _ (sym (c1 .before .accepted .ensures) ∙ not-false _ (c1 .if1 .left)) (c .if2 .taken)
 
 cq-live-requires : tie.Need-cq-live-requires
-cq-live-requires c κs = accepted _ (sym (c .before .before .before .accepted .ensures) ∙ not-false _ (c .before .before .if1 .left)) .sized
+cq-live-requires c κs =
+    let c1 = c .before .before in
+    accepted _ (sym (c1 .before .accepted .ensures) ∙ not-false _ (c1 .if1 .left)) .sized
 
 same-length-3 : tie.Need-same-length-3
 same-length-3 c = search needs
 
 returns-3 : tie.Need-returns-3
 returns-3 c =
-    let ok = sym (c .before .before .before .before .before .accepted .ensures) ∙ not-false _ (c .before .before .before .before .if1 .left) in
-    poll-dead _ (c .before .before .before .before .before .before .before .before .before .args .cqn) _ (c .before .before .before .if2 .left) ok (sym (c .before .cq-live .ensures) ∙ not-true _ (c .if3 .taken))
+    let c1 = c .before .before .before in
+    let c2 = c1 .before in
+    let n = c2 .before .before .before .before .before .args .cqn in
+    let ok = sym (c2 .before .accepted .ensures) ∙ not-false _ (c2 .if1 .left) in
+    poll-dead _ n _ (c1 .if2 .left) ok (sym (c .before .cq-live .ensures) ∙ not-true _ (c .if3 .taken))
 
-poll-queue-requires : tie.Need-poll-queue-requires
-poll-queue-requires c κs = (
-  record {
-    ok = sym (c .before .before .before .before .before .before .before .accepted .ensures) ∙ not-false _ (c .before .before .before .before .before .before .if1 .left);
-    live = sym (c .before .before .before .cq-live .ensures) ∙ not-false _ (c .before .before .if3 .left);
-  },
-  c .before .before .before .before .before .if2 .left,
-)
+poll-live-requires : tie.Need-poll-live-requires
+poll-live-requires c κs =
+    let c1 = c .before .before in
+    let c2 = c1 .before .before .before .before in (
+      record {
+        ok = sym (c2 .before .accepted .ensures) ∙ not-false _ (c2 .if1 .left);
+        live = sym (c1 .before .cq-live .ensures) ∙ not-false _ (c1 .if3 .left);
+      },
+      c1 .before .before .before .if2 .left,
+    )
 
 same-length-4 : tie.Need-same-length-4
 same-length-4 c = search needs
@@ -67,7 +71,7 @@ poll-spec =
     cq-live-requires
     same-length-3
     returns-3
-    poll-queue-requires
+    poll-live-requires
     same-length-4
     same-length-5
     returns-4)

@@ -5,11 +5,6 @@ use Rattle.queues.proofs.ReceiveLaws.{receive-15, receive-bad}
 use borrow.Author.Needs.{needs}
 use Rattle.queues.proofs.post_receive.Statement.{statement}
 use Rattle.queues.proofs.post_receive.Tie as tie
-use Rattle.queues.proofs.post_receive.Reads as reads
-use Rattle.queues.proofs.post_receive.Lts as lts
-use Rattle.queues.proofs.join_any.Reads as join-any-reads
-use Rattle.tables.proofs.records.read_receive.Reads as read-receive-reads
-use Rattle.validate.proofs.accept.accepted.Reads as accepted-reads
 
 accepted-requires : tie.Need-accepted-requires
 accepted-requires c κs = search needs
@@ -18,7 +13,9 @@ same-length : tie.Need-same-length
 same-length c = search needs
 
 returns : tie.Need-returns
-returns c = let a = c .before .before .before .before .before .args in receive-15 (now (a .state)) (a .qpn) (now (a .posted)) (sym (c .before .accepted .ensures) ∙ not-true _ (c .if1 .taken))
+returns c =
+    let a = c .before .before .before .before .before .args in
+    receive-15 (now (a .state)) (a .qpn) (now (a .posted)) (sym (c .before .accepted .ensures) ∙ not-true _ (c .if1 .taken))
 
 read-receive-requires : tie.Need-read-receive-requires
 read-receive-requires c κs = search needs
@@ -26,8 +23,10 @@ read-receive-requires c κs = search needs
 enum-known-w : tie.Need-enum-known-w
 enum-known-w c = search needs
 
-join-any-requires : tie.Need-join-any-requires
-join-any-requires c κs = sym (c .before .before .before .before .before .before .accepted .ensures) ∙ not-false _ (c .before .before .before .before .before .if1 .left)
+post-record-requires : tie.Need-post-record-requires
+post-record-requires c κs =
+    let c1 = c .before .before .before .before .before in
+    sym (c1 .before .accepted .ensures) ∙ not-false _ (c1 .if1 .left)
 
 enum-known-n : tie.Need-enum-known-n
 enum-known-n c = search needs
@@ -36,15 +35,18 @@ same-length-2 : tie.Need-same-length-2
 same-length-2 c = search needs
 
 returns-2 : tie.Need-returns-2
-returns-2 c = c .before .before .join-any .ensures _ (sym (c .before .before .before .before .before .before .before .read-receive .ensures) ∙ c .before .before .before .before .before .w .given .1)
+returns-2 c =
+    let c1 = c .before .before .before .before .before in
+    c .before .before .post-record .ensures _ (sym (c1 .before .before .read-receive .ensures) ∙ c1 .w .given .1)
 
 same-length-3 : tie.Need-same-length-3
 same-length-3 c = search needs
 
 returns-3 : tie.Need-returns-3
 returns-3 c =
-    let a = c .before .before .before .before .before .before .before .before .before .args in
-    let ok = sym (c .before .before .before .before .before .accepted .ensures) ∙ not-false _ (c .before .before .before .before .if1 .left) in
+    let c1 = c .before .before .before .before in
+    let a = c1 .before .before .before .before .before .args in
+    let ok = sym (c1 .before .accepted .ensures) ∙ not-false _ (c1 .if1 .left) in
     receive-bad (now (a .state)) (a .qpn) (now (a .posted)) ok _ (sym (c .before .before .before .read-receive .ensures) ∙ c .before .n .given .1)
 
 pub post-receive-spec : {M : Type 1} → statement M
@@ -56,7 +58,7 @@ post-receive-spec =
     returns
     read-receive-requires
     enum-known-w
-    join-any-requires
+    post-record-requires
     enum-known-n
     same-length-2
     returns-2

@@ -2,9 +2,6 @@ use Rattle.tables.proofs.ObjectLaws.{qp-live, qp-out}
 use borrow.Author.Needs.{needs}
 use Rattle.queues.proofs.pair.live.Statement.{statement}
 use Rattle.queues.proofs.pair.live.Tie as tie
-use Rattle.queues.proofs.pair.live.Reads as reads
-use Rattle.queues.proofs.pair.live.Lts as lts
-use Rattle.tables.proofs.rows.load_qp_flag.Reads as load-qp-flag-reads
 
 load-qp-flag-requires : tie.Need-load-qp-flag-requires
 load-qp-flag-requires c κs = search needs

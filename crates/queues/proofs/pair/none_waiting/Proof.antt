@@ -1,9 +1,6 @@
 use Rattle.queues.proofs.LiveLaws.{pair-ok, pair-below, waiting-none}
 use Rattle.queues.proofs.pair.none_waiting.Statement.{statement}
 use Rattle.queues.proofs.pair.none_waiting.Tie as tie
-use Rattle.queues.proofs.pair.none_waiting.Reads as reads
-use Rattle.queues.proofs.pair.none_waiting.Lts as lts
-use Rattle.tables.proofs.rows.load_waiting.Reads as load-waiting-reads
 
 load-waiting-requires : tie.Need-load-waiting-requires
 load-waiting-requires c κs = let s = c .before .pre in (pair-below s, pair-ok s .sized)

@@ -2,9 +2,6 @@ use Rattle.queues.proofs.LiveLaws.{pair-ok, pair-below, waiting-count}
 use borrow.Author.Needs.{needs}
 use Rattle.queues.proofs.pair.receives_full.Statement.{statement}
 use Rattle.queues.proofs.pair.receives_full.Tie as tie
-use Rattle.queues.proofs.pair.receives_full.Reads as reads
-use Rattle.queues.proofs.pair.receives_full.Lts as lts
-use Rattle.tables.proofs.rows.load_waiting.Reads as load-waiting-reads
 
 load-waiting-requires : tie.Need-load-waiting-requires
 load-waiting-requires c κs = let s = c .before .pre in (pair-below s, pair-ok s .sized)
