@@ -9,7 +9,7 @@ use native.Mathlib.Omega.{arith}
 use lib.Dec.{eqb, ltb, leb}
 use lib.ListN.{length, getD, take, drop, length-drop}
 use lib.Seq.{length-take-le}
-use borrow.Author.Tests.{eqb-true, leb-true, le-leb, lt-leb, ltb-false, not-false}
+use borrow.Author.Tests.{eqb-true, leb-true, le-leb, ltb-false, not-false}
 use Rattle.wire.specs.Checks.{refusal, Passed}
 use Rattle.wire.specs.Codec.{decode}
 use Rattle.wire.proofs.CheckLaws.{passed}
@@ -130,13 +130,12 @@ module _ (x : List ℕ) (s : SendRecord) (t : Told x s) where
       go true i = refl
       go false i = ap sgeBytes (sym (entries-are i))
 
-  pub sending : totalBy s entries ≤ mostMessage → Sending s x entries (totalBy s entries)
-  sending h =
+  pub sending : Sending s x entries (totalBy s entries)
+  sending =
       record {
         size = t .size;
         plain = t .plain;
         total = refl;
-        most = h;
         short = λ i. (let z : totalBy s entries ≡ s .count % 65536 = rw i in rw z (t .short i));
       }
 
@@ -161,12 +160,14 @@ fit-or : (f a b x y z : Bool) → (f ≡ true → x ≡ y) → statusBy f a b x 
 fit-or true a b x y z h = rw (h refl)
 fit-or false a b x y z h = refl
 
-zero-means : (f b x z : Bool) → statusBy f true b x z ≡ 0 → (b ≡ true) × (z ≡ true)
-zero-means f false x z e = absurd (omega arith)
-zero-means f true x true e = (refl, refl)
-zero-means true true true false e = absurd (omega arith)
-zero-means true true false false e = absurd (omega arith)
-zero-means false true x false e = absurd (omega arith)
+-- success: the message is short enough, and both sides are permitted
+zero-means : (f a b x z : Bool) → statusBy f a b x z ≡ 0 → (a ≡ true) × (b ≡ true) × (z ≡ true)
+zero-means f false b x z e = absurd (omega arith)
+zero-means f true false x z e = absurd (omega arith)
+zero-means f true true x true e = (refl, refl, refl)
+zero-means true true true true false e = absurd (omega arith)
+zero-means true true true false false e = absurd (omega arith)
+zero-means false true true x false e = absurd (omega arith)
 
 all-first : (w : ReceiveRecord) (ws : List ReceiveRecord) → all receiveOk (w ∷ ws) ≡ true → w .count ≤ 2
 unfolding all
@@ -207,7 +208,7 @@ module _ (l : List ℕ) (a : accepts l ≡ true) (q : ℕ) (x : List ℕ) (s : S
   unfolding deliveryChecks
   tests = passed (deliveryChecks c q (bare o)) good
 
-  pub goes : Going c q o
+  goes : Going c q o
   goes = going c q r tests
 
   pub own-below : q < qpCount
@@ -300,32 +301,32 @@ module _ (l : List ℕ) (a : accepts l ≡ true) (q : ℕ) (x : List ℕ) (s : S
       ∙ ap (λ (k : Qp). allowsAll c (k .pd) (maskOf (farUse o)) (farBytes r (takenBy c q))) far-is
       ∙ ap₂ (λ (k : ℕ) (b : List Byte). allowsAll c (far .pd) k b) (far-mask (fills o) (reads o)) far-are
 
-  pub fit-is : takes o ≡ true → leb (total r) (sgeTotal (takenBy c q .sges)) ≡ fit
+  fit-is : takes o ≡ true → leb (total r) (sgeTotal (takenBy c q .sges)) ≡ fit
   unfolding receiveOf
   fit-is i = ap₂ (λ (k : ℕ) (v : Receive). leb k (sgeTotal (v .sges))) (total-is x s t) (taken-is i)
 
-  pub status-is : sendStatus c q r ≡ statusBy (fills o) (leb n mostMessage) mine fit theirs
+  status-is : sendStatus c q r ≡ statusBy (fills o) (leb n mostMessage) mine fit theirs
   unfolding sendStatus
   status-is =
       rw (mine-is, theirs-is)
       (ap (λ (k : ℕ). statusBy (fills o) (leb k mostMessage) mine (leb (total r) (sgeTotal (takenBy c q .sges))) theirs) (total-is x s t)
       ∙ fit-or (fills o) (leb n mostMessage) mine (leb (total r) (sgeTotal (takenBy c q .sges))) fit theirs (λ i. fit-is (fills-takes o i)))
 
-  pub too-long : mostMessage < n → 1 ≡ sendStatus c q r
-  too-long h = sym (status-is ∙ rw (lt-leb n mostMessage h))
+  pub status-same : statusIn l (endsAt l q) s (entries x s t) w n ≡ sendStatus c q r
+  status-same = sym status-is
 
-  pub status-within : n ≤ mostMessage → statusIn l (endsAt l q) s (entries x s t) w n ≡ sendStatus c q r
-  status-within h = sym (status-is ∙ rw (le-leb n mostMessage h))
+  -- what the status 0 tells
+  zero-tells : (st : ℕ) → st ≡ sendStatus c q r → st ≡ 0 → (leb n mostMessage ≡ true) × (mine ≡ true) × (theirs ≡ true)
+  zero-tells st e z = zero-means (fills o) (leb n mostMessage) mine fit theirs (status-same ∙ sym e ∙ z)
+
+  pub zero-short : (st : ℕ) → st ≡ sendStatus c q r → st ≡ 0 → n ≤ mostMessage
+  zero-short st e z = leb-true n mostMessage (zero-tells st e z .0)
 
   -- ---- the memory
 
   module _ (m : List ℕ) where
-    pub long-memory : mostMessage < n → m ≡ sendMemory c q r m
-    unfolding sendMemory
-    long-memory h = rw (← too-long h)
-
     abbrev mem : List ℕ
-    mem = carried c s x (take (s .count) (entries x s t)) (farList s w n) n m
+    mem = carried c s x (take (s .count) (entries x s t)) (farList s w n) m
 
     far-places : theirs ≡ true → map (place c) (farBytes r (takenBy c q)) ≡ places c (farList s w n)
     far-places j = ap (map (place c)) far-are ∙ placed-all c (far .pd) (farMask o) (sgeBytes (farList s w n)) j
@@ -341,7 +342,7 @@ module _ (l : List ℕ) (a : accepts l ≡ true) (q : ℕ) (x : List ℕ) (s : S
     both-ways true f g ps qs i j = rw (values-at (place c) m f, i, j)
     both-ways false f g ps qs i j = rw (values-at (place c) m g, i, j)
 
-    pub moved-is : mine ≡ true → theirs ≡ true → mem ≡ delivered (place c) r (takenBy c q) m
+    moved-is : mine ≡ true → theirs ≡ true → mem ≡ delivered (place c) r (takenBy c q) m
     unfolding delivered message
     moved-is i j = go (isInline s) refl
       where
@@ -354,12 +355,12 @@ module _ (l : List ℕ) (a : accepts l ≡ true) (q : ℕ) (x : List ℕ) (s : S
             rw (t .there k, far-places j)
         go false k = both-ways (reads o) (farBytes r (takenBy c q)) (ownBytes r) (places c (farList s w n)) (places c (take (s .count) (entries x s t))) (far-places j) (own-places k i)
 
-    pub memory-is : n ≤ mostMessage → (st : ℕ) → st ≡ sendStatus c q r → cond (eqb st 0) mem m ≡ sendMemory c q r m
+    pub memory-is : (st : ℕ) → st ≡ sendStatus c q r → cond (eqb st 0) mem m ≡ sendMemory c q r m
     unfolding sendMemory
-    memory-is h st e = rw (← e) (go (eqb st 0) refl)
+    memory-is st e = rw (← e) (go (eqb st 0) refl)
       where
         go : (b : Bool) → eqb st 0 ≡ b → cond b mem m ≡ cond b (delivered (place c) r (takenBy c q) m) m
         go true i =
-            let y = zero-means (fills o) mine fit theirs (status-within h ∙ sym e ∙ eqb-true st 0 i) in
-            moved-is (y .0) (y .1)
+            let y = zero-tells st e (eqb-true st 0 i) in
+            moved-is (y .1) (y .2)
         go false i = refl
