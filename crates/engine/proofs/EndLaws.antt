@@ -27,7 +27,7 @@ use Rattle.engine.specs.Meet.{bare, endsAt, metBy, meeting}
 use Rattle.engine.specs.Deliver.{totalBy, takenRow, Sending, Delivery}
 use Rattle.engine.specs.Settle.{settled, Settling}
 use Rattle.engine.specs.Send.{Posted, Met, Carried, Ran}
-use Rattle.engine.proofs.RequestLaws.{requestBy, Told, told, total-is, sending, far-below, first-below, taken-count, status-same, zero-short, memory-is}
+use Rattle.engine.proofs.RequestLaws.{requestBy, Told, told, total-is, sending, far-below, first-below, taken-count, status-same, done-short, memory-is}
 use Rattle.engine.proofs.StoreLaws.{settled-is, settling}
 use Rattle.engine.specs.declared.meet.Ends.{Ends}
 use Rattle.engine.specs.declared.meet.Meeting.the-variants.{Pairs, Stopped}
@@ -67,7 +67,7 @@ module _ (l m x : List ℕ) (s : SendRecord) (q : ℕ) (a : accepts l ≡ true) 
       record {
         count = taken-count l a q x s t good;
         sending = sending x s t;
-        settling = λ st m′ y. settling l a q x s t good st (status-is st m′ y) n0 (λ i. total-is x s t) (zero-short l a q x s t good st (status-is st m′ y));
+        settling = λ st m′ y. settling l a q x s t good st (status-is st m′ y) n0 (λ i. total-is x s t) (done-short l a q x s t good st (status-is st m′ y));
         carried =
             λ st m′ y. of-request st (settled l (endsAt l q) s w0 st n0) m′
             (record {

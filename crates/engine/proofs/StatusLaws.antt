@@ -18,7 +18,7 @@ use Rattle.rules.specs.Send.{statusBy}
 use Rattle.rules.specs.Touch.{fills, sgeBytes, sgeTotal}
 use Rattle.rules.proofs.Runs.{cut, cut-total}
 use Rattle.dma.specs.Grants.{allowsAll}
-use Rattle.dma.specs.Ranges.{permitted-mapped-all}
+use Rattle.dma.proofs.UseLaws.{permitted-mapped-all}
 use Rattle.engine.specs.Deliver.{ownMask, farMask, ownBy, farList, farCount, Sending, OwnSide, Delivery, Carries, carried}
 use Rattle.engine.specs.declared.meet.Ends.{Ends}
 

@@ -20,8 +20,8 @@ use Rattle.rules.specs.Lists.{stored}
 use Rattle.rules.specs.Send.{statusBy}
 use Rattle.rules.specs.Touch.{Byte, takes, fills, reads, sgeBytes, sgeTotal}
 use Rattle.rules.proofs.Runs.{cut}
-use Rattle.dma.specs.Grants.{allowsAll, mappedAll, places}
-use Rattle.dma.specs.Places.{moved}
+use Rattle.dma.specs.Grants.{allowsAll}
+use Rattle.dma.specs.Moves.{mappedAll, places, moved}
 use Rattle.engine.specs.declared.meet.Ends.{Ends}
 
 -- ---- what is touched

@@ -33,7 +33,7 @@ ghost use Rattle.tables.specs.Limits.{qpCount, mostWaiting};
 ghost use Rattle.tables.specs.Records.{isInline, receiveSges};
 ghost use Rattle.rules.specs.Touch.{fills, sgeTotal};
 ghost use Rattle.dma.specs.Grants.{allowsAll};
-ghost use Rattle.dma.specs.Places.{Ready};
+ghost use Rattle.dma.specs.Moves.{Ready};
 ghost use Rattle.engine.specs.Deliver.{takenRow, Sending, Delivery, totalBy, ownMask, ownBy, farCount, farList, farMask, Carries, carried, OwnSide};
 
 fn is_inline(s: SendRecord) -> bool

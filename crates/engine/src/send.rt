@@ -16,7 +16,7 @@ ghost use mathlib.Core.List.{[]};
 ghost use Rattle.rules.specs.Call.{Call};
 ghost use Rattle.rules.specs.Touch.{requestOf};
 ghost use Rattle.rules.specs.Contract.{Owes};
-ghost use Rattle.dma.specs.Places.{Ready};
+ghost use Rattle.dma.specs.Moves.{Ready};
 ghost use Rattle.engine.specs.Send.{Posted, Met, Carried, Ran};
 
 // Steps 3 to 6 for two queue pairs that passed the tests: the status, and all that the request leaves.

@@ -8,7 +8,7 @@ use lib.ListN.{length, take}
 use borrow.Author.Tests.{eq-eqb, ne-eqb}
 use Rattle.tables.specs.State.{card}
 use Rattle.rules.specs.Lists.{stored}
-use Rattle.dma.specs.Grants.{places}
+use Rattle.dma.specs.Moves.{places}
 use Rattle.engine.proofs.MoveLaws.{there, back}
 use borrow.Author.Needs.{needs}
 use Rattle.engine.proofs.deliver.move_bytes.Statement.{statement}
