@@ -1,17 +1,17 @@
 // Control commands: document 01, "Control commands". Rules: rules/specs/Control.antt; contracts: specs/Control.antt.
 use crate::Kind;
 use crate::Outcome;
-use crate::answers::BAD_FIELD;
-use crate::answers::BAD_STATE;
-use crate::answers::FULL;
-use crate::answers::NOT_LIVE;
-use crate::answers::OUT_OF_RANGE;
-use crate::answers::SHORT_BUFFER;
-use crate::answers::UNKNOWN;
-use crate::answers::WRONG_LENGTH;
 use crate::control_qp;
 use crate::destroy;
 use rules::Answer;
+use rules::numbers::BAD_FIELD;
+use rules::numbers::BAD_RANGE;
+use rules::numbers::BAD_STATE;
+use rules::numbers::FULL;
+use rules::numbers::NOT_LIVE;
+use rules::numbers::SHORT_BUFFER;
+use rules::numbers::UNKNOWN;
+use rules::numbers::WRONG_LENGTH;
 use tables::Ack;
 use tables::HeadRead;
 use tables::NumberRead;
@@ -203,7 +203,7 @@ fn register(state: &mut [u8], read: RegisterRead) -> Outcome
         return Outcome::Refused(NOT_LIVE);
     }
     if !in_range(rows::load_memory(state), g) {
-        return Outcome::Refused(OUT_OF_RANGE);
+        return Outcome::Refused(BAD_RANGE);
     }
     let n = find::free_mrn(state);
     if MR_COUNT <= n {

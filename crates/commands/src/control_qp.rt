@@ -1,11 +1,11 @@
 // Control commands of queue pairs: document 01, "Control commands". Rules: rules/specs/Control.antt; contracts: specs/Control.antt.
 use crate::Outcome;
-use crate::answers::BAD_FIELD;
-use crate::answers::FULL;
-use crate::answers::NOT_LIVE;
-use crate::answers::WRONG_LENGTH;
-use crate::answers::WRONG_MOVE;
 use crate::destroy::qp_live;
+use rules::numbers::BAD_FIELD;
+use rules::numbers::FULL;
+use rules::numbers::NOT_LIVE;
+use rules::numbers::WRONG_LENGTH;
+use rules::numbers::WRONG_STATE;
 use tables::Ack;
 use tables::CreateQp;
 use tables::CreateQpRead;
@@ -181,7 +181,7 @@ pub fn modify_qp(state: &mut [u8], read: ModifyQpRead) -> Outcome
     }
     let p = rows::load_qp(state, r.qpn as usize);
     if !is_move(p.state, r.state) {
-        return Outcome::Refused(WRONG_MOVE);
+        return Outcome::Refused(WRONG_STATE);
     }
     move_pair(state, r);
     Outcome::Done(Ack::Done)

@@ -1,9 +1,9 @@
 // Destroy CQ, PD and QP, and deregister MR: one shape for the four kinds of objects. Contracts: specs/Control.antt.
 use crate::Kind;
 use crate::Outcome;
-use crate::answers::IN_USE;
-use crate::answers::NOT_LIVE;
-use crate::answers::WRONG_LENGTH;
+use rules::numbers::IN_USE;
+use rules::numbers::NOT_LIVE;
+use rules::numbers::WRONG_LENGTH;
 use tables::Ack;
 use tables::NumberRead;
 use tables::limits::MR_COUNT;

@@ -1,5 +1,4 @@
 // Control commands: document 01, "Control commands". Rules: rules/specs/Control.antt; contracts: specs/Control.antt.
-mod answers;
 pub mod control;
 mod control_qp;
 mod destroy;

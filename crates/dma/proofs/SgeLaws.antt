@@ -12,9 +12,8 @@ use lib.Seq.{drop-cons, length-take-le, getD-take, take-suc-set, append-snoc}
 use Rattle.wire.specs.Scan.{all}
 use Rattle.tables.specs.Records.{noSge}
 use Rattle.tables.specs.declared.Sge.{Sge}
-use Rattle.rules.specs.Touch.{Byte, range, sgeBytes, sgeTotal}
+use Rattle.rules.specs.Touch.{Byte, range, sgeBytes, sgeTotal, cut}
 use Rattle.rules.proofs.Ranges.{all-split}
-use Rattle.rules.proofs.Runs.{cut}
 
 -- ---- a list of one entry
 

@@ -10,9 +10,8 @@ ghost use lib.Dec.{eqb};
 ghost use lib.ListN.{length, take};
 ghost use Rattle.tables.specs.State.{card, registrationOf};
 ghost use Rattle.tables.specs.Layout.{stateSize};
-ghost use Rattle.rules.specs.Touch.{range, sgeBytes, sgeTotal};
+ghost use Rattle.rules.specs.Touch.{range, sgeBytes, sgeTotal, cut};
 ghost use Rattle.dma.specs.Grants.{regionOf, grants, allowsAll, spans};
-ghost use Rattle.rules.proofs.Runs.{cut};
 
 // The live region that has exactly a key, if there is one.
 enum Found {

@@ -37,8 +37,8 @@ use Rattle.tables.specs.declared.WaitingHead.{WaitingHead}
 use Rattle.rules.specs.Lists.{isEmpty, orElse, stored}
 use Rattle.rules.specs.Permit.{Use, permitsAll, place}
 use Rattle.rules.specs.Send.{peerOf, takenBy, deliveryChecks, ownUse, farUse, statusBy, sendStatus, sendMemory}
-use Rattle.rules.specs.Touch.{Request, Byte, requestOf, takes, fills, reads, range, sgeBytes, sgeTotal, total, ownBytes, farBytes, message, delivered}
-use Rattle.rules.proofs.Runs.{cut, cut-bytes, values-at}
+use Rattle.rules.specs.Touch.{Request, Byte, requestOf, takes, fills, reads, range, sgeBytes, sgeTotal, total, ownBytes, farBytes, message, delivered, cut}
+use Rattle.rules.proofs.Runs.{cut-bytes, values-at}
 use Rattle.dma.specs.Grants.{allowsAll}
 use Rattle.dma.specs.Moves.{places, moved}
 use Rattle.dma.proofs.UseLaws.{maskOf, allowed-all}

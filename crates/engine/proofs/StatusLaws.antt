@@ -15,8 +15,8 @@ use Rattle.tables.specs.declared.ReceiveRecord.{ReceiveRecord}
 use Rattle.tables.specs.declared.SendRecord.{SendRecord}
 use Rattle.tables.specs.declared.Sge.{Sge}
 use Rattle.rules.specs.Send.{statusBy}
-use Rattle.rules.specs.Touch.{fills, sgeBytes, sgeTotal}
-use Rattle.rules.proofs.Runs.{cut, cut-total}
+use Rattle.rules.specs.Touch.{fills, sgeBytes, sgeTotal, cut}
+use Rattle.rules.proofs.Runs.{cut-total}
 use Rattle.dma.specs.Grants.{allowsAll}
 use Rattle.dma.proofs.UseLaws.{permitted-mapped-all}
 use Rattle.engine.specs.Deliver.{ownMask, farMask, ownBy, farList, farCount, Sending, OwnSide, Delivery, Carries, carried}

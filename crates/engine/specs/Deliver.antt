@@ -18,8 +18,7 @@ use Rattle.tables.specs.declared.SendRecord.{SendRecord}
 use Rattle.tables.specs.declared.Sge.{Sge}
 use Rattle.rules.specs.Lists.{stored}
 use Rattle.rules.specs.Send.{statusBy}
-use Rattle.rules.specs.Touch.{Byte, takes, fills, reads, sgeBytes, sgeTotal}
-use Rattle.rules.proofs.Runs.{cut}
+use Rattle.rules.specs.Touch.{Byte, takes, fills, reads, sgeBytes, sgeTotal, cut}
 use Rattle.dma.specs.Grants.{allowsAll}
 use Rattle.dma.specs.Moves.{mappedAll, places, moved}
 use Rattle.engine.specs.declared.meet.Ends.{Ends}

@@ -1,8 +1,8 @@
 // The tests of a sender and its peer: document 01, "QP 2; QP not in RTS 3", and steps 1 and 2. Definitions: specs/Meet.antt.
-use crate::answers::NOT_LIVE;
-use crate::answers::WRONG_STATE;
 use rules::Answer;
 use rules::Cause;
+use rules::numbers::NOT_LIVE;
+use rules::numbers::WRONG_STATE;
 use tables::QueueHead;
 use tables::QueuePair;
 use tables::limits::QP_COUNT;

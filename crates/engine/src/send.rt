@@ -1,12 +1,12 @@
 // Post send: document 01, "Posting and delivering". Definitions: specs/Send.antt.
-use crate::answers::BAD_STATE;
-use crate::answers::OTHER_MEMORY;
 use crate::deliver;
 use crate::meet;
 use crate::meet::Ends;
 use crate::meet::Meeting;
 use crate::settle;
 use rules::Answer;
+use rules::numbers::BAD_STATE;
+use rules::numbers::OTHER_MEMORY;
 use tables::SendRead;
 use tables::SendRecord;
 use tables::records;

@@ -1,16 +1,15 @@
 // Reset, poll, post receive and flush: document 01's calls on the queues of the lent state. Their tests and effects: rules, specs/Queues.antt.
-mod answers;
 mod pair;
 
-use answers::BAD_RANGE;
-use answers::BAD_STATE;
-use answers::NOT_LIVE;
-use answers::NOTHING_THERE;
-use answers::QUEUE_FULL;
-use answers::SHORT_BUFFER;
-use answers::WRONG_STATE;
 use rules::Answer;
 use rules::Cause;
+use rules::numbers::BAD_RANGE;
+use rules::numbers::BAD_STATE;
+use rules::numbers::FULL;
+use rules::numbers::NOT_LIVE;
+use rules::numbers::NOTHING_THERE;
+use rules::numbers::SHORT_BUFFER;
+use rules::numbers::WRONG_STATE;
 use tables::ReceiveRead;
 use tables::ReceiveRecord;
 use tables::limits::MOST_MEMORY;
@@ -93,7 +92,7 @@ fn post_live(state: &mut [u8], q: usize, w: ReceiveRecord) -> Answer
         return Answer::Refused(WRONG_STATE);
     }
     if pair::receives_full(state, q) {
-        return Answer::Refused(QUEUE_FULL);
+        return Answer::Refused(FULL);
     }
     queue::post_receive(state, q, w);
     Answer::Done(0)

@@ -15,7 +15,7 @@ use Rattle.tables.specs.Card.{Card}
 use Rattle.tables.specs.declared.Registration.{Registration}
 use Rattle.tables.specs.declared.Sge.{Sge}
 use Rattle.rules.specs.Lists.{stored}
-use Rattle.rules.specs.Touch.{Byte, range, sgeBytes, sgeTotal, byteOf}
+use Rattle.rules.specs.Touch.{Byte, range, sgeBytes, sgeTotal, cut, byteOf}
 use Rattle.rules.specs.Permit.{Use, granted, lookup, place, placeIn}
 use Rattle.rules.specs.Send.{Put, pushed, putAll}
 use Rattle.rules.proofs.Ranges.{ends, sges-take-short, sges-take-long}
@@ -106,10 +106,6 @@ stored-take m (p ∷ ps) [] = refl
 stored-take m (p ∷ ps) (v ∷ vs) = stored-take (set m p v) ps vs
 
 -- ---- a list of pieces cut to its first n bytes
-
-unfoldable pub cut : ℕ → List Sge → List Sge
-cut n [] = []
-cut n (p ∷ ps) = record { address = p .address; length = min n (p .length); key = p .key } ∷ cut (n - p .length) ps
 
 pub cut-bytes : (n : ℕ) (ps : List Sge) → sgeBytes (cut n ps) ≡ take n (sgeBytes ps)
 unfolding cut sgeBytes

@@ -4,7 +4,7 @@
 -- answers. Assumes nothing.
 use mathlib.Core.Bool.{Bool, cond, _&&_}
 use mathlib.Core.List.{List, [], _∷_, _++_, map}
-use Prim.Native.Nat.{ℕ, zero, suc, _+_, _-_}
+use Prim.Native.Nat.{ℕ, zero, suc, _+_, _-_, min}
 use lib.Dec.{eqb, leb}
 use lib.ListN.{length, getD, take}
 use Rattle.wire.specs.Rows.{rows}
@@ -78,6 +78,11 @@ sgeBytes (p ∷ ps) = range (p .address) (p .key) (p .length) ++ sgeBytes ps
 unfoldable pub sgeTotal : List Sge → ℕ
 sgeTotal [] = 0
 sgeTotal (p ∷ ps) = p .length + sgeTotal ps
+
+-- "the first .. bytes of that list": pieces cut to their first n bytes
+unfoldable pub cut : ℕ → List Sge → List Sge
+cut n [] = []
+cut n (p ∷ ps) = record { address = p .address; length = min n (p .length); key = p .key } ∷ cut (n - p .length) ps
 
 -- "Total (the inline length, or the pieces' sum)"
 unfoldable pub total : Request → ℕ

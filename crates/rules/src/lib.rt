@@ -1,4 +1,6 @@
 // The answers of the card's calls. What each call does is in specs/.
+pub mod numbers;
+
 ghost use mathlib.Core.Path.{_≡_};
 ghost use Rattle.rules.specs.Answer.{causeNumber, number, status, codeOf};
 

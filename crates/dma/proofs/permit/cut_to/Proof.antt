@@ -4,11 +4,11 @@ use native.Mathlib.Omega.{arith}
 use mathlib.Core.List.{_++_}
 use lib.ListN.{length, getD, take, drop, length-set}
 use Prim.Native.Nat.{_+_, _-_, _≤_, min}
-use Rattle.rules.proofs.Runs.{cut}
 use Rattle.tables.specs.Records.{noSge}
 use Rattle.dma.proofs.SgeLaws.{left-cons, cut-more, cut-done}
 use Rattle.dma.proofs.permit.cut_to.Statement.{statement}
 use Rattle.dma.proofs.permit.cut_to.Tie as tie
+use Rattle.rules.specs.Touch.{cut}
 
 abbrev Inv-loop : tie.InvT-loop
 Inv-loop count n sges out₀ left₀ i₀ out left i = (i ≤ count) × (left ≤ n) × (length out ≡ 4) × (take i out ++ cut left (drop i (take count sges)) ≡ cut n (take count sges))

@@ -1,7 +1,6 @@
 use mathlib.Core.Path.{_≡_, sym, ap, _∙_}
 use mathlib.Core.Bool.{true, false}
-use Rattle.rules.specs.Touch.{fills}
-use Rattle.rules.proofs.Runs.{cut}
+use Rattle.rules.specs.Touch.{fills, cut}
 use borrow.Author.Needs.{needs}
 use Rattle.engine.proofs.deliver.far_sges.Statement.{statement}
 use Rattle.engine.proofs.deliver.far_sges.Tie as tie

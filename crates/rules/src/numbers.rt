@@ -1,4 +1,4 @@
-// Document 01, "Answer numbers": the refusals of a control command, by name.
+// Document 01, "Answer numbers", by name. Holds are an answer's cause, not a refusal.
 
 // "record length wrong"
 pub const WRONG_LENGTH: u8 = 1;
@@ -7,19 +7,25 @@ pub const WRONG_LENGTH: u8 = 1;
 pub const NOT_LIVE: u8 = 2;
 
 // "wrong QP state or move"
-pub const WRONG_MOVE: u8 = 3;
+pub const WRONG_STATE: u8 = 3;
 
 // "bad field"
 pub const BAD_FIELD: u8 = 4;
 
+// "lent memory's length isn't the reset length"
+pub const OTHER_MEMORY: u8 = 7;
+
 // "table or receive queue full"
 pub const FULL: u8 = 8;
+
+// "nothing there"
+pub const NOTHING_THERE: u8 = 9;
 
 // "in use"
 pub const IN_USE: u8 = 10;
 
 // "range"
-pub const OUT_OF_RANGE: u8 = 11;
+pub const BAD_RANGE: u8 = 11;
 
 // "answer buffer too short"
 pub const SHORT_BUFFER: u8 = 12;
