@@ -1,54 +1,40 @@
--- Whether a domain may touch a byte for a use, given as a mask of access bits, as the code asks it; Bridge.antt has that it is the rules'
--- permission. Assumes nothing.
-use mathlib.Core.Bool.{Bool, _&&_, _||_}
-use mathlib.Core.List.{List, map}
-use Prim.Native.Nat.{ℕ, _+_, _*_, _/_}
+-- Document 01, "Permitted byte", as the code asks it: by a domain and by a mask of access bits, where the rules have a queue pair and a
+-- use. The two are one: proofs/UseLaws.antt. Assumes nothing.
+use mathlib.Core.Bool.{Bool, false, _&&_, _||_}
+use mathlib.Core.List.{List}
+use Prim.Native.Nat.{ℕ, _+_, _/_}
 use lib.Dec.{eqb, leb, ltb}
 use Rattle.wire.specs.Checks.{has}
 use Rattle.wire.specs.Scan.{all}
 use Rattle.tables.specs.Card.{Card, Mr}
 use Rattle.tables.specs.declared.Registration.{Registration}
-use Rattle.tables.specs.declared.Sge.{Sge}
-use Rattle.rules.specs.Touch.{Byte, byteOf, sgeBytes}
+use Rattle.rules.specs.Bytes.{regionRow}
+use Rattle.rules.specs.Lists.{maybe}
+use Rattle.rules.specs.Permit.{lookup}
+use Rattle.rules.specs.Touch.{Byte}
+use Rattle.dma.specs.declared.permit.Found.{Found}
+use Rattle.dma.specs.declared.permit.Found.the-variants.{Live, Nothing}
 
--- the region slot that a key names
-abbrev pub slotOf : (ℕ → Mr) → ℕ → Mr
-slotOf mr key = mr (key / 256)
+-- the region that "a live MR has this key" speaks of, as its row holds it
+unfoldable pub regionOf : (ℕ → Mr) → (key : ℕ) → Found
+regionOf mr key = maybe Nothing (λ g. Live (regionRow g (mr (key / 256) .variant))) (lookup mr key)
 
--- a live region has exactly this key
-unfoldable pub matches : (ℕ → Mr) → ℕ → Bool
-matches mr key = slotOf mr key .live && eqb (256 * (key / 256) + slotOf mr key .variant) key
-
--- "local reading none, local writing bit 1, remote write 2, remote read 4": the use's mask, 0 for none
-abbrev pub grants : ℕ → ℕ → Bool
+-- "the use's right: local reading none, local writing bit 1, remote write 2, remote read 4": the mask is the bit, 0 for none
+abbrev pub grants : (mask access : ℕ) → Bool
 grants mask access = eqb mask 0 || has mask access
 
--- "virt ≤ address < virt + length"
-unfoldable pub within : Registration → ℕ → Bool
+-- "virt ≤ address < virt + length"; the sum is a whole number
+unfoldable pub within : Registration → (address : ℕ) → Bool
 within g a = leb (g .virt) a && ltb a (g .virt + g .length)
 
--- a live region has the key and the domain, and its access has the use's right
-unfoldable pub serves : Card → ℕ → ℕ → ℕ → Bool
-serves c pd mask key =
-    matches (c .mr) key && (eqb (slotOf (c .mr) key .reg .pd) pd && grants mask (slotOf (c .mr) key .reg .access))
-
-unfoldable pub allows : Card → ℕ → ℕ → Byte → Bool
-allows c pd mask b = serves c pd mask (b .key) && within (slotOf (c .mr) (b .key) .reg) (b .address)
+-- "a live MR has this key and the QP's PD, virt ≤ address < virt + length, and its access has the use's right"
+unfoldable pub allows : Card → (pd mask : ℕ) → Byte → Bool
+allows c pd mask b = maybe false (λ g. eqb (g .pd) pd && grants mask (g .access) && within g (b .address)) (lookup (c .mr) (b .key))
 
 -- "A range is permitted if all its bytes are; an empty one looks at no key."
-abbrev pub allowsAll : Card → ℕ → ℕ → List Byte → Bool
+abbrev pub allowsAll : Card → (pd mask : ℕ) → List Byte → Bool
 allowsAll c pd mask bytes = all (allows c pd mask) bytes
 
--- whoever may use it, the byte lies in a live region
-unfoldable pub mapped : Card → Byte → Bool
-mapped c b = slotOf (c .mr) (b .key) .live && within (slotOf (c .mr) (b .key) .reg) (b .address)
-
-abbrev pub mappedAll : Card → List Byte → Bool
-mappedAll c bytes = all (mapped c) bytes
-
--- the place in memory of a byte, and those of a list of scatter/gather entries
-unfoldable pub locate : Card → Byte → ℕ
-locate c b = byteOf (slotOf (c .mr) (b .key) .reg) (b .address)
-
-abbrev pub places : Card → List Sge → List ℕ
-places c sges = map (locate c) (sgeBytes sges)
+-- the first and the last of n addresses from a on lie in the region; the sums are whole numbers
+abbrev pub spans : Registration → (a n : ℕ) → Bool
+spans g a n = leb (g .virt) a && leb (a + n) (g .virt + g .length)

@@ -11,20 +11,18 @@ ghost use lib.ListN.{length, take};
 ghost use Rattle.tables.specs.State.{card, registrationOf};
 ghost use Rattle.tables.specs.Layout.{stateSize};
 ghost use Rattle.rules.specs.Touch.{range, sgeBytes, sgeTotal};
-ghost use Rattle.dma.specs.Grants.{grants, allowsAll};
-ghost use Rattle.dma.specs.Ranges.{spans};
-ghost use Rattle.dma.specs.Find.{found};
+ghost use Rattle.dma.specs.Grants.{regionOf, grants, allowsAll, spans};
 ghost use Rattle.rules.proofs.Runs.{cut};
 
 // The live region that has exactly a key, if there is one.
-pub enum Found {
+enum Found {
     Live(Region),
     Nothing,
 }
 
-pub fn region_of(state: &[u8], key: u32) -> Found
+fn region_of(state: &[u8], key: u32) -> Found
     requires { ⌜ length (now state) ≡ stateSize ⌝ }
-    ensures { λ r. ⌜ r ≡ found (card (now (state .entry)) .mr) key ⌝ }
+    ensures { λ r. ⌜ r ≡ regionOf (card (now (state .entry)) .mr) key ⌝ }
 {
     let slot = (key / 256) as usize;
     if MR_COUNT <= slot {
@@ -58,7 +56,7 @@ fn holds_ends(r: Region, address: u64, n: u64) -> bool
 }
 
 // Whether each of the n bytes from an address on is permitted: it looks at the two ends only, and of an empty range at no key.
-pub fn range_permitted(state: &[u8], pd: u8, mask: u8, address: u64, n: u64, key: u32) -> bool
+fn range_permitted(state: &[u8], pd: u8, mask: u8, address: u64, n: u64, key: u32) -> bool
     requires { ⌜ length (now state) ≡ stateSize ⌝ }
     ensures { λ b. ⌜ b ≡ allowsAll (card (now (state .entry))) pd mask (range address key n) ⌝ }
 {

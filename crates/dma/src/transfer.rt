@@ -4,7 +4,7 @@ use tables::Sge;
 use tables::rows;
 ghost use mathlib.Core.Path.{_≡_};
 ghost use mathlib.Core.Bool.{true};
-ghost use mathlib.Core.List.{_∷_, [], _++_};
+ghost use mathlib.Core.List.{_∷_, []};
 ghost use Prim.Native.Nat.{_+_, _≤_};
 ghost use lib.ListN.{length, take, drop};
 ghost use lib.Seq.{paste};
@@ -13,48 +13,20 @@ ghost use Rattle.tables.specs.State.{card};
 ghost use Rattle.tables.specs.Layout.{stateSize};
 ghost use Rattle.tables.specs.Limits.{mostMessage, mostInline};
 ghost use Rattle.rules.specs.Touch.{sgeBytes, sgeTotal};
-ghost use Rattle.dma.specs.Places.{readBytes, moved, Ready, bytesOf, placesOf};
 ghost use Rattle.rules.specs.Lists.{stored};
-ghost use Rattle.dma.specs.Grants.{mapped, mappedAll, locate, places};
-ghost use Rattle.dma.specs.Ranges.{byte};
-ghost use Rattle.dma.specs.Moves.{Message, Single};
+ghost use Rattle.dma.specs.Moves.{Ready, mappedAll, places, placeOf, readBytes, moved, Message};
 
-// The place in memory of a byte that lies in a live region.
-fn place_of(state: &[u8], address: u64, key: u32) -> usize
-    requires { ⌜ (accepts (now state) ≡ true) × (length (now state) ≡ stateSize) × (mapped (card (now state)) (byte address key) ≡ true) ⌝ }
-    ensures { λ r. ⌜ r ≡ locate (card (now (state .entry))) (byte address key) ⌝ }
+// The place in memory where an entry begins; 0 for an empty one.
+fn place_of(state: &[u8], s: Sge) -> usize
+    requires { ⌜ (accepts (now state) ≡ true) × (length (now state) ≡ stateSize) × (mappedAll (card (now state)) (sgeBytes (s ∷ [])) ≡ true) ⌝ }
+    ensures { λ r. ⌜ r ≡ placeOf (card (now (state .entry))) s ⌝ }
 {
-    let slot = (key / 256) as usize;
+    if s.length == 0 {
+        return 0;
+    }
+    let slot = (s.key / 256) as usize;
     let r = rows::load_mr(state, slot);
-    (r.start + (address - r.virt)) as usize
-}
-
-// Copies an entry's bytes into staging, from index at on.
-fn copy_out(state: &[u8], memory: &[u8], s: Sge, staging: &mut [u8], at: usize)
-    requires { ⌜ Ready (now state) (now memory) ⌝ }
-    requires { ⌜ (mappedAll (card (now state)) (bytesOf s) ≡ true) × (at + s .length ≤ length (now staging)) ⌝ }
-    ensures { λ _. ⌜ take (at + s .length) (now (staging .exit)) ≡ take at (now (staging .entry)) ++ readBytes (now (memory .entry)) (placesOf (card (now (state .entry))) s) ⌝ }
-{
-    let n = s.length as usize;
-    if n == 0 {
-        return;
-    }
-    let from = place_of(state, s.address, s.key);
-    wire::copy_bytes(staging, at, memory, from, n);
-}
-
-// Copies staging's bytes, from index at on, to an entry.
-fn copy_in(state: &[u8], memory: &mut [u8], s: Sge, staging: &[u8], at: usize)
-    requires { ⌜ Ready (now state) (now memory) ⌝ }
-    requires { ⌜ (mappedAll (card (now state)) (bytesOf s) ≡ true) × (at + s .length ≤ length (now staging)) ⌝ }
-    ensures { λ _. ⌜ now (memory .exit) ≡ stored (now (memory .entry)) (placesOf (card (now (state .entry))) s) (drop at (now (staging .entry))) ⌝ }
-{
-    let n = s.length as usize;
-    if n == 0 {
-        return;
-    }
-    let to = place_of(state, s.address, s.key);
-    wire::copy_bytes(memory, to, staging, at, n);
+    (r.start + (s.address - r.virt)) as usize
 }
 
 // Gathers the first count entries, one after the other, into staging.
@@ -67,8 +39,10 @@ fn gather(state: &[u8], memory: &[u8], sges: [Sge; 4], count: usize, staging: &m
     let mut at = 0;
     while i < count {
         let s = sges[i];
-        copy_out(state, memory, s, staging, at);
-        at += s.length as usize;
+        let n = s.length as usize;
+        let from = place_of(state, s);
+        wire::copy_bytes(staging, at, memory, from, n);
+        at += n;
         i += 1;
     }
 }
@@ -83,8 +57,10 @@ fn scatter(state: &[u8], memory: &mut [u8], sges: [Sge; 4], count: usize, stagin
     let mut at = 0;
     while i < count {
         let s = sges[i];
-        copy_in(state, memory, s, staging, at);
-        at += s.length as usize;
+        let n = s.length as usize;
+        let to = place_of(state, s);
+        wire::copy_bytes(memory, to, staging, at, n);
+        at += n;
         i += 1;
     }
 }
@@ -102,16 +78,12 @@ fn deliver_one(memory: &mut [u8], from: usize, to: usize, n: usize)
 // Moves one entry's bytes to one entry.
 fn transfer_one(state: &[u8], memory: &mut [u8], from: Sge, to: Sge)
     requires { ⌜ Ready (now state) (now memory) ⌝ }
-    requires { ⌜ Single (card (now state)) from to ⌝ }
-    ensures { λ _. ⌜ now (memory .exit) ≡ moved (now (memory .entry)) (placesOf (card (now (state .entry))) from) (placesOf (card (now (state .entry))) to) ⌝ }
+    requires { ⌜ Message (card (now state)) (from ∷ []) (to ∷ []) ⌝ }
+    ensures { λ _. ⌜ now (memory .exit) ≡ moved (now (memory .entry)) (places (card (now (state .entry))) (from ∷ [])) (places (card (now (state .entry))) (to ∷ [])) ⌝ }
 {
-    let n = from.length as usize;
-    if n == 0 {
-        return;
-    }
-    let a = place_of(state, from.address, from.key);
-    let b = place_of(state, to.address, to.key);
-    deliver_one(memory, a, b, n);
+    let a = place_of(state, from);
+    let b = place_of(state, to);
+    deliver_one(memory, a, b, from.length as usize);
 }
 
 // Moves the bytes of the first nf entries of from to the first nt entries of to.
@@ -161,13 +133,10 @@ fn deliver_inline(memory: &mut [u8], bytes: &[u8], to: usize)
 // Writes inline bytes to one entry.
 fn inline_one(state: &[u8], memory: &mut [u8], bytes: &[u8], to: Sge)
     requires { ⌜ Ready (now state) (now memory) ⌝ }
-    requires { ⌜ (mappedAll (card (now state)) (bytesOf to) ≡ true) × (to .length ≡ length (now bytes)) × (length (now bytes) ≤ mostInline) ⌝ }
-    ensures { λ _. ⌜ now (memory .exit) ≡ stored (now (memory .entry)) (placesOf (card (now (state .entry))) to) (now (bytes .entry)) ⌝ }
+    requires { ⌜ (mappedAll (card (now state)) (sgeBytes (to ∷ [])) ≡ true) × (sgeTotal (to ∷ []) ≡ length (now bytes)) × (length (now bytes) ≤ mostInline) ⌝ }
+    ensures { λ _. ⌜ now (memory .exit) ≡ stored (now (memory .entry)) (places (card (now (state .entry))) (to ∷ [])) (now (bytes .entry)) ⌝ }
 {
-    if to.length == 0 {
-        return;
-    }
-    let at = place_of(state, to.address, to.key);
+    let at = place_of(state, to);
     deliver_inline(memory, bytes, at);
 }
 

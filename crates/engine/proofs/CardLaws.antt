@@ -81,7 +81,7 @@ module _ (l : List ℕ) (ok : Accepted l) where
       ap (λ (s : Cq). length (s .entries)) q ∙ ring-length noCompletion mostPlaces (ringAt l n) (rowAt cqT l n .first) (rowAt cqT l n .count) in
       record { below = b; live = live; free = omega arith }
 
-  pub push-stands : (p : Put) → Can (card l) p → Stands (pushBytes l (p .cqn) (p .entry)) (withCq (card l) (pushed p (card l .cq)))
+  push-stands : (p : Put) → Can (card l) p → Stands (pushBytes l (p .cqn) (p .entry)) (withCq (card l) (pushed p (card l .cq)))
   push-stands p can =
       let o = opened (p .cqn) (can .room) in
       record {

@@ -1,11 +1,10 @@
 -- A post send that passed all tests, as its code ends: what each part asks and leaves. Assumes nothing.
 use mathlib.Core.Path.{_≡_, refl, sym, ap, subst, _∙_}
-use mathlib.Core.Bool.{true, _||_, false≢true}
+use mathlib.Core.Bool.{true}
 use mathlib.Core.List.{List}
 use mathlib.Core.Option.{Option, none, some}
 use Prim.Native.Nat.{ℕ, _≤_, _<_}
 use native.Mathlib.Omega.{arith}
-use lib.Dec.{eqb}
 use Rattle.wire.specs.Checks.{refusal}
 use Rattle.wire.specs.Codec.{decode}
 use Rattle.wire.specs.Rows.{rows}
@@ -13,7 +12,7 @@ use Rattle.wire.specs.Table.{rowAt}
 use Rattle.validate.specs.Accept.{accepts}
 use Rattle.tables.specs.State.{card}
 use Rattle.tables.specs.Layout.{qpT, waitingT}
-use Rattle.tables.specs.Limits.{qpCount, mostWaiting, mostMessage, mostSges}
+use Rattle.tables.specs.Limits.{qpCount, mostWaiting, mostSges}
 use Rattle.tables.specs.Records.{sendCodec, sendChecks, sendSge, sendRead, sendReadBy}
 use Rattle.tables.specs.declared.ReceiveRecord.{ReceiveRecord}
 use Rattle.tables.specs.declared.SendRead.the-variants as send
@@ -23,12 +22,12 @@ use Rattle.rules.specs.Answer.{answered}
 use Rattle.rules.specs.declared.Answer.{Answer}
 use Rattle.rules.specs.declared.Answer.the-variants.{Done}
 use Rattle.rules.specs.Send.{deliveryChecks, sendStatus}
-use Rattle.rules.specs.Touch.{Request, requestOf, total}
+use Rattle.rules.specs.Touch.{Request, requestOf}
 use Rattle.engine.specs.Meet.{bare, endsAt, metBy, meeting}
 use Rattle.engine.specs.Deliver.{totalBy, takenRow, Sending, Delivery}
 use Rattle.engine.specs.Settle.{settled, Settling}
 use Rattle.engine.specs.Send.{Posted, Met, Carried, Ran}
-use Rattle.engine.proofs.RequestLaws.{requestBy, Told, told, total-is, sending, far-below, first-below, taken-count, too-long, status-within, long-memory, memory-is}
+use Rattle.engine.proofs.RequestLaws.{requestBy, Told, told, total-is, sending, far-below, first-below, taken-count, status-same, done-short, memory-is}
 use Rattle.engine.proofs.StoreLaws.{settled-is, settling}
 use Rattle.engine.specs.declared.meet.Ends.{Ends}
 use Rattle.engine.specs.declared.meet.Meeting.the-variants.{Pairs, Stopped}
@@ -36,11 +35,9 @@ use Rattle.engine.specs.declared.meet.Meeting.the-variants.{Pairs, Stopp
 -- the pairs e, the entries sges, the receive w and the total n are those of the record x and the state l
 pub record Ending (l m x : List ℕ) (s : SendRecord) (q : ℕ) (e : Ends) (sges : List Sge) (w : ReceiveRecord) (n : ℕ) : Type 0 where
   pub count : w .count ≤ 2
-  pub long : mostMessage < n → Settling l e s w 1 0
-  pub long-carried : mostMessage < n → Carried l q (requestOf x) m 1 (settled l e s w 1 0) m
-  pub sending : n ≤ mostMessage → Sending s x sges n
-  pub settling : n ≤ mostMessage → (st : ℕ) (m′ : List ℕ) → Delivery l m e s x sges w n st m′ → Settling l e s w st n
-  pub carried : n ≤ mostMessage → (st : ℕ) (m′ : List ℕ) → Delivery l m e s x sges w n st m′ → Carried l q (requestOf x) m st (settled l e s w st n) m′
+  pub sending : Sending s x sges n
+  pub settling : (st : ℕ) (m′ : List ℕ) → Delivery l m e s x sges w n st m′ → Settling l e s w st n
+  pub carried : (st : ℕ) (m′ : List ℕ) → Delivery l m e s x sges w n st m′ → Carried l q (requestOf x) m st (settled l e s w st n) m′
 
 module _ (l m x : List ℕ) (s : SendRecord) (q : ℕ) (a : accepts l ≡ true) (p : Posted x s)
     (good : refusal (deliveryChecks (card l) q (bare (s .opcode))) ≡ none) where
@@ -59,35 +56,24 @@ module _ (l m x : List ℕ) (s : SendRecord) (q : ℕ) (a : accepts l ≡ true) 
   abbrev n0 : ℕ
   n0 = totalBy s sges0
 
-  vacuous : (eqb 1 0 || eqb 1 7) ≡ true → total r ≡ 0
-  vacuous i = absurd (false≢true i)
-
   of-request : (st : ℕ) (l′ m′ : List ℕ) → Carried l q r m st l′ m′ → Carried l q (requestOf x) m st l′ m′
   of-request st l′ m′ k = subst (λ (y : Request). Carried l q y m st l′ m′) (sym (t .request)) k
 
-  within : n0 ≤ mostMessage → (st : ℕ) (m′ : List ℕ) → Delivery l m (endsAt l q) s x sges0 w0 n0 st m′ → st ≡ sendStatus (card l) q r
-  within h st m′ y = y .status ∙ status-within l a q x s t good h
+  status-is : (st : ℕ) (m′ : List ℕ) → Delivery l m (endsAt l q) s x sges0 w0 n0 st m′ → st ≡ sendStatus (card l) q r
+  status-is st m′ y = y .status ∙ status-same l a q x s t good
 
   ending-here : Ending l m x s q (endsAt l q) sges0 w0 n0
   ending-here =
       record {
         count = taken-count l a q x s t good;
-        long = λ h. settling l a q x s t good 1 (too-long l a q x s t good h) 0 vacuous;
-        long-carried =
-            λ h. of-request 1 (settled l (endsAt l q) s w0 1 0) m
-            (record {
-              status = too-long l a q x s t good h;
-              bytes = settled-is l a q x s t good 1 (too-long l a q x s t good h) 0 vacuous;
-              memory = long-memory l a q x s t good m h;
-            });
-        sending = λ h. sending x s t h;
-        settling = λ h st m′ y. settling l a q x s t good st (within h st m′ y) n0 (λ i. total-is x s t);
+        sending = sending x s t;
+        settling = λ st m′ y. settling l a q x s t good st (status-is st m′ y) n0 (λ i. total-is x s t) (done-short l a q x s t good st (status-is st m′ y));
         carried =
-            λ h st m′ y. of-request st (settled l (endsAt l q) s w0 st n0) m′
+            λ st m′ y. of-request st (settled l (endsAt l q) s w0 st n0) m′
             (record {
-              status = within h st m′ y;
-              bytes = settled-is l a q x s t good st (within h st m′ y) n0 (λ i. total-is x s t);
-              memory = y .memory ∙ memory-is l a q x s t good m h st (within h st m′ y);
+              status = status-is st m′ y;
+              bytes = settled-is l a q x s t good st (status-is st m′ y) n0 (λ i. total-is x s t);
+              memory = y .memory ∙ memory-is l a q x s t good m st (status-is st m′ y);
             });
       }
 
@@ -112,7 +98,7 @@ module _ (l m x : List ℕ) (s : SendRecord) (q : ℕ) (a : accepts l ≡ true) 
 
 module _ (l : List ℕ) (q o : ℕ) where
   -- the pairs that passed
-  pub met-ends : (e : Ends) → Pairs e ≡ meeting l q o → (e ≡ endsAt l q) × (refusal (deliveryChecks (card l) q (bare o)) ≡ none)
+  met-ends : (e : Ends) → Pairs e ≡ meeting l q o → (e ≡ endsAt l q) × (refusal (deliveryChecks (card l) q (bare o)) ≡ none)
   met-ends e i = go (refusal (deliveryChecks (card l) q (bare o))) refl i
     where
       go : (k : Option ℕ) → refusal (deliveryChecks (card l) q (bare o)) ≡ k → Pairs e ≡ metBy k (endsAt l q) → (e ≡ endsAt l q) × (refusal (deliveryChecks (card l) q (bare o)) ≡ none)

@@ -11,11 +11,10 @@ use Rattle.tables.specs.Records.{isInline}
 use Rattle.dma.specs.Moves.{Message}
 use Rattle.engine.specs.Deliver.{Carries}
 
-module _ (c : Card) (s : SendRecord) (x : List ℕ) (own far : List Sge) (n : ℕ) (k : Carries c s x own far n) (e : isInline s ≡ false) where
+module _ (c : Card) (s : SendRecord) (x : List ℕ) (own far : List Sge) (k : Carries c s x own far) (e : isInline s ≡ false) where
   pub there : Message c own far
   there =
       let h = k .plain e in
-      let t = k .total in
       let m = k .most in
       let o = h .1 in
       record { sources = h .0; targets = k .target; total = omega arith; most = omega arith }
@@ -23,7 +22,6 @@ module _ (c : Card) (s : SendRecord) (x : List ℕ) (own far : List Sge) (n : �
   pub back : Message c far own
   back =
       let h = k .plain e in
-      let t = k .total in
       let m = k .most in
       let o = h .1 in
       record { sources = k .target; targets = h .0; total = omega arith; most = omega arith }

@@ -119,7 +119,7 @@ module _ (l : List ℕ) (ok : Accepted l) (q : ℕ) (r : Request) (wr : r .wr < 
   waits-then t =
       some-wait l2 (s2 .ok) d (ap (λ (k : Card). k .qp d .live) (s2 .is) ∙ f2-live) (ap (λ (k : Card). isEmpty (k .qp d .waiting)) (s2 .is) ∙ f2-some t)
 
-  pub send-stands : Stands (sendBytes l q r) (sendEffect c q r)
+  send-stands : Stands (sendBytes l q r) (sendEffect c q r)
   unfolding sendBytes sendEffect sendQps
   send-stands =
       let z = error-stands l3 (s3 .ok) d (ap (λ (k : Card). k .qp d .live) (s3 .is) ∙ consume-keeps (consumes (r .opcode) s) d f2 d ∙ f2-live) (eqb s 7) in

@@ -9,7 +9,7 @@ use native.Mathlib.Omega.{arith}
 use lib.Dec.{eqb, ltb, leb}
 use lib.ListN.{length, getD, take, drop, length-drop}
 use lib.Seq.{length-take-le}
-use borrow.Author.Tests.{eqb-true, leb-true, le-leb, lt-leb, ltb-false, not-false}
+use borrow.Author.Tests.{eqb-true, leb-true, le-leb, ltb-false, not-false}
 use Rattle.wire.specs.Checks.{refusal, Passed}
 use Rattle.wire.specs.Codec.{decode}
 use Rattle.wire.proofs.CheckLaws.{passed}
@@ -39,9 +39,9 @@ use Rattle.rules.specs.Permit.{Use, permitsAll, place}
 use Rattle.rules.specs.Send.{peerOf, takenBy, deliveryChecks, ownUse, farUse, statusBy, sendStatus, sendMemory}
 use Rattle.rules.specs.Touch.{Request, Byte, requestOf, takes, fills, reads, range, sgeBytes, sgeTotal, total, ownBytes, farBytes, message, delivered}
 use Rattle.rules.proofs.Runs.{cut, cut-bytes, values-at}
-use Rattle.dma.specs.Bridge.{maskOf, allowed-all, placed-all}
-use Rattle.dma.specs.Grants.{allowsAll, places}
-use Rattle.dma.specs.Places.{moved}
+use Rattle.dma.specs.Grants.{allowsAll}
+use Rattle.dma.specs.Moves.{places, moved}
+use Rattle.dma.proofs.UseLaws.{maskOf, allowed-all}
 use Rattle.engine.specs.Meet.{bare, endsAt}
 use Rattle.engine.specs.Deliver.{ownMask, farMask, ownBy, farList, totalBy, takenRow, Sending, statusIn, carried}
 use Rattle.engine.specs.Send.{Posted}
@@ -130,13 +130,12 @@ module _ (x : List ℕ) (s : SendRecord) (t : Told x s) where
       go true i = refl
       go false i = ap sgeBytes (sym (entries-are i))
 
-  pub sending : totalBy s entries ≤ mostMessage → Sending s x entries (totalBy s entries)
-  sending h =
+  pub sending : Sending s x entries (totalBy s entries)
+  sending =
       record {
         size = t .size;
         plain = t .plain;
         total = refl;
-        most = h;
         short = λ i. (let z : totalBy s entries ≡ s .count % 65536 = rw i in rw z (t .short i));
       }
 
@@ -161,12 +160,10 @@ fit-or : (f a b x y z : Bool) → (f ≡ true → x ≡ y) → statusBy f a b x 
 fit-or true a b x y z h = rw (h refl)
 fit-or false a b x y z h = refl
 
-zero-means : (f b x z : Bool) → statusBy f true b x z ≡ 0 → (b ≡ true) × (z ≡ true)
-zero-means f false x z e = absurd (omega arith)
-zero-means f true x true e = (refl, refl)
-zero-means true true true false e = absurd (omega arith)
-zero-means true true false false e = absurd (omega arith)
-zero-means false true x false e = absurd (omega arith)
+-- success: the message is short enough
+zero-short : (f a b x z : Bool) → statusBy f a b x z ≡ 0 → a ≡ true
+zero-short f false b x z e = absurd (omega arith)
+zero-short f true b x z e = refl
 
 all-first : (w : ReceiveRecord) (ws : List ReceiveRecord) → all receiveOk (w ∷ ws) ≡ true → w .count ≤ 2
 unfolding all
@@ -207,7 +204,7 @@ module _ (l : List ℕ) (a : accepts l ≡ true) (q : ℕ) (x : List ℕ) (s : S
   unfolding deliveryChecks
   tests = passed (deliveryChecks c q (bare o)) good
 
-  pub goes : Going c q o
+  goes : Going c q o
   goes = going c q r tests
 
   pub own-below : q < qpCount
@@ -300,40 +297,31 @@ module _ (l : List ℕ) (a : accepts l ≡ true) (q : ℕ) (x : List ℕ) (s : S
       ∙ ap (λ (k : Qp). allowsAll c (k .pd) (maskOf (farUse o)) (farBytes r (takenBy c q))) far-is
       ∙ ap₂ (λ (k : ℕ) (b : List Byte). allowsAll c (far .pd) k b) (far-mask (fills o) (reads o)) far-are
 
-  pub fit-is : takes o ≡ true → leb (total r) (sgeTotal (takenBy c q .sges)) ≡ fit
+  fit-is : takes o ≡ true → leb (total r) (sgeTotal (takenBy c q .sges)) ≡ fit
   unfolding receiveOf
   fit-is i = ap₂ (λ (k : ℕ) (v : Receive). leb k (sgeTotal (v .sges))) (total-is x s t) (taken-is i)
 
-  pub status-is : sendStatus c q r ≡ statusBy (fills o) (leb n mostMessage) mine fit theirs
+  status-is : sendStatus c q r ≡ statusBy (fills o) (leb n mostMessage) mine fit theirs
   unfolding sendStatus
   status-is =
       rw (mine-is, theirs-is)
       (ap (λ (k : ℕ). statusBy (fills o) (leb k mostMessage) mine (leb (total r) (sgeTotal (takenBy c q .sges))) theirs) (total-is x s t)
       ∙ fit-or (fills o) (leb n mostMessage) mine (leb (total r) (sgeTotal (takenBy c q .sges))) fit theirs (λ i. fit-is (fills-takes o i)))
 
-  pub too-long : mostMessage < n → 1 ≡ sendStatus c q r
-  too-long h = sym (status-is ∙ rw (lt-leb n mostMessage h))
+  pub status-same : statusIn l (endsAt l q) s (entries x s t) w n ≡ sendStatus c q r
+  status-same = sym status-is
 
-  pub status-within : n ≤ mostMessage → statusIn l (endsAt l q) s (entries x s t) w n ≡ sendStatus c q r
-  status-within h = sym (status-is ∙ rw (le-leb n mostMessage h))
+  pub done-short : (st : ℕ) → st ≡ sendStatus c q r → st ≡ 0 → n ≤ mostMessage
+  done-short st e z = leb-true n mostMessage (zero-short (fills o) (leb n mostMessage) mine fit theirs (status-same ∙ sym e ∙ z))
 
   -- ---- the memory
 
   module _ (m : List ℕ) where
-    pub long-memory : mostMessage < n → m ≡ sendMemory c q r m
-    unfolding sendMemory
-    long-memory h = rw (← too-long h)
+    abbrev mine-list : List Sge
+    mine-list = take (s .count) (entries x s t)
 
-    abbrev mem : List ℕ
-    mem = carried c s x (take (s .count) (entries x s t)) (farList s w n) n m
-
-    far-places : theirs ≡ true → map (place c) (farBytes r (takenBy c q)) ≡ places c (farList s w n)
-    far-places j = ap (map (place c)) far-are ∙ placed-all c (far .pd) (farMask o) (sgeBytes (farList s w n)) j
-
-    own-places : isInline s ≡ false → mine ≡ true → map (place c) (ownBytes r) ≡ places c (take (s .count) (entries x s t))
-    own-places i j =
-        let e : ownBytes r ≡ sgeBytes (take (s .count) (entries x s t)) = own-are x s t ∙ rw i in
-        ap (map (place c)) e ∙ placed-all c (own .pd) (ownMask o) (sgeBytes (take (s .count) (entries x s t))) (rw i at j)
+    abbrev their-list : List Sge
+    their-list = farList s w n
 
     both-ways : (b : Bool) (f g : List Byte) (ps qs : List ℕ) → map (place c) f ≡ ps → map (place c) g ≡ qs →
         cond b (moved m ps qs) (moved m qs ps) ≡ stored m (map (place c) (cond b g f)) (map (λ k. getD m (place c k) 0) (cond b f g))
@@ -341,25 +329,24 @@ module _ (l : List ℕ) (a : accepts l ≡ true) (q : ℕ) (x : List ℕ) (s : S
     both-ways true f g ps qs i j = rw (values-at (place c) m f, i, j)
     both-ways false f g ps qs i j = rw (values-at (place c) m g, i, j)
 
-    pub moved-is : mine ≡ true → theirs ≡ true → mem ≡ delivered (place c) r (takenBy c q) m
+    moved-is : carried c s x mine-list their-list m ≡ delivered (place c) r (takenBy c q) m
     unfolding delivered message
-    moved-is i j = go (isInline s) refl
+    moved-is = go (isInline s) refl
       where
+        there : map (place c) (farBytes r (takenBy c q)) ≡ places c their-list
+        there = ap (map (place c)) far-are
+
+        here : isInline s ≡ false → map (place c) (ownBytes r) ≡ places c mine-list
+        here i = let e : ownBytes r ≡ sgeBytes mine-list = own-are x s t ∙ rw i in ap (map (place c)) e
+
         go : (b : Bool) → isInline s ≡ b →
-            cond b (stored m (places c (farList s w n)) (inlineBytes x))
-            (cond (reads o) (moved m (places c (farList s w n)) (places c (take (s .count) (entries x s t)))) (moved m (places c (take (s .count) (entries x s t))) (places c (farList s w n))))
+            cond b (stored m (places c their-list) (inlineBytes x))
+            (cond (reads o) (moved m (places c their-list) (places c mine-list)) (moved m (places c mine-list) (places c their-list)))
             ≡ stored m (map (place c) (cond (reads o) (ownBytes r) (farBytes r (takenBy c q))))
             (cond b (inlineBytes x) (map (λ k. getD m (place c k) 0) (cond (reads o) (farBytes r (takenBy c q)) (ownBytes r))))
-        go true k =
-            rw (t .there k, far-places j)
-        go false k = both-ways (reads o) (farBytes r (takenBy c q)) (ownBytes r) (places c (farList s w n)) (places c (take (s .count) (entries x s t))) (far-places j) (own-places k i)
+        go true k = rw (t .there k, there)
+        go false k = both-ways (reads o) (farBytes r (takenBy c q)) (ownBytes r) (places c their-list) (places c mine-list) there (here k)
 
-    pub memory-is : n ≤ mostMessage → (st : ℕ) → st ≡ sendStatus c q r → cond (eqb st 0) mem m ≡ sendMemory c q r m
+    pub memory-is : (st : ℕ) → st ≡ sendStatus c q r → cond (eqb st 0) (carried c s x mine-list their-list m) m ≡ sendMemory c q r m
     unfolding sendMemory
-    memory-is h st e = rw (← e) (go (eqb st 0) refl)
-      where
-        go : (b : Bool) → eqb st 0 ≡ b → cond b mem m ≡ cond b (delivered (place c) r (takenBy c q) m) m
-        go true i =
-            let y = zero-means (fills o) mine fit theirs (status-within h ∙ sym e ∙ eqb-true st 0 i) in
-            moved-is (y .0) (y .1)
-        go false i = refl
+    memory-is st e = rw (← e) (ap (λ (y : List ℕ). cond (eqb st 0) y m) moved-is)

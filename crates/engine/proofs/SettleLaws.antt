@@ -54,7 +54,7 @@ wanted false y z = refl
 
 module _ (l : List ℕ) (e : Ends) (s : SendRecord) (st n : ℕ) where
   -- no sign of success is asked for
-  abbrev pub silent : Bool
+  abbrev silent : Bool
   silent = eqb st 0 && not (eqb (e .own .signal) 0) && eqb (bitAnd (s .flags) 2) 0
 
   pub put-silent : silent ≡ true → l ≡ pushAll l (putFirst e s st n)

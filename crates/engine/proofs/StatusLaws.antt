@@ -2,13 +2,14 @@
 use mathlib.Core.Path.{_≡_, refl, sym, ap, ap₂, _∙_}
 use mathlib.Core.Bool.{Bool, true, false, cond, not, _||_, false≢true}
 use mathlib.Core.List.{List, [], _∷_}
-use Prim.Native.Nat.{ℕ, _≤_}
+use Prim.Native.Nat.{ℕ, _≤_, _<_}
 use native.Mathlib.Nat.{add-zero}
 use native.Mathlib.Omega.{arith}
 use lib.Dec.{eqb, leb}
 use lib.ListN.{length, take}
-use borrow.Author.Tests.{leb-true}
+use borrow.Author.Tests.{leb-true, le-leb, lt-leb}
 use Rattle.tables.specs.State.{card}
+use Rattle.tables.specs.Limits.{mostMessage}
 use Rattle.tables.specs.Records.{receiveSges}
 use Rattle.tables.specs.declared.ReceiveRecord.{ReceiveRecord}
 use Rattle.tables.specs.declared.SendRecord.{SendRecord}
@@ -17,8 +18,8 @@ use Rattle.rules.specs.Send.{statusBy}
 use Rattle.rules.specs.Touch.{fills, sgeBytes, sgeTotal}
 use Rattle.rules.proofs.Runs.{cut, cut-total}
 use Rattle.dma.specs.Grants.{allowsAll}
-use Rattle.dma.specs.Ranges.{permitted-mapped-all}
-use Rattle.engine.specs.Deliver.{ownMask, farMask, ownBy, farList, farCount, Sending, Delivery, Carries, carried}
+use Rattle.dma.proofs.UseLaws.{permitted-mapped-all}
+use Rattle.engine.specs.Deliver.{ownMask, farMask, ownBy, farList, farCount, Sending, OwnSide, Delivery, Carries, carried}
 use Rattle.engine.specs.declared.meet.Ends.{Ends}
 
 -- ---- the order of the tests
@@ -55,40 +56,54 @@ module _ (l m : List ℕ) (e : Ends) (s : SendRecord) (x : List ℕ) (sges : Lis
   abbrev o : ℕ
   o = s .opcode
 
-  abbrev pub mine : Bool
+  abbrev mine : Bool
   mine = allowsAll (card l) (e .own .pd) (ownMask o) (ownBy s sges)
 
-  abbrev pub fit : Bool
+  abbrev fit : Bool
   fit = leb n (sgeTotal (receiveSges w))
 
-  abbrev pub theirs : Bool
+  abbrev theirs : Bool
   theirs = allowsAll (card l) (e .far .pd) (farMask o) (sgeBytes (farList s w n))
 
-  pub judged : (mask : ℕ) (list : List Sge) (b : Bool) → b ≡ allowsAll (card l) (e .far .pd) mask (sgeBytes list) → mask ≡ farMask o → list ≡ farList s w n → b ≡ theirs
-  judged mask list b i j k =
-      i ∙ ap₂ (λ (y : ℕ) (z : List Sge). allowsAll (card l) (e .far .pd) y (sgeBytes z)) j k
+  pub too-long : mostMessage < n → Delivery l m e s x sges w n 1 m
+  too-long h = record { status = rw (lt-leb n mostMessage h); memory = refl }
 
-  pub own-refused : mine ≡ false → Delivery l m e s x sges w n 3 m
-  own-refused h = record { status = rw h; memory = refl }
+  pub own-refused : n ≤ mostMessage → mine ≡ false → Delivery l m e s x sges w n 3 m
+  own-refused most h = record { status = rw (le-leb n mostMessage most, h); memory = refl }
 
-  module _ (h : mine ≡ true) where
+  -- the judgement of the peer's entries, as the code has them
+  module _ (mask : ℕ) (masks : mask ≡ farMask o) (four : List Sge) (count : ℕ) (counts : count ≡ farCount o w) (is : take (farCount o w) four ≡ farList s w n)
+      (b : Bool) (judged : b ≡ allowsAll (card l) (e .far .pd) mask (sgeBytes (take count four))) where
+    pub far-entries : take count four ≡ farList s w n
+    far-entries = ap (λ (j : ℕ). take j four) counts ∙ is
+
+    pub far-judged : b ≡ theirs
+    far-judged = judged ∙ ap₂ (λ (y : ℕ) (z : List Sge). allowsAll (card l) (e .far .pd) y (sgeBytes z)) masks far-entries
+
+  module _ (side : OwnSide (card l) e s sges n) where
+    short : leb n mostMessage ≡ true
+    short = le-leb n mostMessage (side .short)
+
+    h : mine ≡ true
+    h = side .permitted
+
     pub too-much : (not (fills o) || fit) ≡ false → Delivery l m e s x sges w n 7 m
-    too-much k = record { status = rw h (long-status (fills o) fit theirs k); memory = refl }
+    too-much k = record { status = rw (short, h) (long-status (fills o) fit theirs k); memory = refl }
 
     module _ (k : (not (fills o) || fit) ≡ true) where
       pub far-refused : (st : ℕ) → st ≡ cond (fills o) 7 8 → theirs ≡ false → Delivery l m e s x sges w n st m
       far-refused st i z =
           record {
-            status = rw (h, z) (i ∙ far-status (fills o) fit k);
-            memory = rw i (unmoved (fills o) (carried (card l) s x (take (s .count) sges) (farList s w n) n m) m);
+            status = rw (short, h, z) (i ∙ far-status (fills o) fit k);
+            memory = rw i (unmoved (fills o) (carried (card l) s x (take (s .count) sges) (farList s w n) m) m);
           }
 
       module _ (z : theirs ≡ true) (list : List Sge) (is : list ≡ farList s w n) where
-        pub all-moved : (m′ : List ℕ) → m′ ≡ carried (card l) s x (take (s .count) sges) list n m → Delivery l m e s x sges w n 0 m′
+        pub all-moved : (m′ : List ℕ) → m′ ≡ carried (card l) s x (take (s .count) sges) list m → Delivery l m e s x sges w n 0 m′
         all-moved m′ i =
             record {
-              status = rw (h, z) (done-status (fills o) fit k);
-              memory = i ∙ ap (λ (y : List Sge). carried (card l) s x (take (s .count) sges) y n m) is;
+              status = rw (short, h, z) (done-status (fills o) fit k);
+              memory = i ∙ ap (λ (y : List Sge). carried (card l) s x (take (s .count) sges) y m) is;
             }
 
         far-total : (f : Bool) → (not f || fit) ≡ true → sgeTotal (cond f (cut n (receiveSges w)) (record { address = s .address; length = n; key = s .key } ∷ [])) ≡ n
@@ -96,13 +111,13 @@ module _ (l m : List ℕ) (e : Ends) (s : SendRecord) (x : List ℕ) (sges : Lis
         far-total true i = cut-total n (receiveSges w) (leb-true n (sgeTotal (receiveSges w)) i)
         far-total false i = add-zero n
 
-        pub carries : Sending s x sges n → Carries (card l) s x (take (s .count) sges) list n
+        pub carries : Sending s x sges n → Carries (card l) s x (take (s .count) sges) list
         carries y =
+            let f : sgeTotal list ≡ n = rw is (far-total (fills o) k) in
             record {
               size = y .size;
-              most = y .most;
+              most = rw f (side .short);
               target = permitted-mapped-all (card l) (e .far .pd) (farMask o) (sgeBytes list) (rw is z);
-              total = rw is (far-total (fills o) k);
-              plain = λ i. (permitted-mapped-all (card l) (e .own .pd) (ownMask o) (sgeBytes (take (s .count) sges)) (rw i at h), rw i at (y .total));
-              short = y .short;
+              plain = λ i. (permitted-mapped-all (card l) (e .own .pd) (ownMask o) (sgeBytes (take (s .count) sges)) (rw i at h), (rw i at (y .total)) ∙ sym f);
+              short = λ i. rw f (y .short i);
             }

@@ -16,7 +16,7 @@ use Rattle.validate.proofs.AcceptedLaws.{Accepted}
 use Rattle.tables.specs.Card.{Card, Qp, withCq, receiveOf}
 use Rattle.tables.specs.State.{card, queueAt, pairAt}
 use Rattle.tables.specs.Layout.{cqT, qpT, waitingT}
-use Rattle.tables.specs.Limits.{mostPlaces}
+use Rattle.tables.specs.Limits.{mostPlaces, mostMessage}
 use Rattle.validate.proofs.QueueLaws.{queue-sound}
 use Rattle.tables.specs.Records.{sendCodec}
 use Rattle.tables.specs.declared.ReceiveRecord.{ReceiveRecord}
@@ -161,13 +161,14 @@ module _ (l : List ℕ) (a : accepts l ≡ true) (q : ℕ) (x : List ℕ) (s : S
         let y = waits-then l (ok l a q x s t good) q r wr imm (tests l a q x s t good) (rw (← is) i) in
         subst (λ (z : List ℕ). 0 < rowAt waitingT z d .count) failed-bytes (rw (peer-is l a q x s t good) at y)
 
-    pub settling : Settling l e s w st k
-    settling =
+    pub settling : (st ≡ 0 → k ≤ mostMessage) → Settling l e s w st k
+    settling short =
         record {
           size = ok l a q x s t good .sized;
           own = own-below l a q x s t good;
           far = far-below l a q x s t good;
           count = taken-count l a q x s t good;
+          short = short;
           first = first-open .below;
           free = open-place l (ok l a q x s t good) (e .own .scq) first-open;
           second = λ i. (second-open i .below, open-place (pushAll l first) (first-stands .ok) (e .far .rcq) (second-open i));

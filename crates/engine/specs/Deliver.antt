@@ -20,8 +20,8 @@ use Rattle.rules.specs.Lists.{stored}
 use Rattle.rules.specs.Send.{statusBy}
 use Rattle.rules.specs.Touch.{Byte, takes, fills, reads, sgeBytes, sgeTotal}
 use Rattle.rules.proofs.Runs.{cut}
-use Rattle.dma.specs.Grants.{allowsAll, mappedAll, places}
-use Rattle.dma.specs.Places.{moved}
+use Rattle.dma.specs.Grants.{allowsAll}
+use Rattle.dma.specs.Moves.{mappedAll, places, moved}
 use Rattle.engine.specs.declared.meet.Ends.{Ends}
 
 -- ---- what is touched
@@ -55,39 +55,42 @@ farMask o = cond (fills o) 1 (cond (reads o) 4 2)
 
 -- ---- the message moved
 
--- what the move asks: both sides lie in live regions and have n bytes
-pub record Carries (c : Card) (s : SendRecord) (x : List ℕ) (own far : List Sge) (n : ℕ) : Type 0 where
+-- what the move asks: both sides lie in live regions and have as many bytes
+pub record Carries (c : Card) (s : SendRecord) (x : List ℕ) (own far : List Sge) : Type 0 where
   pub size : 576 ≤ length x
-  pub most : n ≤ mostMessage
+  pub most : sgeTotal far ≤ mostMessage
   pub target : mappedAll c (sgeBytes far) ≡ true
-  pub total : sgeTotal far ≡ n
-  pub plain : isInline s ≡ false → (mappedAll c (sgeBytes own) ≡ true) × (sgeTotal own ≡ n)
-  pub short : isInline s ≡ true → (n ≤ mostInline) × (length (inlineBytes x) ≡ n)
+  pub plain : isInline s ≡ false → (mappedAll c (sgeBytes own) ≡ true) × (sgeTotal own ≡ sgeTotal far)
+  pub short : isInline s ≡ true → (sgeTotal far ≤ mostInline) × (length (inlineBytes x) ≡ sgeTotal far)
 
 -- "Success. All source bytes are read before any is written": the memory m after it
-abbrev pub carried : Card → SendRecord → (x : List ℕ) → (own far : List Sge) → (n : ℕ) → (m : List ℕ) → List ℕ
-carried c s x own far n m =
+abbrev pub carried : Card → SendRecord → (x : List ℕ) → (own far : List Sge) → (m : List ℕ) → List ℕ
+carried c s x own far m =
     cond (isInline s) (stored m (places c far) (inlineBytes x))
     (cond (reads (s .opcode)) (moved m (places c far) (places c own)) (moved m (places c own) (places c far)))
 
 -- ---- steps 3 to 6
+
+-- step 3 found no fault
+pub record OwnSide (c : Card) (e : Ends) (s : SendRecord) (sges : List Sge) (n : ℕ) : Type 0 where
+  pub short : n ≤ mostMessage
+  pub permitted : allowsAll c (e .own .pd) (ownMask (s .opcode)) (ownBy s sges) ≡ true
 
 -- what they ask of a message of n bytes
 pub record Sending (s : SendRecord) (x : List ℕ) (sges : List Sge) (n : ℕ) : Type 0 where
   pub size : 576 ≤ length x
   pub plain : isInline s ≡ false → s .count ≤ 4
   pub total : totalBy s sges ≡ n
-  pub most : n ≤ mostMessage
   pub short : isInline s ≡ true → (n ≤ mostInline) × (length (inlineBytes x) ≡ n)
 
--- the status of a message that is not too long
+-- "Total .. over 4,096: status 1. A local piece not permitted ..: status 3", and the statuses of steps 4 and 5
 abbrev pub statusIn : List ℕ → Ends → SendRecord → List Sge → ReceiveRecord → (n : ℕ) → ℕ
 statusIn l e s sges w n =
-    statusBy (fills (s .opcode)) true (allowsAll (card l) (e .own .pd) (ownMask (s .opcode)) (ownBy s sges))
+    statusBy (fills (s .opcode)) (leb n mostMessage) (allowsAll (card l) (e .own .pd) (ownMask (s .opcode)) (ownBy s sges))
     (leb n (sgeTotal (receiveSges w))) (allowsAll (card l) (e .far .pd) (farMask (s .opcode)) (sgeBytes (farList s w n)))
 
 -- they give the status st and leave the memory m′
 pub record Delivery (l m : List ℕ) (e : Ends) (s : SendRecord) (x : List ℕ) (sges : List Sge) (w : ReceiveRecord) (n st : ℕ) (m′ : List ℕ)
     : Type 0 where
   pub status : st ≡ statusIn l e s sges w n
-  pub memory : m′ ≡ cond (eqb st 0) (carried (card l) s x (take (s .count) sges) (farList s w n) n m) m
+  pub memory : m′ ≡ cond (eqb st 0) (carried (card l) s x (take (s .count) sges) (farList s w n) m) m

@@ -8,7 +8,7 @@ use lib.Dec.{eqb, leb}
 use lib.ListN.{length}
 use Rattle.wire.specs.Table.{rowAt}
 use Rattle.tables.specs.Layout.{stateSize, cqT, waitingT}
-use Rattle.tables.specs.Limits.{cqCount, qpCount, mostPlaces}
+use Rattle.tables.specs.Limits.{cqCount, qpCount, mostPlaces, mostMessage}
 use Rattle.tables.specs.Records.{isSignaled, receiveSges}
 use Rattle.tables.specs.declared.Completion.{Completion}
 use Rattle.tables.specs.declared.ReceiveRecord.{ReceiveRecord}
@@ -64,12 +64,13 @@ abbrev pub settled : List ℕ → Ends → SendRecord → ReceiveRecord → (st 
 settled l e s w st n =
     errorBytes (eqb st 7) (consumeBytes (consumes (s .opcode) st) (failedBytes l e s w st n) (e .own .dest)) (e .own .dest)
 
--- what the stores ask: numbers within their tables, a free place for each completion, a receive that waits
+-- what the stores ask: numbers within their tables, a length that is not too long, a free place for each completion, a receive that waits
 pub record Settling (l : List ℕ) (e : Ends) (s : SendRecord) (w : ReceiveRecord) (st n : ℕ) : Type 0 where
   pub size : length l ≡ stateSize
   pub own : e .q < qpCount
   pub far : e .own .dest < qpCount
   pub count : w .count ≤ 2
+  pub short : st ≡ 0 → n ≤ mostMessage
   pub first : e .own .scq < cqCount
   pub free : rowAt cqT l (e .own .scq) .count < mostPlaces
   pub second : consumes (s .opcode) st ≡ true →

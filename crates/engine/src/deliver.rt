@@ -9,8 +9,10 @@ use tables::ReceiveRecord;
 use tables::SendRecord;
 use tables::Sge;
 use tables::limits::INLINE_FLAG;
+use tables::limits::LOCAL_LENGTH;
 use tables::limits::LOCAL_PROTECTION;
 use tables::limits::LOCAL_WRITE;
+use tables::limits::MOST_MESSAGE;
 use tables::limits::READ;
 use tables::limits::REMOTE_ACCESS;
 use tables::limits::REMOTE_INVALID;
@@ -31,8 +33,8 @@ ghost use Rattle.tables.specs.Limits.{qpCount, mostWaiting};
 ghost use Rattle.tables.specs.Records.{isInline, receiveSges};
 ghost use Rattle.rules.specs.Touch.{fills, sgeTotal};
 ghost use Rattle.dma.specs.Grants.{allowsAll};
-ghost use Rattle.dma.specs.Places.{Ready};
-ghost use Rattle.engine.specs.Deliver.{takenRow, Sending, Delivery, totalBy, ownMask, ownBy, farCount, farList, farMask, Carries, carried};
+ghost use Rattle.dma.specs.Moves.{Ready};
+ghost use Rattle.engine.specs.Deliver.{takenRow, Sending, Delivery, totalBy, ownMask, ownBy, farCount, farList, farMask, Carries, carried, OwnSide};
 
 fn is_inline(s: SendRecord) -> bool
     ensures { λ r. ⌜ r ≡ isInline s ⌝ }
@@ -126,11 +128,10 @@ fn move_bytes(
     sges: [Sge; 4],
     far: [Sge; 4],
     count: usize,
-    n: u32,
 )
-    requires { ⌜ Ready (now state) (now memory) ⌝ }
-    requires { ⌜ (count ≤ 4) × (isInline s ≡ false → s .count ≤ 4) × Carries (card (now state)) s (now sent) (take (s .count) sges) (take count far) n ⌝ }
-    ensures { λ _. ⌜ now (memory .exit) ≡ carried (card (now (state .entry))) s (now (sent .entry)) (take (s .count) sges) (take count far) n (now (memory .entry)) ⌝ }
+    requires { ⌜ Ready (now state) (now memory) × (count ≤ 4) × (isInline s ≡ false → s .count ≤ 4) ⌝ }
+    requires { ⌜ Carries (card (now state)) s (now sent) (take (s .count) sges) (take count far) ⌝ }
+    ensures { λ _. ⌜ now (memory .exit) ≡ carried (card (now (state .entry))) s (now (sent .entry)) (take (s .count) sges) (take count far) (now (memory .entry)) ⌝ }
 {
     if is_inline(s) {
         let bytes = records::inline_bytes(sent);
@@ -166,8 +167,8 @@ pub fn taken_receive(state: &[u8], d: usize, opcode: u8) -> ReceiveRecord
     }
 }
 
-// Steps 3 to 6 of a message of n bytes, which is not too long: the status, and on success the message moved.
-pub fn deliver(
+// Steps 4 to 6 of a message of n bytes, of which step 3 found no fault.
+fn deliver_far(
     state: &[u8],
     memory: &mut [u8],
     e: Ends,
@@ -178,12 +179,9 @@ pub fn deliver(
     n: u32,
 ) -> u8
     requires { ⌜ Ready (now state) (now memory) ⌝ }
-    requires { ⌜ (w .count ≤ 2) × Sending s (now sent) sges n ⌝ }
+    requires { ⌜ (w .count ≤ 2) × Sending s (now sent) sges n × OwnSide (card (now state)) e s sges n ⌝ }
     ensures { λ r. ⌜ Delivery (now (state .entry)) (now (memory .entry)) e s (now (sent .entry)) sges w n r (now (memory .exit)) ⌝ }
 {
-    if !own_permitted(state, e.own.pd, s, sges) {
-        return LOCAL_PROTECTION;
-    }
     if !fits_receive(s.opcode, w, n) {
         return REMOTE_INVALID;
     }
@@ -193,6 +191,30 @@ pub fn deliver(
     if !permit::sges_permitted(state, e.far.pd, mask, far, count) {
         return settle::choose(meet::fills_receive(s.opcode), REMOTE_INVALID, REMOTE_ACCESS);
     }
-    move_bytes(state, memory, s, sent, sges, far, count, n);
+    move_bytes(state, memory, s, sent, sges, far, count);
     SUCCESS
+}
+
+// Steps 3 to 6 of a message of total bytes: the status, and on success the message moved.
+pub fn deliver(
+    state: &[u8],
+    memory: &mut [u8],
+    e: Ends,
+    s: SendRecord,
+    sent: &[u8],
+    sges: [Sge; 4],
+    w: ReceiveRecord,
+    total: u64,
+) -> u8
+    requires { ⌜ Ready (now state) (now memory) ⌝ }
+    requires { ⌜ (w .count ≤ 2) × Sending s (now sent) sges total ⌝ }
+    ensures { λ r. ⌜ Delivery (now (state .entry)) (now (memory .entry)) e s (now (sent .entry)) sges w total r (now (memory .exit)) ⌝ }
+{
+    if (MOST_MESSAGE as u64) < total {
+        return LOCAL_LENGTH;
+    }
+    if !own_permitted(state, e.own.pd, s, sges) {
+        return LOCAL_PROTECTION;
+    }
+    deliver_far(state, memory, e, s, sent, sges, w, total as u32)
 }

@@ -4,6 +4,7 @@ ghost use mathlib.Core.List.{[]};
 ghost use Rattle.rules.specs.Call.{Call};
 ghost use Rattle.rules.specs.Contract.{Exports};
 
+mod answers;
 pub mod deliver;
 pub mod meet;
 pub mod send;

@@ -1,4 +1,6 @@
 // The tests of a sender and its peer: document 01, "QP 2; QP not in RTS 3", and steps 1 and 2. Definitions: specs/Meet.antt.
+use crate::answers::NOT_LIVE;
+use crate::answers::WRONG_STATE;
 use rules::Answer;
 use rules::Cause;
 use tables::QueueHead;
@@ -137,14 +139,14 @@ pub fn meet(state: &[u8], qpn: u32, opcode: u8) -> Meeting
 {
     let q = qpn as usize;
     if QP_COUNT <= q {
-        return Meeting::Stopped(Answer::Refused(2));
+        return Meeting::Stopped(Answer::Refused(NOT_LIVE));
     }
     if !is_live(state, q) {
-        return Meeting::Stopped(Answer::Refused(2));
+        return Meeting::Stopped(Answer::Refused(NOT_LIVE));
     }
     let own = rows::load_qp(state, q);
     if own.state != RTS {
-        return Meeting::Stopped(Answer::Refused(3));
+        return Meeting::Stopped(Answer::Refused(WRONG_STATE));
     }
     meet_far(state, q, own, opcode)
 }

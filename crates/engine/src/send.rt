@@ -1,4 +1,6 @@
 // Post send: document 01, "Posting and delivering". Definitions: specs/Send.antt.
+use crate::answers::BAD_STATE;
+use crate::answers::OTHER_MEMORY;
 use crate::deliver;
 use crate::meet;
 use crate::meet::Ends;
@@ -7,8 +9,6 @@ use crate::settle;
 use rules::Answer;
 use tables::SendRead;
 use tables::SendRecord;
-use tables::limits::LOCAL_LENGTH;
-use tables::limits::MOST_MESSAGE;
 use tables::records;
 use tables::rows;
 use validate::accept;
@@ -16,7 +16,7 @@ ghost use mathlib.Core.List.{[]};
 ghost use Rattle.rules.specs.Call.{Call};
 ghost use Rattle.rules.specs.Touch.{requestOf};
 ghost use Rattle.rules.specs.Contract.{Owes};
-ghost use Rattle.dma.specs.Places.{Ready};
+ghost use Rattle.dma.specs.Moves.{Ready};
 ghost use Rattle.engine.specs.Send.{Posted, Met, Carried, Ran};
 
 // Steps 3 to 6 for two queue pairs that passed the tests: the status, and all that the request leaves.
@@ -28,13 +28,8 @@ fn carry_out(state: &mut [u8], memory: &mut [u8], e: Ends, s: SendRecord, sent: 
     let sges = records::send_sges(sent);
     let total = deliver::total_of(s, sges);
     let w = deliver::taken_receive(state, e.own.dest as usize, s.opcode);
-    if (MOST_MESSAGE as u64) < total {
-        settle::settle(state, e, s, w, LOCAL_LENGTH, 0);
-        return LOCAL_LENGTH;
-    }
-    let n = total as u32;
-    let st = deliver::deliver(state, memory, e, s, sent, sges, w, n);
-    settle::settle(state, e, s, w, st, n);
+    let st = deliver::deliver(state, memory, e, s, sent, sges, w, total);
+    settle::settle(state, e, s, w, st, total);
     st
 }
 
@@ -58,10 +53,10 @@ pub fn post_send(state: &mut [u8], memory: &mut [u8], qpn: u32, sent: &[u8]) -> 
     ensures { λ r. ⌜ Owes (now (state .entry)) (Call.send qpn (now (sent .entry)) (now (memory .entry))) r (now (state .exit)) (now (memory .exit)) [] ⌝ }
 {
     if !accept::accepted(state) {
-        return Answer::Refused(15);
+        return Answer::Refused(BAD_STATE);
     }
     if memory.len() as u64 != rows::load_memory(state) {
-        return Answer::Refused(7);
+        return Answer::Refused(OTHER_MEMORY);
     }
     match records::read_send(sent) {
         SendRead::Record(s) => send_checked(state, memory, qpn, s, sent),

@@ -26,10 +26,11 @@ use tables::rows;
 ghost use mathlib.Core.Path.{_≡_};
 ghost use mathlib.Core.Bool.{true, cond};
 ghost use Prim.Native.Nat.{_<_, _≤_};
+ghost use lib.Dec.{eqb};
 ghost use lib.ListN.{length, take};
 ghost use Rattle.wire.specs.Table.{rowAt};
 ghost use Rattle.tables.specs.Layout.{stateSize, cqT, waitingT};
-ghost use Rattle.tables.specs.Limits.{cqCount, qpCount, mostPlaces};
+ghost use Rattle.tables.specs.Limits.{cqCount, qpCount, mostPlaces, mostMessage};
 ghost use Rattle.tables.specs.Records.{receiveSges};
 ghost use Rattle.rules.specs.Send.{senderOpcode, receiverOpcode, consumes};
 ghost use Rattle.rules.specs.Bytes.{pushAll, errorBytes, consumeBytes};
@@ -73,6 +74,17 @@ fn kept_if(b: bool, n: u32) -> u32
     0
 }
 
+// The length that a completion of a message of n bytes tells: "the total on success, else 0".
+fn told_length(st: u8, n: u64) -> u32
+    requires { ⌜ (st ≡ 0 → n ≤ mostMessage) ⌝ }
+    ensures { λ r. ⌜ r ≡ cond (eqb st 0) n 0 ⌝ }
+{
+    if st == SUCCESS {
+        return n as u32;
+    }
+    0
+}
+
 // A receive's entries; it has at most two.
 pub fn receive_sges(w: ReceiveRecord) -> [Sge; 4]
     requires { ⌜ w .count ≤ 2 ⌝ }
@@ -89,7 +101,7 @@ pub fn receive_sges(w: ReceiveRecord) -> [Sge; 4]
 }
 
 // The receiver's status: the message does not fit, or a byte of the receive is not permitted.
-fn receiver_status(st: u8, n: u32, w: ReceiveRecord) -> u8
+fn receiver_status(st: u8, n: u64, w: ReceiveRecord) -> u8
     requires { ⌜ w .count ≤ 2 ⌝ }
     ensures { λ r. ⌜ r ≡ receiverStatus w st n ⌝ }
 {
@@ -97,15 +109,16 @@ fn receiver_status(st: u8, n: u32, w: ReceiveRecord) -> u8
         return SUCCESS;
     }
     let room = permit::sges_total(receive_sges(w), w.count as usize);
-    if room < n as u64 {
+    if room < n {
         return LOCAL_LENGTH;
     }
     LOCAL_PROTECTION
 }
 
 // The sender's completion, where one is put.
-fn put_sender(state: &mut [u8], e: Ends, s: SendRecord, st: u8, n: u32)
+fn put_sender(state: &mut [u8], e: Ends, s: SendRecord, st: u8, n: u64)
     requires { ⌜ (e .q < qpCount) × (e .own .scq < cqCount) × (length (now state) ≡ stateSize) × (rowAt cqT (now state) (e .own .scq) .count < mostPlaces) ⌝ }
+    requires { ⌜ (st ≡ 0 → n ≤ mostMessage) ⌝ }
     ensures { λ _. ⌜ now (state .exit) ≡ pushAll (now (state .entry)) (putFirst e s st n) ⌝ }
 {
     let silent = (st == SUCCESS) & (e.own.signal != 0) & (s.flags & SIGNALED_FLAG == 0);
@@ -113,7 +126,7 @@ fn put_sender(state: &mut [u8], e: Ends, s: SendRecord, st: u8, n: u32)
         return;
     }
     let opcode = sender_opcode(s.opcode);
-    let length = kept_if(st == SUCCESS, n);
+    let length = told_length(st, n);
     let entry = Completion {
         wr: s.wr,
         status: st,
@@ -126,8 +139,8 @@ fn put_sender(state: &mut [u8], e: Ends, s: SendRecord, st: u8, n: u32)
 }
 
 // The receiver's completion, where the receive is consumed.
-fn put_receiver(state: &mut [u8], e: Ends, s: SendRecord, w: ReceiveRecord, st: u8, n: u32)
-    requires { ⌜ (w .count ≤ 2) × (length (now state) ≡ stateSize) ⌝ }
+fn put_receiver(state: &mut [u8], e: Ends, s: SendRecord, w: ReceiveRecord, st: u8, n: u64)
+    requires { ⌜ (w .count ≤ 2) × (length (now state) ≡ stateSize) × (st ≡ 0 → n ≤ mostMessage) ⌝ }
     requires { ⌜ (consumes (s .opcode) st ≡ true → (e .far .rcq < cqCount) × (rowAt cqT (now state) (e .far .rcq) .count < mostPlaces)) ⌝ }
     ensures { λ _. ⌜ now (state .exit) ≡ pushAll (now (state .entry)) (putSecond e s w st n) ⌝ }
 {
@@ -135,13 +148,13 @@ fn put_receiver(state: &mut [u8], e: Ends, s: SendRecord, w: ReceiveRecord, st: 
         return;
     }
     let opcode = receiver_opcode(s.opcode);
-    let received = kept_if(st == SUCCESS, n);
+    let length = told_length(st, n);
     let carries = (st == SUCCESS) & ((s.opcode == WRITE_IMM) | (s.opcode == SEND_IMM));
     let entry = Completion {
         wr: w.wr,
         status: receiver_status(st, n, w),
         opcode,
-        length: received,
+        length,
         imm: kept_if(carries, s.imm),
         owner: e.own.dest as u32,
     };
@@ -187,7 +200,7 @@ fn consume_if(state: &mut [u8], b: bool, q: usize)
 }
 
 // What a delivery with a status leaves in the state: its completions, the sender's error, the receive consumed, the peer's error.
-pub fn settle(state: &mut [u8], e: Ends, s: SendRecord, w: ReceiveRecord, st: u8, n: u32)
+pub fn settle(state: &mut [u8], e: Ends, s: SendRecord, w: ReceiveRecord, st: u8, n: u64)
     requires { ⌜ Settling (now state) e s w st n ⌝ }
     ensures { λ _. ⌜ now (state .exit) ≡ settled (now (state .entry)) e s w st n ⌝ }
 {

@@ -11,37 +11,37 @@ use lib.Dec.{eqb}
 use borrow.Author.Tests.{lt-ltb}
 use Rattle.wire.specs.Checks.{refusal}
 use Rattle.wire.specs.Codec.{Fit, Fits}
+use Rattle.wire.specs.Ring.{ringPlace}
 use Rattle.wire.specs.Slots.{upd}
 use Rattle.wire.specs.Table.{rowAt, finish, putRow}
 use Rattle.wire.proofs.TableLaws.{outside, putRow-length, table-other, elsewhere}
-use Rattle.validate.specs.Accept.{completionOk, accepts}
 use Rattle.tables.specs.Card.{Card, Receive, withCq, withQp, withWaiting, tail, receiveOf}
-use Rattle.tables.specs.State.{card, pairAt, queueAt, PairRows}
 use Rattle.tables.specs.Layout.{stateSize, cqT, qpFlagT, qpT, waitingT, receiveT, flagCodec, pairCodec, waitingCodec, entryT, queueCodec}
-use Rattle.tables.specs.Records.{receiveCodec, completionCodec}
 use Rattle.tables.specs.Limits.{qpCount, mostPlaces, mostWaiting, cqCount}
 use Rattle.tables.specs.Queue.{pushBytes, takeBytes, longer}
-use Rattle.validate.proofs.AcceptedLaws.{Accepted}
-use Rattle.validate.proofs.QueueLaws.{queue-sound, push-only, push-card, push-accepted}
-use Rattle.tables.proofs.StoreLaws.{receive-fits}
-use Rattle.validate.proofs.WaitingLaws.{first-is, take-card, take-accepted}
-use Rattle.tables.proofs.KindLaws.{pair-kept}
-use Rattle.rules.specs.Call.{Call}
-use Rattle.rules.specs.Calls.{owedChecks, checks, statusOf, effect, memoryAfter, bufferAfter}
-use Rattle.rules.specs.Lists.{isEmpty}
-use Rattle.rules.specs.Queues.{flushChecks, flushPut, flushed}
-use Rattle.rules.specs.Send.{room, Put, pushed, putAll, oldest, consumeIf}
-use Rattle.rules.specs.Bytes.{effectBytes, flushBytes}
-use Rattle.rules.specs.Contract.{Owes}
-use Rattle.queues.specs.Live.{LiveQueue, LivePair, Flushable}
-use Rattle.queues.proofs.LiveLaws.{queue-ok, queue-below, queue-flag, pair-ok, pair-below, pair-flag, pair-rcq, rcq-live, rcq-place, some-wait}
-use Rattle.rules.proofs.Exported.{refused-owes, done-owes}
+use Rattle.tables.specs.Records.{receiveCodec, completionCodec}
+use Rattle.tables.specs.State.{card, pairAt, queueAt, PairRows}
 use Rattle.tables.specs.declared.Completion.{Completion}
 use Rattle.tables.specs.declared.QueueHead.{QueueHead}
 use Rattle.tables.specs.declared.ReceiveRecord.{ReceiveRecord}
+use Rattle.tables.proofs.KindLaws.{pair-kept}
+use Rattle.tables.proofs.StoreLaws.{receive-fits}
+use Rattle.validate.specs.Accept.{completionOk, accepts}
+use Rattle.validate.proofs.AcceptedLaws.{Accepted}
+use Rattle.validate.proofs.QueueLaws.{queue-sound, push-only, push-card, push-accepted}
+use Rattle.validate.proofs.WaitingLaws.{first-is, take-card, take-accepted}
+use Rattle.rules.specs.Bytes.{effectBytes, flushBytes}
+use Rattle.rules.specs.Call.{Call}
+use Rattle.rules.specs.Calls.{owedChecks, checks, statusOf, effect, memoryAfter, bufferAfter}
+use Rattle.rules.specs.Contract.{Owes}
+use Rattle.rules.specs.Lists.{isEmpty}
+use Rattle.rules.specs.Queues.{flushChecks, flushPut, flushed}
+use Rattle.rules.specs.Send.{room, Put, pushed, putAll, oldest, consumeIf}
 use Rattle.rules.specs.declared.Answer.the-variants.{Done, Held, Refused}
 use Rattle.rules.specs.declared.Cause.the-variants.{Place}
-use Rattle.wire.specs.Ring.{ringPlace}
+use Rattle.rules.proofs.Exported.{refused-owes, done-owes}
+use Rattle.queues.specs.Live.{LiveQueue, LivePair, Flushable}
+use Rattle.queues.proofs.LiveLaws.{queue-ok, queue-below, queue-flag, pair-ok, pair-below, pair-flag, pair-rcq, rcq-live, rcq-place, some-wait}
 
 -- the completion of a flushed receive
 abbrev flushedEntry : ReceiveRecord → (q : ℕ) → Completion

@@ -8,27 +8,27 @@ use lib.ListN.{length}
 use lib.Dec.{eqb, ltb, leb}
 use borrow.Author.Tests.{le-leb, ltb-false}
 use Rattle.wire.specs.Checks.{refusal}
-use Rattle.wire.proofs.CheckLaws.{passed}
 use Rattle.wire.specs.Codec.{decode, fieldsAt, Fits}
+use Rattle.wire.proofs.CheckLaws.{passed}
 use Rattle.wire.proofs.CodecLaws.{fieldsAt-fit}
-use Rattle.validate.specs.Accept.{accepts, receiveOk}
-use Rattle.tables.specs.State.{card}
 use Rattle.tables.specs.Limits.{mostWaiting, mostReceiveSges}
 use Rattle.tables.specs.Queue.{postBytes}
 use Rattle.tables.specs.Records.{receiveCodec, receiveChecks, receiveRead, receiveReadBy}
-use Rattle.validate.proofs.WaitingLaws.{post-card, post-accepted}
+use Rattle.tables.specs.State.{card}
 use Rattle.tables.specs.declared.ReceiveRead.the-variants as read
 use Rattle.tables.specs.declared.ReceiveRecord.{ReceiveRecord}
+use Rattle.validate.specs.Accept.{accepts, receiveOk}
+use Rattle.validate.proofs.WaitingLaws.{post-card, post-accepted}
 use Rattle.rules.specs.Answer.{answered}
+use Rattle.rules.specs.Bytes.{effectBytes}
 use Rattle.rules.specs.Call.{Call}
 use Rattle.rules.specs.Calls.{owedChecks, checks, statusOf, effect, memoryAfter, bufferAfter}
+use Rattle.rules.specs.Contract.{Owes}
 use Rattle.rules.specs.Queues.{joinChecks, joined}
 use Rattle.rules.specs.Touch.{receiveIn}
 use Rattle.rules.specs.declared.Answer.the-variants.{Done, Refused}
-use Rattle.rules.proofs.Tests.{firstOf, refusal-append}
-use Rattle.rules.specs.Bytes.{effectBytes}
-use Rattle.rules.specs.Contract.{Owes}
 use Rattle.rules.proofs.Exported.{refused-owes, done-owes}
+use Rattle.rules.proofs.Tests.{firstOf, refusal-append}
 use Rattle.queues.specs.Live.{LivePair}
 use Rattle.queues.proofs.LiveLaws.{pair-ok, pair-below, pair-flag, receive-room}
 

@@ -8,18 +8,18 @@ use lib.ListN.{length}
 use lib.Dec.{eqb}
 use borrow.Author.Tests.{eq-eqb, ne-eqb, le-leb, lt-leb}
 use Rattle.wire.specs.Checks.{refusal}
-use Rattle.validate.specs.Accept.{accepts, memoryOk}
-use Rattle.tables.specs.State.{card}
 use Rattle.tables.specs.Layout.{stateSize}
 use Rattle.tables.specs.Limits.{mostMemory}
 use Rattle.tables.specs.Reset.{resetBytes}
-use Rattle.validate.proofs.ResetLaws.{reset-accepted}
+use Rattle.tables.specs.State.{card}
 use Rattle.tables.proofs.ResetLaws.{reset-card}
+use Rattle.validate.specs.Accept.{accepts, memoryOk}
+use Rattle.validate.proofs.ResetLaws.{reset-accepted}
+use Rattle.rules.specs.Bytes.{effectBytes}
 use Rattle.rules.specs.Call.{Call}
 use Rattle.rules.specs.Calls.{owedChecks, checks, resetChecks, statusOf, effect, memoryAfter, bufferAfter}
-use Rattle.rules.specs.declared.Answer.the-variants.{Done, Refused}
-use Rattle.rules.specs.Bytes.{effectBytes}
 use Rattle.rules.specs.Contract.{Owes}
+use Rattle.rules.specs.declared.Answer.the-variants.{Done, Refused}
 use Rattle.rules.proofs.Exported.{refused-owes, done-owes}
 
 module _ (l : List ℕ) (n : ℕ) where

@@ -1,4 +1,4 @@
--- What the tests before have shown of the state l, where a call looks further. Assumes nothing.
+-- What the tests before have shown of the lent state l, where a call looks further. Assumes nothing.
 use mathlib.Core.Path.{_≡_}
 use mathlib.Core.Bool.{true, false}
 use mathlib.Core.List.{List}
@@ -9,17 +9,17 @@ use Rattle.validate.specs.Accept.{accepts}
 use Rattle.rules.specs.Lists.{isEmpty}
 use Rattle.rules.specs.Send.{room}
 
--- an accepted state in which completion queue n is live
+-- neither "15 lent card state not acceptable" nor, of completion queue n, "2 number not live"
 pub record LiveQueue (l : List ℕ) (n : ℕ) : Type 0 where
   pub ok : accepts l ≡ true
   pub live : cqLive (card l) n ≡ true
 
--- one in which queue pair q is live
+-- the same of queue pair q
 pub record LivePair (l : List ℕ) (q : ℕ) : Type 0 where
   pub ok : accepts l ≡ true
   pub live : card l .qp q .live ≡ true
 
--- one in which a receive waits on it, and its receive completion queue has a place: "none waiting 9; no place 6; then the oldest receive completes"
+-- neither "none waiting 9" nor "no place 6": "then the oldest receive completes"
 pub record Flushable (l : List ℕ) (q : ℕ) : Type 0 where
   pub pair : LivePair l q
   pub waits : isEmpty (card l .qp q .waiting) ≡ false

@@ -28,7 +28,7 @@ ghost use Rattle.validate.specs.Accept.{accepts};
 ghost use Rattle.rules.specs.Call.{Call};
 ghost use Rattle.rules.specs.Contract.{Owes};
 ghost use Rattle.queues.specs.Live.{LiveQueue, LivePair};
-ghost use Rattle.queues.specs.Receive.{Joins};
+ghost use Rattle.queues.specs.Receive.{Posts};
 
 // ---- reset
 
@@ -52,7 +52,7 @@ pub fn reset(state: &mut [u8], memory: u64) -> Answer
 // ---- poll
 
 // A poll of a live completion queue into a buffer that has room.
-fn poll_queue(state: &mut [u8], n: usize, buffer: &mut [u8]) -> Answer
+fn poll_live(state: &mut [u8], n: usize, buffer: &mut [u8]) -> Answer
     requires { ⌜ LiveQueue (now state) n × (24 ≤ length (now buffer)) ⌝ }
     ensures { λ r. ⌜ Owes (now (state .entry)) (Call.poll n (now (buffer .entry))) r (now (state .exit)) [] (now (buffer .exit)) ⌝ }
 {
@@ -79,15 +79,15 @@ pub fn poll(state: &mut [u8], cqn: u32, buffer: &mut [u8]) -> Answer
     if !accept::cq_live(state, cqn) {
         return Answer::Refused(NOT_LIVE);
     }
-    poll_queue(state, cqn as usize, buffer)
+    poll_live(state, cqn as usize, buffer)
 }
 
 // ---- post receive
 
 // The receive of a record waits on a live queue pair, behind the others.
-fn join(state: &mut [u8], q: usize, w: ReceiveRecord) -> Answer
+fn post_live(state: &mut [u8], q: usize, w: ReceiveRecord) -> Answer
     requires { ⌜ LivePair (now state) q ⌝ }
-    ensures { λ r. ⌜ Joins (now (state .entry)) q w r (now (state .exit)) ⌝ }
+    ensures { λ r. ⌜ Posts (now (state .entry)) q w r (now (state .exit)) ⌝ }
 {
     if pair::bars_receives(state, q) {
         return Answer::Refused(WRONG_STATE);
@@ -100,14 +100,14 @@ fn join(state: &mut [u8], q: usize, w: ReceiveRecord) -> Answer
 }
 
 // The same on any queue pair of an accepted state.
-fn join_any(state: &mut [u8], qpn: u32, w: ReceiveRecord) -> Answer
+fn post_record(state: &mut [u8], qpn: u32, w: ReceiveRecord) -> Answer
     requires { ⌜ accepts (now state) ≡ true ⌝ }
-    ensures { λ r. ⌜ Joins (now (state .entry)) qpn w r (now (state .exit)) ⌝ }
+    ensures { λ r. ⌜ Posts (now (state .entry)) qpn w r (now (state .exit)) ⌝ }
 {
     if !pair::live(state, qpn) {
         return Answer::Refused(NOT_LIVE);
     }
-    join(state, qpn as usize, w)
+    post_live(state, qpn as usize, w)
 }
 
 // A receive more on a queue pair. Its keys aren't looked at.
@@ -118,7 +118,7 @@ pub fn post_receive(state: &mut [u8], qpn: u32, posted: &[u8]) -> Answer
         return Answer::Refused(BAD_STATE);
     }
     match records::read_receive(posted) {
-        ReceiveRead::Record(w) => join_any(state, qpn, w),
+        ReceiveRead::Record(w) => post_record(state, qpn, w),
         ReceiveRead::Refused(n) => Answer::Refused(n),
     }
 }
@@ -126,7 +126,7 @@ pub fn post_receive(state: &mut [u8], qpn: u32, posted: &[u8]) -> Answer
 // ---- flush
 
 // A flush of a live queue pair.
-fn flush_pair(state: &mut [u8], q: usize) -> Answer
+fn flush_live(state: &mut [u8], q: usize) -> Answer
     requires { ⌜ LivePair (now state) q ⌝ }
     ensures { λ r. ⌜ Owes (now (state .entry)) (Call.flush q) r (now (state .exit)) [] [] ⌝ }
 {
@@ -153,5 +153,5 @@ pub fn flush(state: &mut [u8], qpn: u32) -> Answer
     if !pair::live(state, qpn) {
         return Answer::Refused(NOT_LIVE);
     }
-    flush_pair(state, qpn as usize)
+    flush_live(state, qpn as usize)
 }

@@ -69,7 +69,7 @@ fn run(state: &mut [u8], memory: &mut [u8]) {
 }
 
 fn main() {
-    let mut state = [0u8; 6056];
+    let mut state = [0u8; 6072];
     let mut memory = [0u8; 4096];
     tape::start(&mut state);
     run(&mut state, &mut memory);

@@ -27,8 +27,8 @@ returns-2 c =
     let ok = sym (c1 .before .accepted .ensures) ∙ not-false _ (c1 .if1 .left) in
     flush-dead _ (c1 .before .before .before .before .args .qpn) ok (sym (c .before .live .ensures) ∙ not-true _ (c .if2 .taken))
 
-flush-pair-requires : tie.Need-flush-pair-requires
-flush-pair-requires c κs =
+flush-live-requires : tie.Need-flush-live-requires
+flush-live-requires c κs =
     let c1 = c .before in
     let c2 = c1 .before .before .before in
     record {
@@ -52,6 +52,6 @@ flush-spec =
     live-requires
     same-length-2
     returns-2
-    flush-pair-requires
+    flush-live-requires
     same-length-3
     returns-3)

@@ -39,8 +39,8 @@ returns-3 c =
     let ok = sym (c2 .before .accepted .ensures) ∙ not-false _ (c2 .if1 .left) in
     poll-dead _ n _ (c1 .if2 .left) ok (sym (c .before .cq-live .ensures) ∙ not-true _ (c .if3 .taken))
 
-poll-queue-requires : tie.Need-poll-queue-requires
-poll-queue-requires c κs =
+poll-live-requires : tie.Need-poll-live-requires
+poll-live-requires c κs =
     let c1 = c .before .before in
     let c2 = c1 .before .before .before .before in (
       record {
@@ -71,7 +71,7 @@ poll-spec =
     cq-live-requires
     same-length-3
     returns-3
-    poll-queue-requires
+    poll-live-requires
     same-length-4
     same-length-5
     returns-4)

@@ -23,8 +23,8 @@ read-receive-requires c κs = search needs
 enum-known-w : tie.Need-enum-known-w
 enum-known-w c = search needs
 
-join-any-requires : tie.Need-join-any-requires
-join-any-requires c κs =
+post-record-requires : tie.Need-post-record-requires
+post-record-requires c κs =
     let c1 = c .before .before .before .before .before in
     sym (c1 .before .accepted .ensures) ∙ not-false _ (c1 .if1 .left)
 
@@ -37,7 +37,7 @@ same-length-2 c = search needs
 returns-2 : tie.Need-returns-2
 returns-2 c =
     let c1 = c .before .before .before .before .before in
-    c .before .before .join-any .ensures _ (sym (c1 .before .before .read-receive .ensures) ∙ c1 .w .given .1)
+    c .before .before .post-record .ensures _ (sym (c1 .before .before .read-receive .ensures) ∙ c1 .w .given .1)
 
 same-length-3 : tie.Need-same-length-3
 same-length-3 c = search needs
@@ -58,7 +58,7 @@ post-receive-spec =
     returns
     read-receive-requires
     enum-known-w
-    join-any-requires
+    post-record-requires
     enum-known-n
     same-length-2
     returns-2

@@ -60,15 +60,21 @@ returns-5 c =
     let known = live .before .before .before in
     rw (known .before .before .before .read .given .1)
     (register-full _ _ (passes (known .before .known-access .ensures) (known .if1 .left)) (passes (live .before .pd-live .ensures) (live .if2 .left))
-    (rw (← (range .before .before .load-memory .ensures)) (passes (range .before .in-range .ensures) (range .if3 .left))) _ (c .before .free-mrn .ensures) (c .if4 .taken))
+    (rw (← (range .before .before .load-memory .ensures)) (passes (range .before .in-range .ensures) (range .if3 .left)))
+    _ (c .before .free-mrn .ensures) (c .if4 .taken))
 
 put-region-requires : tie.Need-put-region-requires
 put-region-requires c κs =
     let room = c .before in
     let live = room .before .before .before .before .before .before .before in
     let known = live .before .before .before in
-    let s = known .before .before .before .before .before .before in
-    (room .if4 .left, s .pre, room .before .free-mrn .ensures, passes (known .before .known-access .ensures) (known .if1 .left), passes (live .before .pd-live .ensures) (live .if2 .left))
+    let s = known .before .before .before .before .before .before in (
+      room .if4 .left,
+      s .pre,
+      room .before .free-mrn .ensures,
+      passes (known .before .known-access .ensures) (known .if1 .left),
+      passes (live .before .pd-live .ensures) (live .if2 .left),
+    )
 
 cast-t17 : tie.Need-cast-t17
 cast-t17 c = search needs
@@ -88,7 +94,8 @@ returns-6 c =
     let known = live .before .before .before in
     rw (known .before .before .before .read .given .1)
     (register-done _ _ (passes (known .before .known-access .ensures) (known .if1 .left)) (passes (live .before .pd-live .ensures) (live .if2 .left))
-    (rw (← (range .before .before .load-memory .ensures)) (passes (range .before .in-range .ensures) (range .if3 .left))) _ (room .before .free-mrn .ensures) (room .if4 .left)
+    (rw (← (range .before .before .load-memory .ensures)) (passes (range .before .in-range .ensures) (range .if3 .left)))
+    _ (room .before .free-mrn .ensures) (room .if4 .left)
     _ (put .put-region .ensures .0) _ (c .key-of .ensures) _ (put .put-region .ensures .1))
 
 pub register-spec : {M : Type 1} → statement M

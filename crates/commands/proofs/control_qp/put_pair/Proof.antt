@@ -25,7 +25,8 @@ unfolding commandBytes
 returns c =
     let row = c .before .before .before .before .before .before in
     let head = row .before .before .before .before .before in
-    rw (c .before .before .store-qp-flag .ensures, row .store-qp .ensures, head .store-waiting .ensures, row .before .new-pair .ensures, head .before .before .before .pre .2)
+    let s = head .before .before .before in
+    rw (c .before .before .store-qp-flag .ensures, row .store-qp .ensures, head .store-waiting .ensures, row .before .new-pair .ensures, s .pre .2)
 
 pub put-pair-spec : {M : Type 1} → statement M
 put-pair-spec =

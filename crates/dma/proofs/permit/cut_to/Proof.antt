@@ -6,7 +6,7 @@ use lib.ListN.{length, getD, take, drop, length-set}
 use Prim.Native.Nat.{_+_, _-_, _≤_, min}
 use Rattle.rules.proofs.Runs.{cut}
 use Rattle.tables.specs.Records.{noSge}
-use Rattle.dma.specs.Sges.{left-cons, cut-more, cut-done}
+use Rattle.dma.proofs.SgeLaws.{left-cons, cut-more, cut-done}
 use Rattle.dma.proofs.permit.cut_to.Statement.{statement}
 use Rattle.dma.proofs.permit.cut_to.Tie as tie
 

@@ -3,8 +3,7 @@ use denote.Ref.{now}
 use Prim.Native.Nat.{_-_}
 use Rattle.tables.specs.State.{card}
 use Rattle.dma.specs.Grants.{allows}
-use Rattle.dma.specs.Ranges.{empty-range}
-use Rattle.dma.specs.Find.{range-none, range-found}
+use Rattle.dma.proofs.RangeLaws.{empty-range, range-none, range-found}
 use borrow.Author.Needs.{needs}
 use Rattle.dma.proofs.permit.range_permitted.Statement.{statement}
 use Rattle.dma.proofs.permit.range_permitted.Tie as tie
@@ -31,7 +30,7 @@ returns-2 : tie.Need-returns-2
 returns-2 c =
     let a = c .before .before .before .before .before .before .before .before .args in
     rw (c .before .has-use .ensures, c .holds-ends .ensures)
-    (sym (range-found (card (now (a .state))) (a .pd) (a .mask) (a .key) (a .n) (a .address) _ (search needs)
+    (sym (range-found (card (now (a .state))) (a .pd) (a .mask) (a .key) (a .n) (a .address) (search needs) _
     (sym (c .before .before .before .before .before .region-of .ensures) ∙ c .before .before .before .r .given .1)))
 
 returns-3 : tie.Need-returns-3

@@ -3,7 +3,7 @@ use denote.Ref.{now}
 use Prim.Native.Nat.{_-_, _/_, _%_}
 use Rattle.wire.specs.Table.{rowAt}
 use Rattle.tables.specs.Layout.{mrFlagT, mrT}
-use Rattle.dma.specs.Find.{found-out, found-free, found-other, found-live}
+use Rattle.dma.proofs.RegionLaws.{region-out, region-free, region-other, region-live}
 use borrow.Author.Needs.{needs}
 use Rattle.dma.proofs.permit.region_of.Statement.{statement}
 use Rattle.dma.proofs.permit.region_of.Tie as tie
@@ -12,7 +12,7 @@ cast-slot : tie.Need-cast-slot
 cast-slot c = search needs
 
 returns : tie.Need-returns
-returns c = let a = c .before .before .args in sym (found-out (now (a .state)) (a .key) (search needs))
+returns c = let a = c .before .before .args in sym (region-out (now (a .state)) (a .key) (search needs))
 
 load-mr-flag-requires : tie.Need-load-mr-flag-requires
 load-mr-flag-requires c κs = search needs
@@ -20,7 +20,7 @@ load-mr-flag-requires c κs = search needs
 returns-2 : tie.Need-returns-2
 returns-2 c =
     let a = c .before .before .before .before .args in
-    sym (found-free (now (a .state)) (a .key) (search needs) (λ e. c .if2 .taken (cc)))
+    sym (region-free (now (a .state)) (a .key) (search needs) (λ e. c .if2 .taken (cc)))
 
 load-mr-requires : tie.Need-load-mr-requires
 load-mr-requires c κs = search needs
@@ -32,14 +32,14 @@ returns-3 : tie.Need-returns-3
 returns-3 c =
     let a = c .before .before .before .before .before .before .before .args in
     let e : rowAt mrFlagT (now (a .state)) (a .key / 256) ≡ 1 = (cc) in
-    sym (found-other (now (a .state)) (a .key) (search needs) e (λ q. c .if3 .taken (cc)))
+    sym (region-other (now (a .state)) (a .key) (search needs) e (λ q. c .if3 .taken (cc)))
 
 returns-4 : tie.Need-returns-4
 returns-4 c =
     let a = c .before .before .before .before .before .before .before .args in
     let e : rowAt mrFlagT (now (a .state)) (a .key / 256) ≡ 1 = (cc) in
     let f : rowAt mrT (now (a .state)) (a .key / 256) .variant ≡ a .key % 256 = (cc) in
-    rw (found-live (now (a .state)) (a .key) (search needs) e f) (cc)
+    rw (region-live (now (a .state)) (a .key) (search needs) e f) (cc)
 
 pub region-of-spec : {M : Type 1} → statement M
 region-of-spec =

@@ -8,7 +8,7 @@ use borrow.Author.Tests.{not-true, not-false}
 use Rattle.tables.specs.State.{card}
 use Rattle.rules.specs.Touch.{sgeBytes}
 use Rattle.dma.specs.Grants.{allows, allowsAll}
-use Rattle.dma.specs.Sges.{left-tests, none-tests}
+use Rattle.dma.proofs.SgeLaws.{left-tests, none-tests}
 use Rattle.dma.proofs.permit.sges_permitted.Statement.{statement}
 use Rattle.dma.proofs.permit.sges_permitted.Tie as tie
 

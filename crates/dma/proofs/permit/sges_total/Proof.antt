@@ -4,7 +4,7 @@ use native.Mathlib.Omega.{arith}
 use lib.ListN.{length, take, drop}
 use Prim.Native.Nat.{_+_, _-_, _*_, _^_, _≤_}
 use Rattle.rules.specs.Touch.{sgeTotal}
-use Rattle.dma.specs.Sges.{left-total, none-total}
+use Rattle.dma.proofs.SgeLaws.{left-total, none-total}
 use Rattle.dma.proofs.permit.sges_total.Statement.{statement}
 use Rattle.dma.proofs.permit.sges_total.Tie as tie
 

@@ -5,13 +5,10 @@ use mathlib.Core.List.{List}
 use lib.ListN.{length, drop}
 use Prim.Native.Nat.{ℕ, _-_}
 use lib.Seq.{paste}
-use Rattle.dma.specs.Moves.{through}
+use Rattle.dma.proofs.MoveLaws.{through}
 use borrow.Author.Needs.{needs}
 use Rattle.dma.proofs.transfer.deliver_inline.Statement.{statement}
 use Rattle.dma.proofs.transfer.deliver_inline.Tie as tie
-use Rattle.dma.proofs.transfer.deliver_inline.Reads as reads
-use Rattle.dma.proofs.transfer.deliver_inline.Lts as lts
-use Rattle.wire.proofs.copy_bytes.Reads as copy-bytes-reads
 
 slice-aggregate-copy-bytes : tie.Need-slice-aggregate-copy-bytes
 slice-aggregate-copy-bytes c = search needs

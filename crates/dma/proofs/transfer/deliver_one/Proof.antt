@@ -5,7 +5,7 @@ use mathlib.Core.List.{List}
 use lib.ListN.{length, drop, length-drop}
 use Prim.Native.Nat.{ℕ, _-_, _≤_}
 use lib.Seq.{paste}
-use Rattle.dma.specs.Moves.{through}
+use Rattle.dma.proofs.MoveLaws.{through}
 use borrow.Author.Needs.{needs}
 use Rattle.dma.proofs.transfer.deliver_one.Statement.{statement}
 use Rattle.dma.proofs.transfer.deliver_one.Tie as tie

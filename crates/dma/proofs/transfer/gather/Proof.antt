@@ -2,23 +2,19 @@ use mathlib.Core.Path.{_≡_, refl, _∙_}
 use native.Mathlib.Omega.{arith}
 use denote.Ref.{now}
 use lib.ListN.{length, getD, take, drop}
-use Prim.Native.Nat.{_+_, _-_, _≤_}
+use Prim.Native.Nat.{_+_, _-_}
 use Rattle.tables.specs.State.{card}
-use mathlib.Core.Bool.{true}
 use mathlib.Core.List.{_++_}
-use Rattle.rules.specs.Touch.{sgeBytes, sgeTotal}
-use Rattle.dma.specs.Places.{readBytes}
-use Rattle.dma.specs.Grants.{mappedAll, places}
 use Rattle.tables.specs.Records.{noSge}
-use Rattle.dma.specs.Moves.{Turn, turn, gathered, gather-more}
+use Rattle.dma.specs.Moves.{places, readBytes}
+use Rattle.dma.proofs.RegionLaws.{lies}
+use Rattle.dma.proofs.MoveLaws.{room, Left, Turn, turn, gathered, gather-more}
 use Rattle.dma.proofs.transfer.gather.Statement.{statement}
 use Rattle.dma.proofs.transfer.gather.Tie as tie
 
 abbrev Inv-loop : tie.InvT-loop
 Inv-loop state memory count staging₀ sges i₀ at₀ staging i at =
-    (i ≤ count)
-    × (at + sgeTotal (drop i (take count sges)) ≡ sgeTotal (take count sges))
-    × (mappedAll (card state) (sgeBytes (drop i (take count sges))) ≡ true)
+    Left (card state) sges count i at
     × (length staging ≡ length staging₀)
     × (take at staging ++ readBytes memory (places (card state) (drop i (take count sges))) ≡ readBytes memory (places (card state) (take count sges)))
 
@@ -32,10 +28,10 @@ step b =
     let s = b .before .before .before .before .before in
     let l = b .before .loop in
     let four : length (s .args .t3) ≡ 4 = s .good .1 .1 .0 .1 .0 .1 in
-    turn (card (now (s .args .state))) (s .args .t3) (s .args .count) (l .i) (l .at) (omega arith) (omega arith) (l .inv .1) (l .inv .2)
+    turn (card (now (s .args .state))) (s .args .t3) (s .args .count) (l .i) (l .at) (l .inv .0) (omega arith) (omega arith)
 
 loop-holds : tie.Need-loop-holds Inv-loop μ-loop
-loop-holds c = (omega arith, omega arith, c .before .before .before .pre .1 .1, refl, refl)
+loop-holds c = (record { turns = omega arith; sum = omega arith; maps = c .before .before .before .pre .1 .1 }, refl, refl)
 
 mul-s : tie.Need-mul-s Inv-loop μ-loop
 mul-s c = omega arith
@@ -43,24 +39,27 @@ mul-s c = omega arith
 array-copy-out-s : tie.Need-array-copy-out-s Inv-loop μ-loop
 array-copy-out-s c = omega arith
 
-copy-out-requires : tie.Need-copy-out-requires Inv-loop μ-loop
-copy-out-requires c κs =
+cast-n : tie.Need-cast-n Inv-loop μ-loop
+cast-n c = omega arith
+
+place-of-requires : tie.Need-place-of-requires Inv-loop μ-loop
+place-of-requires c κs =
     let b = c .before .before in
     let s = b .before .before .before .before .before in
-    let l = b .before .loop in
-    let w = step b in
-    (s .pre .0, (w .now-mapped, omega arith))
+    (s .pre .0 .accepted, s .pre .0 .size, step b .maps)
 
-cast-at : tie.Need-cast-at Inv-loop μ-loop
-cast-at c =
-    let b = c .before .before .before .before .before .before in
+copy-bytes-requires : tie.Need-copy-bytes-requires Inv-loop μ-loop
+copy-bytes-requires c κs =
+    let b = c .before .before .before .before in
+    let s = b .before .before .before .before .before in
     let w = step b in
-    omega arith
+    let e = lies (now (s .args .state)) (now (s .args .memory)) (s .pre .0) (getD (s .args .t3) (b .before .loop .i) noSge) (w .maps) in
+    let k = room (card (now (s .args .state))) (now (s .args .memory)) (getD (s .args .t3) (b .before .loop .i) noSge) e _ (c .before .place-of .ensures) in
+    (omega arith, k)
 
 add-at : tie.Need-add-at Inv-loop μ-loop
 add-at c =
-    let b = c .before .before .before .before .before .before in
-    let w = step b in
+    let w = step (c .before .before .before .before .before .before .before) in
     omega arith
 
 add-i : tie.Need-add-i Inv-loop μ-loop
@@ -71,25 +70,26 @@ loop-less c = omega arith
 
 loop-again : tie.Need-loop-again Inv-loop μ-loop
 loop-again c =
-    let b = c .before .before .before .before .before .before in
+    let b = c .before .before .before .before .before .before .before in
     let s = b .before .before .before .before .before in
     let l = b .before .loop in
-    let w = step b in (
-      omega arith,
-      w .counted,
-      w .rest-mapped,
-      c .before .before .before .copy-out .kept .1 .1 .1 .0 ∙ l .inv .3,
-      gather-more (card (now (s .args .state))) (now (s .args .memory)) (getD (s .args .t3) (l .i) noSge) (drop (l .i + 1) (take (s .args .count) (s .args .t3))) (take (l .at) (l .staging)) _ _ (rw (w .cons) at (l .inv .4)) (c .before .before .before .copy-out .ensures),
+    let w = step b in
+    let p = getD (s .args .t3) (l .i) noSge in
+    let e = lies (now (s .args .state)) (now (s .args .memory)) (s .pre .0) p (w .maps) in (
+      w .next,
+      c .before .before .copy-bytes .kept .0 ∙ l .inv .1,
+      gather-more (card (now (s .args .state))) (now (s .args .memory)) p e _ (c .before .before .before .before .place-of .ensures) (l .staging) _ (l .at)
+          (drop (l .i + 1) (take (s .args .count) (s .args .t3))) _ (omega arith) (c .before .before .copy-bytes .ensures) (rw (w .cons) at (l .inv .2)),
     )
 
 same-length : tie.Need-same-length Inv-loop μ-loop
-same-length c = c .before .loop .inv .3
+same-length c = c .before .loop .inv .1
 
 returns : tie.Need-returns Inv-loop μ-loop
 returns c =
     let s = c .before .before .before .before .before in
     let l = c .before .loop in
-    gathered (card (now (s .args .state))) (now (s .args .memory)) (s .args .t3) (s .args .count) (l .i) (l .at) (l .staging) (c .loop-test .left) (l .inv .1) (l .inv .4)
+    gathered (card (now (s .args .state))) (now (s .args .memory)) (s .args .t3) (s .args .count) (l .i) (c .loop-test .left) (l .at) (l .staging) (l .inv .0 .sum) (l .inv .2)
 
 pub gather-spec : {M : Type 1} → statement M
 gather-spec =
@@ -100,8 +100,9 @@ gather-spec =
     loop-holds
     mul-s
     array-copy-out-s
-    copy-out-requires
-    cast-at
+    cast-n
+    place-of-requires
+    copy-bytes-requires
     add-at
     add-i
     loop-less

@@ -3,7 +3,7 @@ use denote.Ref.{now}
 use lib.ListN.{take}
 use Prim.Native.Nat.{_-_}
 use Rattle.tables.specs.State.{card}
-use Rattle.dma.specs.Moves.{inlined}
+use Rattle.dma.proofs.MoveLaws.{inlined}
 use borrow.Author.Needs.{needs}
 use Rattle.dma.proofs.transfer.inline_many.Statement.{statement}
 use Rattle.dma.proofs.transfer.inline_many.Tie as tie
@@ -28,7 +28,7 @@ same-length c = search needs
 returns : tie.Need-returns
 returns c =
     let s = c .before .before .before .before .before .before .before .before .before .before .before in
-    inlined (card (now (s .args .state))) (now (s .args .memory)) _ _ _ (now (s .args .bytes)) (take (s .args .nt) (s .args .to)) (s .pre .1 .2) (c .before .before .before .before .before .before .copy-bytes .ensures) (c .before .before .scatter .ensures)
+    inlined (card (now (s .args .state))) (now (s .args .memory)) _ _ (take (s .args .nt) (s .args .to)) (c .before .before .scatter .ensures) _ (now (s .args .bytes)) (s .pre .1 .2) (c .before .before .before .before .before .before .copy-bytes .ensures)
 
 pub inline-many-spec : {M : Type 1} → statement M
 inline-many-spec =

@@ -2,22 +2,19 @@ use mathlib.Core.Path.{_≡_, refl, _∙_}
 use native.Mathlib.Omega.{arith}
 use denote.Ref.{now}
 use lib.ListN.{length, getD, take, drop}
-use Prim.Native.Nat.{_+_, _-_, _≤_}
+use Prim.Native.Nat.{_+_, _-_}
 use Rattle.tables.specs.State.{card}
-use mathlib.Core.Bool.{true}
-use Rattle.rules.specs.Touch.{sgeBytes, sgeTotal}
 use Rattle.rules.specs.Lists.{stored}
-use Rattle.dma.specs.Grants.{mappedAll, places}
 use Rattle.tables.specs.Records.{noSge}
-use Rattle.dma.specs.Moves.{Turn, turn, scattered, scatter-more}
+use Rattle.dma.specs.Moves.{places}
+use Rattle.dma.proofs.RegionLaws.{Lies, lies}
+use Rattle.dma.proofs.MoveLaws.{room, Left, Turn, turn, scattered, scatter-more}
 use Rattle.dma.proofs.transfer.scatter.Statement.{statement}
 use Rattle.dma.proofs.transfer.scatter.Tie as tie
 
 abbrev Inv-loop : tie.InvT-loop
 Inv-loop state memory₀ count staging sges i₀ at₀ memory i at =
-    (i ≤ count)
-    × (at + sgeTotal (drop i (take count sges)) ≡ sgeTotal (take count sges))
-    × (mappedAll (card state) (sgeBytes (drop i (take count sges))) ≡ true)
+    Left (card state) sges count i at
     × (length memory ≡ length memory₀)
     × (stored memory (places (card state) (drop i (take count sges))) (drop at staging) ≡ stored memory₀ (places (card state) (take count sges)) staging)
 
@@ -31,10 +28,18 @@ step b =
     let s = b .before .before .before .before .before in
     let l = b .before .loop in
     let four : length (s .args .t3) ≡ 4 = s .good .1 .1 .0 .1 .0 .1 in
-    turn (card (now (s .args .state))) (s .args .t3) (s .args .count) (l .i) (l .at) (omega arith) (omega arith) (l .inv .1) (l .inv .2)
+    turn (card (now (s .args .state))) (s .args .t3) (s .args .count) (l .i) (l .at) (l .inv .0) (omega arith) (omega arith)
+
+-- the entry of the turn lies in memory
+entry : (b : tie.In-loop Inv-loop μ-loop)
+    → Lies (card (now (b .before .before .before .before .before .args .state))) (length (b .before .loop .memory)) (getD (b .before .before .before .before .before .args .t3) (b .before .loop .i) noSge)
+entry b =
+    let s = b .before .before .before .before .before in
+    let l = b .before .loop in
+    lies (now (s .args .state)) (l .memory) (record { accepted = s .pre .0 .accepted; size = s .pre .0 .size; whole = l .inv .1 ∙ s .pre .0 .whole }) (getD (s .args .t3) (l .i) noSge) (step b .maps)
 
 loop-holds : tie.Need-loop-holds Inv-loop μ-loop
-loop-holds c = (omega arith, omega arith, c .before .before .before .pre .1 .1, refl, refl)
+loop-holds c = (record { turns = omega arith; sum = omega arith; maps = c .before .before .before .pre .1 .1 }, refl, refl)
 
 mul-s : tie.Need-mul-s Inv-loop μ-loop
 mul-s c = omega arith
@@ -42,24 +47,27 @@ mul-s c = omega arith
 array-copy-out-s : tie.Need-array-copy-out-s Inv-loop μ-loop
 array-copy-out-s c = omega arith
 
-copy-in-requires : tie.Need-copy-in-requires Inv-loop μ-loop
-copy-in-requires c κs =
+cast-n : tie.Need-cast-n Inv-loop μ-loop
+cast-n c = omega arith
+
+place-of-requires : tie.Need-place-of-requires Inv-loop μ-loop
+place-of-requires c κs =
     let b = c .before .before in
+    let s = b .before .before .before .before .before in
+    (s .pre .0 .accepted, s .pre .0 .size, step b .maps)
+
+copy-bytes-requires : tie.Need-copy-bytes-requires Inv-loop μ-loop
+copy-bytes-requires c κs =
+    let b = c .before .before .before .before in
     let s = b .before .before .before .before .before in
     let l = b .before .loop in
     let w = step b in
-    (record { accepted = s .pre .0 .accepted; size = s .pre .0 .size; whole = l .inv .3 ∙ s .pre .0 .whole }, (w .now-mapped, omega arith))
-
-cast-at : tie.Need-cast-at Inv-loop μ-loop
-cast-at c =
-    let b = c .before .before .before .before .before .before in
-    let w = step b in
-    omega arith
+    let k = room (card (now (s .args .state))) (l .memory) (getD (s .args .t3) (l .i) noSge) (entry b) _ (c .before .place-of .ensures) in
+    (k, omega arith)
 
 add-at : tie.Need-add-at Inv-loop μ-loop
 add-at c =
-    let b = c .before .before .before .before .before .before in
-    let w = step b in
+    let w = step (c .before .before .before .before .before .before .before) in
     omega arith
 
 add-i : tie.Need-add-i Inv-loop μ-loop
@@ -70,25 +78,24 @@ loop-less c = omega arith
 
 loop-again : tie.Need-loop-again Inv-loop μ-loop
 loop-again c =
-    let b = c .before .before .before .before .before .before in
+    let b = c .before .before .before .before .before .before .before in
     let s = b .before .before .before .before .before in
     let l = b .before .loop in
     let w = step b in (
-      omega arith,
-      w .counted,
-      w .rest-mapped,
-      c .before .before .before .copy-in .kept .1 .0 ∙ l .inv .3,
-      scatter-more (card (now (s .args .state))) (l .memory) _ (getD (s .args .t3) (l .i) noSge) (drop (l .i + 1) (take (s .args .count) (s .args .t3))) (now (s .args .staging)) (l .at) _ (omega arith) (rw (w .cons) at (l .inv .4)) (c .before .before .before .copy-in .ensures),
+      w .next,
+      c .before .before .copy-bytes .kept .0 ∙ l .inv .1,
+      scatter-more (card (now (s .args .state))) (l .memory) (getD (s .args .t3) (l .i) noSge) (entry b) _ (c .before .before .before .before .place-of .ensures) _ (now (s .args .staging)) (l .at)
+          (drop (l .i + 1) (take (s .args .count) (s .args .t3))) _ (omega arith) (c .before .before .copy-bytes .ensures) (rw (w .cons) at (l .inv .2)),
     )
 
 same-length : tie.Need-same-length Inv-loop μ-loop
-same-length c = c .before .loop .inv .3
+same-length c = c .before .loop .inv .1
 
 returns : tie.Need-returns Inv-loop μ-loop
 returns c =
     let s = c .before .before .before .before .before in
     let l = c .before .loop in
-    scattered (card (now (s .args .state))) (l .memory) _ (s .args .t3) (s .args .count) (l .i) (drop (l .at) (now (s .args .staging))) (c .loop-test .left) (l .inv .4)
+    scattered (card (now (s .args .state))) (l .memory) (s .args .t3) (s .args .count) (l .i) (c .loop-test .left) _ (drop (l .at) (now (s .args .staging))) (l .inv .2)
 
 pub scatter-spec : {M : Type 1} → statement M
 scatter-spec =
@@ -99,8 +106,9 @@ scatter-spec =
     loop-holds
     mul-s
     array-copy-out-s
-    copy-in-requires
-    cast-at
+    cast-n
+    place-of-requires
+    copy-bytes-requires
     add-at
     add-i
     loop-less

@@ -1,17 +1,11 @@
 use mathlib.Core.Path.{_≡_}
 use native.Mathlib.Omega.{arith}
-use denote.Ref.{now}
 use lib.ListN.{length}
 use Prim.Native.Nat.{_-_}
-use Rattle.tables.specs.State.{card}
-use Rattle.dma.specs.Moves.{inline-single, inline-done}
+use Rattle.dma.proofs.SgeLaws.{alone}
 use borrow.Author.Needs.{needs}
 use Rattle.dma.proofs.transfer.scatter_inline.Statement.{statement}
 use Rattle.dma.proofs.transfer.scatter_inline.Tie as tie
-use Rattle.dma.proofs.transfer.scatter_inline.Reads as reads
-use Rattle.dma.proofs.transfer.scatter_inline.Lts as lts
-use Rattle.dma.proofs.transfer.inline_many.Reads as inline-many-reads
-use Rattle.dma.proofs.transfer.inline_one.Reads as inline-one-reads
 
 array-copy-out-t : tie.Need-array-copy-out-t
 array-copy-out-t c = search needs
@@ -20,8 +14,8 @@ inline-one-requires : tie.Need-inline-one-requires
 inline-one-requires c κs =
     let s = c .before .before .before .before .before .before in
     let x : length (s .args .t4) ≡ 4 = s .good .1 .1 .1 .0 .1 .0 .1 in
-    let h = inline-single (card (now (s .args .state))) (s .args .t4) (s .args .nt) (c .before .before .if1 .taken) (omega arith) (s .pre .1 .1) (length (now (s .args .bytes))) (s .pre .1 .2) in
-    (s .pre .0, (h .0, h .1, s .pre .1 .3))
+    let e = alone (s .args .t4) (s .args .nt) (c .before .before .if1 .taken) (omega arith) in
+    (s .pre .0, (rw e at (s .pre .1 .1), rw e at (s .pre .1 .2), s .pre .1 .3))
 
 same-length : tie.Need-same-length
 same-length c = search needs
@@ -30,7 +24,7 @@ returns : tie.Need-returns
 returns c =
     let s = c .before .before .before .before .before .before .before .before .before in
     let x : length (s .args .t4) ≡ 4 = s .good .1 .1 .1 .0 .1 .0 .1 in
-    inline-done (card (now (s .args .state))) (s .args .t4) (s .args .nt) (c .before .before .before .before .before .if1 .taken) (omega arith) (now (s .args .memory)) _ (now (s .args .bytes)) (c .before .before .inline-one .ensures)
+    rw (alone (s .args .t4) (s .args .nt) (c .before .before .before .before .before .if1 .taken) (omega arith)) (c .before .before .inline-one .ensures)
 
 inline-many-requires : tie.Need-inline-many-requires
 inline-many-requires c κs = search needs

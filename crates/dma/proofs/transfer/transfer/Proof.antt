@@ -1,13 +1,11 @@
 use mathlib.Core.Path.{_≡_}
 use native.Mathlib.Omega.{arith}
-use denote.Ref.{now}
 use lib.ListN.{length}
 use Prim.Native.Nat.{_-_}
-use Rattle.tables.specs.State.{card}
 use lib.Dec.{eqb}
 use borrow.Author.Tests.{eqb-true}
 use Rattle.wire.proofs.ScanLaws.{and-left, and-right}
-use Rattle.dma.specs.Moves.{single, single-done}
+use Rattle.dma.proofs.SgeLaws.{alone}
 use borrow.Author.Needs.{needs}
 use Rattle.dma.proofs.transfer.transfer.Statement.{statement}
 use Rattle.dma.proofs.transfer.transfer.Tie as tie
@@ -26,7 +24,7 @@ transfer-one-requires c κs =
     let g : s .args .nt ≡ 1 = eqb-true (s .args .nt) 1 (and-right (eqb (s .args .nf) 1) (eqb (s .args .nt) 1) t) in
     let x : length (s .args .t3) ≡ 4 = s .good .1 .1 .0 .1 .0 .1 in
     let y : length (s .args .t5) ≡ 4 = s .good .1 .1 .1 .1 .0 .1 .0 .1 in
-    (s .pre .0, single (card (now (s .args .state))) (s .args .t3) (s .args .t5) (s .args .nf) (s .args .nt) f g (omega arith) (omega arith) (s .pre .1 .2))
+    (s .pre .0, rw (alone (s .args .t3) (s .args .nf) f (omega arith), alone (s .args .t5) (s .args .nt) g (omega arith)) at (s .pre .1 .2))
 
 same-length : tie.Need-same-length
 same-length c = search needs
@@ -39,7 +37,7 @@ returns c =
     let g : s .args .nt ≡ 1 = eqb-true (s .args .nt) 1 (and-right (eqb (s .args .nf) 1) (eqb (s .args .nt) 1) t) in
     let x : length (s .args .t3) ≡ 4 = s .good .1 .1 .0 .1 .0 .1 in
     let y : length (s .args .t5) ≡ 4 = s .good .1 .1 .1 .1 .0 .1 .0 .1 in
-    single-done (card (now (s .args .state))) (s .args .t3) (s .args .t5) (s .args .nf) (s .args .nt) f g (omega arith) (omega arith) (now (s .args .memory)) _ (c .before .before .transfer-one .ensures)
+    rw (alone (s .args .t3) (s .args .nf) f (omega arith), alone (s .args .t5) (s .args .nt) g (omega arith)) (c .before .before .transfer-one .ensures)
 
 transfer-many-requires : tie.Need-transfer-many-requires
 transfer-many-requires c κs = search needs

@@ -3,7 +3,7 @@ use denote.Ref.{now}
 use lib.ListN.{take}
 use Prim.Native.Nat.{_-_}
 use Rattle.tables.specs.State.{card}
-use Rattle.dma.specs.Moves.{transferred}
+use Rattle.dma.proofs.MoveLaws.{transferred}
 use borrow.Author.Needs.{needs}
 use Rattle.dma.proofs.transfer.transfer_many.Statement.{statement}
 use Rattle.dma.proofs.transfer.transfer_many.Tie as tie
@@ -28,7 +28,7 @@ same-length c = search needs
 returns : tie.Need-returns
 returns c =
     let s = c .before .before .before .before .before .before .before .before .before .before .before in
-    transferred (card (now (s .args .state))) (now (s .args .memory)) _ _ (take (s .args .nf) (s .args .from)) (take (s .args .nt) (s .args .to)) (s .pre .1 .2 .total) (c .before .before .before .before .before .before .gather .ensures) (c .before .before .scatter .ensures)
+    transferred (card (now (s .args .state))) (now (s .args .memory)) _ _ (take (s .args .nt) (s .args .to)) (c .before .before .scatter .ensures) (take (s .args .nf) (s .args .from)) (s .pre .1 .2 .total) (c .before .before .before .before .before .before .gather .ensures)
 
 pub transfer-many-spec : {M : Type 1} → statement M
 transfer-many-spec =

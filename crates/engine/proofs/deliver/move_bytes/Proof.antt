@@ -8,11 +8,12 @@ use lib.ListN.{length, take}
 use borrow.Author.Tests.{eq-eqb, ne-eqb}
 use Rattle.tables.specs.State.{card}
 use Rattle.rules.specs.Lists.{stored}
-use Rattle.dma.specs.Grants.{places}
+use Rattle.dma.specs.Moves.{places}
 use Rattle.engine.proofs.MoveLaws.{there, back}
 use borrow.Author.Needs.{needs}
 use Rattle.engine.proofs.deliver.move_bytes.Statement.{statement}
 use Rattle.engine.proofs.deliver.move_bytes.Tie as tie
+use Rattle.rules.specs.Touch.{sgeTotal}
 
 is-inline-requires : tie.Need-is-inline-requires
 is-inline-requires c κs = search needs
@@ -24,10 +25,10 @@ scatter-inline-requires : tie.Need-scatter-inline-requires
 scatter-inline-requires c κs =
     let b = c .before .before .before .before .before .before .before in
     let a = b .args in
-    let k = b .pre .1 .2 in
+    let k = b .pre .1 in
     let h = k .short (sym (c .before .before .before .is-inline .ensures) ∙ c .before .before .if1 .taken) in
-    let z : length (now (c .before .inline-bytes .result)) ≡ a .n = ap (λ (v : List ℕ). length v) (c .before .inline-bytes .ensures) ∙ h .1 in
-    (b .pre .0, (b .pre .1 .0, k .target, k .total ∙ sym z, rw z (h .0)))
+    let z : length (now (c .before .inline-bytes .result)) ≡ sgeTotal (take (a .count) (a .far)) = ap (λ (v : List ℕ). length v) (c .before .inline-bytes .ensures) ∙ h .1 in
+    (b .pre .0 .0, (b .pre .0 .1, k .target, sym z, rw z (h .0)))
 
 same-length : tie.Need-same-length
 same-length c = search needs
@@ -36,7 +37,7 @@ returns : tie.Need-returns
 returns c =
     let b = c .before .before .before .before .before .before .before .before .before .before in
     let a = b .args in
-    let k = b .pre .1 .2 in
+    let k = b .pre .1 in
     let e : isInline (a .s) ≡ true = sym (c .before .before .before .before .before .before .is-inline .ensures)
     ∙ c .before .before .before .before .before .if1 .taken in
     rw e (c .before .before .scatter-inline .ensures ∙ ap
@@ -50,15 +51,15 @@ transfer-requires : tie.Need-transfer-requires
 transfer-requires c κs =
     let b = c .before .before .before .before .before .before .before .before .before in
     let a = b .args in
-    let k = b .pre .1 .2 in
+    let k = b .pre .1 in
     let e : isInline (a .s) ≡ false = sym (c .before .before .before .before .before .is-inline .ensures) ∙ c .before .before .before .before .if1 .left
     in (
-      b .pre .0,
+      b .pre .0 .0,
       (
-        b .pre .1 .0,
-        b .pre .1 .1 e,
+        b .pre .0 .1,
+        b .pre .0 .2 e,
         back (card (now (a .state))) (a .s) (now (a .sent)) (take (a .s .count) (a .sges))
-            (take (a .count) (a .far)) (a .n) k e,
+            (take (a .count) (a .far)) k e,
       ),
     )
 
@@ -69,7 +70,7 @@ returns-2 : tie.Need-returns-2
 returns-2 c =
     let b = c .before .before .before .before .before .before .before .before .before .before .before .before in
     let a = b .args in
-    let k = b .pre .1 .2 in
+    let k = b .pre .1 in
     let e : isInline (a .s) ≡ false = sym (c .before .before .before .before .before .before .before .before .is-inline .ensures)
     ∙ c .before .before .before .before .before .before .before .if1 .left in
     rw (e, eq-eqb (a .s .opcode) 4 (c .before .before .before .before .if2 .taken)) (c .before .before .transfer .ensures)
@@ -78,15 +79,15 @@ transfer-requires-2 : tie.Need-transfer-requires-2
 transfer-requires-2 c κs =
     let b = c .before .before .before .before .before .before .before .before .before in
     let a = b .args in
-    let k = b .pre .1 .2 in
+    let k = b .pre .1 in
     let e : isInline (a .s) ≡ false = sym (c .before .before .before .before .before .is-inline .ensures) ∙ c .before .before .before .before .if1 .left
     in (
-      b .pre .0,
+      b .pre .0 .0,
       (
-        b .pre .1 .1 e,
-        b .pre .1 .0,
+        b .pre .0 .2 e,
+        b .pre .0 .1,
         there (card (now (a .state))) (a .s) (now (a .sent)) (take (a .s .count) (a .sges))
-            (take (a .count) (a .far)) (a .n) k e,
+            (take (a .count) (a .far)) k e,
       ),
     )
 
@@ -97,7 +98,7 @@ returns-3 : tie.Need-returns-3
 returns-3 c =
     let b = c .before .before .before .before .before .before .before .before .before .before .before .before in
     let a = b .args in
-    let k = b .pre .1 .2 in
+    let k = b .pre .1 in
     let e : isInline (a .s) ≡ false = sym (c .before .before .before .before .before .before .before .before .is-inline .ensures)
     ∙ c .before .before .before .before .before .before .before .if1 .left in
     rw (e, ne-eqb (a .s .opcode) 4 (c .before .before .before .before .if2 .left)) (c .before .before .transfer2 .ensures)

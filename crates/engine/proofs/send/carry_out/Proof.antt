@@ -1,10 +1,5 @@
-use mathlib.Core.Path.{sym, _∙_}
+use mathlib.Core.Path.{_∙_}
 use denote.Ref.{now}
-use mathlib.Core.Path.{subst}
-use mathlib.Core.List.{List}
-use Prim.Native.Nat.{ℕ}
-use Rattle.rules.specs.Touch.{requestOf}
-use Rattle.engine.specs.Send.{Carried}
 use Rattle.engine.proofs.RequestLaws.{told}
 use Rattle.engine.proofs.EndLaws.{peer-below, head-below, ending}
 use borrow.Author.Needs.{needs}
@@ -24,125 +19,48 @@ taken-receive-requires : tie.Need-taken-receive-requires
 taken-receive-requires c κs =
     let b = c .before .before .before .before .before .before .before in
     let a = b .args in
-    let l : List ℕ = now (a .state) in
-    let m : List ℕ = now (a .memory) in
-    let x : List ℕ = now (a .sent) in
+    let l = now (a .state) in
+    let m = now (a .memory) in
+    let x = now (a .sent) in
     let y = b .pre .0 .accepted in
     let p = b .pre .1 .0 in
     let g = b .pre .1 .1 .good in
     let h = b .pre .1 .1 .rows in
     (peer-below l m x (a .s) (a .e .q) y p g (a .e) h, b .pre .0 .size, head-below l m x (a .s) (a .e .q) y p g (a .e) h)
 
-cast-if1 : tie.Need-cast-if1
-cast-if1 c = search needs
+deliver-requires : tie.Need-deliver-requires
+deliver-requires c κs =
+    let k = c .before .before in
+    let b = k .before .before .before .before .before .before .before .before in
+    let a = b .args in
+    let z = ending (now (a .state)) (now (a .memory)) (now (a .sent)) (a .s) (a .e .q) (b .pre .0 .accepted) (b .pre .1 .0) (b .pre .1 .1 .good) (a .e)
+    (b .pre .1 .1 .rows) _ (k .before .before .before .before .send-sges .ensures) _ (k .before .before .before .total-of .ensures) _ (k .taken-receive .ensures) in
+    (b .pre .0, (z .count, z .sending))
 
 settle-requires : tie.Need-settle-requires
 settle-requires c κs =
-    let b = c .before .before .before .before .before .before .before .before .before .before in
+    let k = c .before .before .before .before .before .before in
+    let b = k .before .before .before .before .before .before .before .before in
     let a = b .args in
-    let l : List ℕ = now (a .state) in
-    let m : List ℕ = now (a .memory) in
-    let x : List ℕ = now (a .sent) in
-    let y = b .pre .0 .accepted in
-    let p = b .pre .1 .0 in
-    let g = b .pre .1 .1 .good in
-    let h = b .pre .1 .1 .rows in
-    let k = ending l m x (a .s) (a .e .q) y p g (a .e) h (c .before .before .before .before .before .before .send-sges .result)
-    (c .before .before .before .before .before .before .send-sges .ensures) (c .before .before .before .before .before .total-of .result)
-    (c .before .before .before .before .before .total-of .ensures) (c .before .before .taken-receive .result) (c .before .before .taken-receive .ensures)
-    in
-    k .long (c .before .if1 .taken)
+    let z = ending (now (a .state)) (now (a .memory)) (now (a .sent)) (a .s) (a .e .q) (b .pre .0 .accepted) (b .pre .1 .0) (b .pre .1 .1 .good) (a .e)
+    (b .pre .1 .1 .rows) _ (k .before .before .before .before .send-sges .ensures) _ (k .before .before .before .total-of .ensures) _ (k .taken-receive .ensures) in
+    z .settling _ _ (c .before .before .before .deliver .ensures)
 
 same-length : tie.Need-same-length
 same-length c = search needs
 
-returns : tie.Need-returns
-returns c =
-    let b = c .before .before .before .before .before .before .before .before .before .before .before .before .before in
-    let a = b .args in
-    let l : List ℕ = now (a .state) in
-    let m : List ℕ = now (a .memory) in
-    let x : List ℕ = now (a .sent) in
-    let y = b .pre .0 .accepted in
-    let p = b .pre .1 .0 in
-    let g = b .pre .1 .1 .good in
-    let h = b .pre .1 .1 .rows in
-    let k = ending l m x (a .s) (a .e .q) y p g (a .e) h (c .before .before .before .before .before .before .before .before .before .send-sges .result)
-    (c .before .before .before .before .before .before .before .before .before .send-sges .ensures)
-    (c .before .before .before .before .before .before .before .before .total-of .result)
-    (c .before .before .before .before .before .before .before .before .total-of .ensures)
-    (c .before .before .before .before .before .taken-receive .result) (c .before .before .before .before .before .taken-receive .ensures) in
-    subst (λ (z : List ℕ). Carried l (a .e .q) (requestOf x) m 1 z m) (sym (c .before .before .settle .ensures))
-    (k .long-carried (c .before .before .before .before .if1 .taken))
-
-cast-n : tie.Need-cast-n
-cast-n c = search needs
-
-deliver-requires : tie.Need-deliver-requires
-deliver-requires c κs =
-    let b = c .before .before .before .before .before .before .before .before .before .before .before in
-    let a = b .args in
-    let l : List ℕ = now (a .state) in
-    let m : List ℕ = now (a .memory) in
-    let x : List ℕ = now (a .sent) in
-    let y = b .pre .0 .accepted in
-    let p = b .pre .1 .0 in
-    let g = b .pre .1 .1 .good in
-    let h = b .pre .1 .1 .rows in
-    let k = ending l m x (a .s) (a .e .q) y p g (a .e) h (c .before .before .before .before .before .before .before .send-sges .result)
-    (c .before .before .before .before .before .before .before .send-sges .ensures) (c .before .before .before .before .before .before .total-of .result)
-    (c .before .before .before .before .before .before .total-of .ensures) (c .before .before .before .taken-receive .result)
-    (c .before .before .before .taken-receive .ensures) in
-    (b .pre .0, (k .count, k .sending (c .before .before .if1 .left)))
-
-settle-requires-2 : tie.Need-settle-requires-2
-settle-requires-2 c κs =
-    let b = c .before .before .before .before .before .before .before .before .before .before .before .before .before .before .before in
-    let a = b .args in
-    let l : List ℕ = now (a .state) in
-    let m : List ℕ = now (a .memory) in
-    let x : List ℕ = now (a .sent) in
-    let y = b .pre .0 .accepted in
-    let p = b .pre .1 .0 in
-    let g = b .pre .1 .1 .good in
-    let h = b .pre .1 .1 .rows in
-    let k = ending l m x (a .s) (a .e .q) y p g (a .e) h
-    (c .before .before .before .before .before .before .before .before .before .before .before .send-sges .result)
-    (c .before .before .before .before .before .before .before .before .before .before .before .send-sges .ensures)
-    (c .before .before .before .before .before .before .before .before .before .before .total-of .result)
-    (c .before .before .before .before .before .before .before .before .before .before .total-of .ensures)
-    (c .before .before .before .before .before .before .before .taken-receive .result)
-    (c .before .before .before .before .before .before .before .taken-receive .ensures) in
-    k .settling (c .before .before .before .before .before .before .if1 .left) (c .before .before .before .deliver .result) _
-    (c .before .before .before .deliver .ensures)
-
 same-length-2 : tie.Need-same-length-2
 same-length-2 c = search needs
 
-same-length-3 : tie.Need-same-length-3
-same-length-3 c = search needs
-
-returns-2 : tie.Need-returns-2
-returns-2 c =
-    let b = c .before .before .before .before .before .before .before .before .before .before .before .before .before .before .before .before .before .before in
+returns : tie.Need-returns
+returns c =
+    let k = c .before .before .before .before .before .before .before .before .before in
+    let b = k .before .before .before .before .before .before .before .before in
     let a = b .args in
-    let l : List ℕ = now (a .state) in
-    let m : List ℕ = now (a .memory) in
-    let x : List ℕ = now (a .sent) in
-    let y = b .pre .0 .accepted in
-    let p = b .pre .1 .0 in
-    let g = b .pre .1 .1 .good in
-    let h = b .pre .1 .1 .rows in
-    let k = ending l m x (a .s) (a .e .q) y p g (a .e) h
-    (c .before .before .before .before .before .before .before .before .before .before .before .before .before .before .send-sges .result)
-    (c .before .before .before .before .before .before .before .before .before .before .before .before .before .before .send-sges .ensures)
-    (c .before .before .before .before .before .before .before .before .before .before .before .before .before .total-of .result)
-    (c .before .before .before .before .before .before .before .before .before .before .before .before .before .total-of .ensures)
-    (c .before .before .before .before .before .before .before .before .before .before .taken-receive .result)
-    (c .before .before .before .before .before .before .before .before .before .before .taken-receive .ensures) in
-    let z = k .carried (c .before .before .before .before .before .before .before .before .before .if1 .left)
-    (c .before .before .before .before .before .before .deliver .result) _ (c .before .before .before .before .before .before .deliver .ensures) in
-    record { status = z .status; bytes = c .before .before .settle2 .ensures ∙ z .bytes; memory = z .memory }
+    let z = ending (now (a .state)) (now (a .memory)) (now (a .sent)) (a .s) (a .e .q) (b .pre .0 .accepted) (b .pre .1 .0) (b .pre .1 .1 .good) (a .e)
+    (b .pre .1 .1 .rows) _ (k .before .before .before .before .send-sges .ensures) _ (k .before .before .before .total-of .ensures) _ (k .taken-receive .ensures) in
+    let y = z .carried _ _ (c .before .before .before .before .before .before .deliver .ensures) in
+    record { status = y .status; bytes = c .before .before .settle .ensures ∙ y .bytes; memory = y .memory }
 
 pub carry-out-spec : {M : Type 1} → statement M
 carry-out-spec =
@@ -152,13 +70,8 @@ carry-out-spec =
     total-of-requires
     cast-taken-receive
     taken-receive-requires
-    cast-if1
+    deliver-requires
     settle-requires
     same-length
-    returns
-    cast-n
-    deliver-requires
-    settle-requires-2
     same-length-2
-    same-length-3
-    returns-2)
+    returns)

@@ -61,18 +61,17 @@ enum-known-s c = search needs
 
 send-checked-requires : tie.Need-send-checked-requires
 send-checked-requires c κs =
-    let b = c .before .before .before .before .before .before .before .before .before .before .before .before .before .before .before in
+    let r = c .before .before .before .before .before in
+    let t = r .before .before .before .before .before in
+    let b = t .before .before .before .before .before in
     let a = b .args in
     let l : List ℕ = now (a .state) in
     let m : List ℕ = now (a .memory) in
     let x : List ℕ = now (a .sent) in
-    let y : accepts l ≡ true = sym (c .before .before .before .before .before .before .before .before .before .before .accepted .ensures) ∙ not-false _
-    (c .before .before .before .before .before .before .before .before .before .if1 .left) in
-    let v : length m ≡ card l .memory = c .before .before .before .before .before .before .if2 .left
-    ∙ c .before .before .before .before .before .before .before .load-memory .ensures ∙ sym (memory-is l) in (
+    let y : accepts l ≡ true = sym (t .accepted .ensures) ∙ not-false _ (r .before .before .before .before .if1 .left) in
+    let v : length m ≡ card l .memory = r .before .if2 .left ∙ r .before .before .load-memory .ensures ∙ sym (memory-is l) in (
       record { accepted = y; size = accepted l y .sized; whole = v ∙ memory-is l },
-      posted x _
-          (sym (c .before .before .before .s .given .1) ∙ c .before .before .before .before .before .read-send .ensures),
+      posted x _ (sym (c .before .before .before .s .given .1) ∙ r .read-send .ensures),
     )
 
 enum-known-n : tie.Need-enum-known-n
@@ -86,33 +85,32 @@ same-length-4 c = search needs
 
 returns-3 : tie.Need-returns-3
 returns-3 c =
-    let b = c .before .before .before .before .before .before .before .before .before .before .before .before .before .before .before .before .before .before .before .before in
+    let r = c .before .before .before .before .before .before .before .before .before .before in
+    let t = r .before .before .before .before .before in
+    let b = t .before .before .before .before .before in
     let a = b .args in
     let l : List ℕ = now (a .state) in
     let m : List ℕ = now (a .memory) in
     let x : List ℕ = now (a .sent) in
-    let y : accepts l ≡ true = sym (c .before .before .before .before .before .before .before .before .before .before .before .before .before .before .before .accepted .ensures) ∙ not-false _ (c .before .before .before .before .before .before .before .before .before .before .before .before .before .before .if1 .left) in
-    let v : length m ≡ card l .memory = c .before .before .before .before .before .before .before .before .before .before .before .if2 .left
-    ∙ c .before .before .before .before .before .before .before .before .before .before .before .before .load-memory .ensures ∙ sym (memory-is l) in
-    ran l (a .qpn) x m y v (posted x _ (sym (c .before .before .before .before .before .before .before .before .s .given .1)
-    ∙ c .before .before .before .before .before .before .before .before .before .before .read-send .ensures) .good) _ _ _
-    (c .before .before .before .before .send-checked .ensures)
+    let y : accepts l ≡ true = sym (t .accepted .ensures) ∙ not-false _ (r .before .before .before .before .if1 .left) in
+    let v : length m ≡ card l .memory = r .before .if2 .left ∙ r .before .before .load-memory .ensures ∙ sym (memory-is l) in
+    ran l (a .qpn) x m y v (posted x _ (sym (c .before .before .before .before .before .before .before .before .s .given .1) ∙ r .read-send .ensures) .good) _ _ _ (c .before .before .before .before .send-checked .ensures)
 
 same-length-5 : tie.Need-same-length-5
 same-length-5 c = search needs
 
 returns-4 : tie.Need-returns-4
 returns-4 c =
-    let b = c .before .before .before .before .before .before .before .before .before .before .before .before .before in
+    let r = c .before .before .before in
+    let t = r .before .before .before .before .before in
+    let b = t .before .before .before .before .before in
     let a = b .args in
     let l : List ℕ = now (a .state) in
     let m : List ℕ = now (a .memory) in
     let x : List ℕ = now (a .sent) in
-    let y : accepts l ≡ true = sym (c .before .before .before .before .before .before .before .before .accepted .ensures) ∙ not-false _
-    (c .before .before .before .before .before .before .before .if1 .left) in
-    let v : length m ≡ card l .memory = c .before .before .before .before .if2 .left ∙ c .before .before .before .before .before .load-memory .ensures
-    ∙ sym (memory-is l) in
-    bad-record l (a .qpn) x m y v _ (sym (c .before .n .given .1) ∙ c .before .before .before .read-send .ensures)
+    let y : accepts l ≡ true = sym (t .accepted .ensures) ∙ not-false _ (r .before .before .before .before .if1 .left) in
+    let v : length m ≡ card l .memory = r .before .if2 .left ∙ r .before .before .load-memory .ensures ∙ sym (memory-is l) in
+    bad-record l (a .qpn) x m y v _ (sym (c .before .n .given .1) ∙ r .read-send .ensures)
 
 pub post-send-spec : {M : Type 1} → statement M
 post-send-spec =

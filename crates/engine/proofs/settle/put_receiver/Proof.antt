@@ -17,14 +17,14 @@ returns c =
 receiver-opcode-requires : tie.Need-receiver-opcode-requires
 receiver-opcode-requires c κs = search needs
 
-kept-if-requires : tie.Need-kept-if-requires
-kept-if-requires c κs = search needs
+told-length-requires : tie.Need-told-length-requires
+told-length-requires c κs = search needs
 
 receiver-status-requires : tie.Need-receiver-status-requires
 receiver-status-requires c κs = search needs
 
-kept-if-requires-2 : tie.Need-kept-if-requires-2
-kept-if-requires-2 c κs = search needs
+kept-if-requires : tie.Need-kept-if-requires
+kept-if-requires c κs = search needs
 
 cast-t17 : tie.Need-cast-t17
 cast-t17 c = search needs
@@ -47,9 +47,9 @@ returns-2 c =
     let a = c .before .before .before .before .before .before .before .before .before .before .before .before .before .before .before .args in
     rw (
       c .before .before .push-completion .ensures,
-      c .before .before .before .before .before .before .kept-if2 .ensures,
+      c .before .before .before .before .before .before .kept-if .ensures,
       c .before .before .before .before .before .before .before .receiver-status .ensures,
-      c .before .before .before .before .before .before .before .before .before .before .kept-if .ensures,
+      c .before .before .before .before .before .before .before .before .before .before .told-length .ensures,
       c .before .before .before .before .before .before .before .before .before .before .before .receiver-opcode .ensures,
     )
     (consumed (now (a .state)) (a .e) (a .s) (a .st) (a .n) (a .w)
@@ -63,9 +63,9 @@ put-receiver-spec =
     is-consumed-requires
     returns
     receiver-opcode-requires
-    kept-if-requires
+    told-length-requires
     receiver-status-requires
-    kept-if-requires-2
+    kept-if-requires
     cast-t17
     cast-push-completion
     push-completion-requires

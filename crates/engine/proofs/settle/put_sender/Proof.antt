@@ -10,8 +10,8 @@ returns c = let a = c .before .before .before .before .args in put-silent (now (
 sender-opcode-requires : tie.Need-sender-opcode-requires
 sender-opcode-requires c κs = search needs
 
-kept-if-requires : tie.Need-kept-if-requires
-kept-if-requires c κs = search needs
+told-length-requires : tie.Need-told-length-requires
+told-length-requires c κs = search needs
 
 cast-t15 : tie.Need-cast-t15
 cast-t15 c = search needs
@@ -30,7 +30,7 @@ returns-2 c =
     let a = c .before .before .before .before .before .before .before .before .before .before .before .before .args in
     rw (
       c .before .before .push-completion .ensures,
-      c .before .before .before .before .before .before .kept-if .ensures,
+      c .before .before .before .before .before .before .told-length .ensures,
       c .before .before .before .before .before .before .before .sender-opcode .ensures,
     )
     (put-told (now (a .state)) (a .e) (a .s) (a .st) (a .n) (c .before .before .before .before .before .before .before .before .if1 .left))
@@ -41,7 +41,7 @@ put-sender-spec =
     (tie.spec
     returns
     sender-opcode-requires
-    kept-if-requires
+    told-length-requires
     cast-t15
     cast-push-completion
     push-completion-requires

@@ -19,7 +19,7 @@ put-sender-requires c κs = search needs
 put-receiver-requires : tie.Need-put-receiver-requires
 put-receiver-requires c κs =
     let p = c .before .before .before .before .before .before .before .pre in
-    ((p .count, search needs), λ t. rw (c .before .before .before .put-sender .ensures) (p .second t))
+    ((p .count, search needs, p .short), λ t. rw (c .before .before .before .put-sender .ensures) (p .second t))
 
 fail-if-requires : tie.Need-fail-if-requires
 fail-if-requires c κs = search needs
@@ -48,15 +48,20 @@ same-length c = search needs
 
 returns : tie.Need-returns
 returns c =
-    let a = c .before .before .before .before .before .before .before .before .before .before .before .before .before .before .before .before .before .before .before .before .before .before .before .args in
+    let far = c .before .before in
+    let took = far .before .before .before .before in
+    let own = took .before .before .before .before .before in
+    let second = own .before .before .before .before in
+    let first = second .before .before .before .before in
+    let a = first .before .before .before .before .args in
     let d : ℕ = a .e .own .dest in
-    c .before .before .fail-if2 .ensures
+    far .fail-if2 .ensures
     ∙ ap (λ (x : List ℕ). errorBytes (eqb (a .st) 7) x d)
-    (c .before .before .before .before .before .before .consume-if .ensures ∙ ap (λ (t : Bool). consumeBytes t (c .before .before .before .before .before .before .before .before .before .before .before .fail-if .last .0) d) (c .before .before .before .before .before .before .before .is-consumed .ensures)
+    (took .consume-if .ensures ∙ ap (λ (t : Bool). consumeBytes t (own .fail-if .last .0) d) (took .before .is-consumed .ensures)
     ∙ ap (λ (x : List ℕ). consumeBytes (consumes (a .s .opcode) (a .st)) x d)
-    (c .before .before .before .before .before .before .before .before .before .before .before .fail-if .ensures
+    (own .fail-if .ensures
     ∙ ap (λ (x : List ℕ). errorBytes (not (eqb (a .st) 0)) x (a .e .q))
-    (c .before .before .before .before .before .before .before .before .before .before .before .before .before .before .before .put-receiver .ensures ∙ ap (λ (x : List ℕ). pushAll x (putSecond (a .e) (a .s) (a .w) (a .st) (a .n))) (c .before .before .before .before .before .before .before .before .before .before .before .before .before .before .before .before .before .before .before .put-sender .ensures))))
+    (second .put-receiver .ensures ∙ ap (λ (x : List ℕ). pushAll x (putSecond (a .e) (a .s) (a .w) (a .st) (a .n))) (first .put-sender .ensures))))
 
 pub settle-spec : {M : Type 1} → statement M
 settle-spec =

@@ -1,9 +1,11 @@
--- Lists of scatter/gather entries: the first of those left and the rest, totals, and a list cut to its first bytes. Assumes nothing.
+-- Lists of scatter/gather entries: one entry, the first of those left and the rest, totals, and a list cut to its first bytes.
+-- Assumes nothing.
 use mathlib.Core.Path.{_≡_, sym, ap, _∙_}
 use mathlib.Core.Bool.{Bool, true, _&&_}
 use mathlib.Core.List.{List, [], _∷_, _++_, append-nil}
 use Prim.Native.Nat.{ℕ, _+_, _-_, _≤_, _<_, min}
 use native.Mathlib.Numerals.{add-one}
+use native.Mathlib.Nat.{add-zero}
 use native.Mathlib.Omega.{arith}
 use lib.ListN.{length, getD, set, take, drop, length-take, drop-of-length-le}
 use lib.Seq.{drop-cons, length-take-le, getD-take, take-suc-set, append-snoc}
@@ -13,6 +15,16 @@ use Rattle.tables.specs.declared.Sge.{Sge}
 use Rattle.rules.specs.Touch.{Byte, range, sgeBytes, sgeTotal}
 use Rattle.rules.proofs.Ranges.{all-split}
 use Rattle.rules.proofs.Runs.{cut}
+
+-- ---- a list of one entry
+
+pub one-bytes : (s : Sge) → sgeBytes (s ∷ []) ≡ range (s .address) (s .key) (s .length)
+unfolding sgeBytes
+one-bytes s = append-nil (range (s .address) (s .key) (s .length))
+
+pub one-total : (s : Sge) → sgeTotal (s ∷ []) ≡ s .length
+unfolding sgeTotal
+one-total s = add-zero (s .length)
 
 -- ---- the first entry of those left, and the rest
 
@@ -46,6 +58,12 @@ module _ (ss : List Sge) (count i : ℕ) where
   pub none-tests : (p : Byte → Bool) → count ≤ i → all p (sgeBytes (drop i (take count ss))) ≡ true
   unfolding sgeBytes all
   none-tests p h = ap (λ (xs : List Sge). all p (sgeBytes xs)) (left-none h)
+
+-- one entry of a list that has more room
+pub alone : (ss : List Sge) (n : ℕ) → n ≡ 1 → 1 ≤ length ss → take n ss ≡ getD ss 0 noSge ∷ []
+alone ss n e h =
+    ap (λ (k : ℕ). take k ss) e ∙ left-cons ss 1 0 h (omega arith)
+    ∙ ap (λ (l : List Sge). getD ss 0 noSge ∷ l) (left-none ss 1 (0 + 1) (omega arith))
 
 -- ---- a cut list
 

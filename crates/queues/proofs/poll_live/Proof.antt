@@ -3,8 +3,8 @@ use native.Mathlib.Omega.{arith}
 use Rattle.queues.proofs.LiveLaws.{queue-ok, queue-below, queue-first}
 use Rattle.queues.proofs.PollLaws.{loaded-inside, poll-empty, poll-done}
 use borrow.Author.Needs.{needs}
-use Rattle.queues.proofs.poll_queue.Statement.{statement}
-use Rattle.queues.proofs.poll_queue.Tie as tie
+use Rattle.queues.proofs.poll_live.Statement.{statement}
+use Rattle.queues.proofs.poll_live.Tie as tie
 
 load-front-requires : tie.Need-load-front-requires
 load-front-requires c κs = let s = c .before .before .before .pre .0 in (queue-below s, queue-ok s .sized, queue-first s)
@@ -58,8 +58,8 @@ returns-2 c =
     poll-done (now (a .state)) (a .n) (now (a .buffer)) (c5 .pre .1) (c5 .pre .0) _ (c4 .load-front .ensures) (c3 .before .if1 .left)
     _ (c3 .pop .ensures) _ (c2 .before .oldest .ensures) _ _ (c1 .store-head .ensures) (c2 .put-completion .ensures)
 
-pub poll-queue-spec : {M : Type 1} → statement M
-poll-queue-spec =
+pub poll-live-spec : {M : Type 1} → statement M
+poll-live-spec =
     tie.close
     (tie.spec
     load-front-requires

@@ -2,8 +2,8 @@ use mathlib.Core.Path.{sym, _∙_}
 use borrow.Author.Tests.{not-true, not-false}
 use Rattle.queues.proofs.FlushLaws.{flush-state, flush-none, flush-held, flush-done}
 use borrow.Author.Needs.{needs}
-use Rattle.queues.proofs.flush_pair.Statement.{statement}
-use Rattle.queues.proofs.flush_pair.Tie as tie
+use Rattle.queues.proofs.flush_live.Statement.{statement}
+use Rattle.queues.proofs.flush_live.Tie as tie
 
 in-error-requires : tie.Need-in-error-requires
 in-error-requires c κs = search needs
@@ -63,8 +63,8 @@ returns-4 c =
     let place = sym (c1 .before .has-place .ensures) ∙ not-false _ (c1 .if3 .left) in
     flush-done _ _ (c3 .before .before .before .before .pre) six waits place _ (c .before .before .complete-oldest .ensures)
 
-pub flush-pair-spec : {M : Type 1} → statement M
-flush-pair-spec =
+pub flush-live-spec : {M : Type 1} → statement M
+flush-live-spec =
     tie.close
     (tie.spec
     in-error-requires

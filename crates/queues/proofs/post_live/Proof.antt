@@ -3,8 +3,8 @@ use mathlib.Core.Path.{sym, _∙_}
 use Rattle.queues.proofs.LiveLaws.{pair-ok, pair-below, receive-room}
 use Rattle.queues.proofs.ReceiveLaws.{receive-state, receive-full, receive-done}
 use borrow.Author.Needs.{needs}
-use Rattle.queues.proofs.join.Statement.{statement}
-use Rattle.queues.proofs.join.Tie as tie
+use Rattle.queues.proofs.post_live.Statement.{statement}
+use Rattle.queues.proofs.post_live.Tie as tie
 
 bars-receives-requires : tie.Need-bars-receives-requires
 bars-receives-requires c κs = search needs
@@ -50,8 +50,8 @@ returns-3 c =
     let room = sym (c1 .before .receives-full .ensures) ∙ c1 .if2 .left in
     λ x e. receive-done (now (a .state)) (a .q) x (a .w) e (c3 .pre) takes room _ (c .before .before .post-receive .ensures)
 
-pub join-spec : {M : Type 1} → statement M
-join-spec =
+pub post-live-spec : {M : Type 1} → statement M
+post-live-spec =
     tie.close
     (tie.spec
     bars-receives-requires

@@ -1,0 +1,66 @@
+-- Six calls in turn: what each exported function promises makes them a list of the judge's theorem. Assumes nothing.
+use mathlib.Core.Path.{refl}
+use mathlib.Core.List.{[], _∷_}
+use borrow.Author.Needs.{needs}
+use Rattle.judge.specs.Demand3.{Linked, stateAfter}
+use Rattle.caller.proofs.ServedLaws.{served}
+use Rattle.caller.proofs.run.Statement.{statement}
+use Rattle.caller.proofs.run.Tie as tie
+
+reset-requires : tie.Need-reset-requires
+reset-requires c κs = search needs
+
+control-requires : tie.Need-control-requires
+control-requires c κs = search needs
+
+receive-requires : tie.Need-receive-requires
+receive-requires c κs = search needs
+
+send-requires : tie.Need-send-requires
+send-requires c κs = search needs
+
+flush-requires : tie.Need-flush-requires
+flush-requires c κs = search needs
+
+poll-requires : tie.Need-poll-requires
+poll-requires c κs = search needs
+
+same-length : tie.Need-same-length
+same-length c = search needs
+
+same-length-2 : tie.Need-same-length-2
+same-length-2 c = search needs
+
+same-length-3 : tie.Need-same-length-3
+same-length-3 c = search needs
+
+same-length-4 : tie.Need-same-length-4
+same-length-4 c = search needs
+
+returns : tie.Need-returns
+unfolding Linked stateAfter
+returns c =
+    let sixth = c .before .before .before .before in
+    let fifth = sixth .before .before .before .before .before in
+    let fourth = fifth .before .before .before .before .before .before in
+    let third = fourth .before .before .before .before .before in
+    let second = third .before .before .before .before .before .before in
+    let first = second .before .before .before .before .before in
+    served _ _ (first .reset .ensures) [] refl (_ ∷ _ ∷ _ ∷ _ ∷ _ ∷ [])
+    (second .control .ensures, (third .receive .ensures, (fourth .send .ensures, (fifth .flush .ensures, (sixth .poll .ensures, tt)))))
+
+pub run-spec : {M : Type 1} → statement M
+run-spec =
+    tie.close
+    (tie.spec
+    reset-requires
+    control-requires
+    receive-requires
+    send-requires
+    flush-requires
+    poll-requires
+    same-length
+    same-length-2
+    same-length-3
+    same-length-4
+    returns)

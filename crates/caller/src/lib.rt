@@ -1,0 +1,91 @@
+// A caller of the six exported functions. What each promises is what the judge's theorem asks of a call (FromC), on any state, and calls in
+// turn on one state are a list of that theorem. An export that promised less would leave this crate unproved.
+ghost use mathlib.Core.List.{[], _∷_};
+ghost use Rattle.rules.specs.Call.{Call};
+ghost use Rattle.judge.specs.Whole.{FromC};
+ghost use Rattle.caller.specs.Served.{seen, turn, Served};
+
+pub fn reset(state: &mut [u8], memory: u64) -> u32
+    ensures { λ r. ⌜ FromC (now (state .entry)) (seen (Call.reset memory) r (now (state .exit)) [] []) ⌝ }
+{
+    engine::lesungkap_reset(state, memory)
+}
+
+pub fn control(state: &mut [u8], command: &[u8], ack: &mut [u8]) -> u32
+    ensures { λ r. ⌜ FromC (now (state .entry)) (seen (Call.control (now (command .entry)) (now (ack .entry))) r (now (state .exit)) [] (now (ack .exit))) ⌝ }
+{
+    engine::lesungkap_control(state, command, ack)
+}
+
+pub fn send(state: &mut [u8], memory: &mut [u8], qpn: u32, sent: &[u8]) -> u32
+    ensures { λ r. ⌜ FromC (now (state .entry)) (seen (Call.send qpn (now (sent .entry)) (now (memory .entry))) r (now (state .exit)) (now (memory .exit)) []) ⌝ }
+{
+    engine::lesungkap_post_send(state, memory, qpn, sent)
+}
+
+pub fn receive(state: &mut [u8], qpn: u32, posted: &[u8]) -> u32
+    ensures { λ r. ⌜ FromC (now (state .entry)) (seen (Call.receive qpn (now (posted .entry))) r (now (state .exit)) [] []) ⌝ }
+{
+    engine::lesungkap_post_receive(state, qpn, posted)
+}
+
+pub fn flush(state: &mut [u8], qpn: u32) -> u32
+    ensures { λ r. ⌜ FromC (now (state .entry)) (seen (Call.flush qpn) r (now (state .exit)) [] []) ⌝ }
+{
+    engine::lesungkap_flush(state, qpn)
+}
+
+pub fn poll(state: &mut [u8], cqn: u32, buffer: &mut [u8]) -> u32
+    ensures { λ r. ⌜ FromC (now (state .entry)) (seen (Call.poll cqn (now (buffer .entry))) r (now (state .exit)) [] (now (buffer .exit))) ⌝ }
+{
+    engine::lesungkap_poll(state, cqn, buffer)
+}
+
+// What the calls of `run` returned.
+pub struct Results {
+    reset: u32,
+    control: u32,
+    receive: u32,
+    send: u32,
+    flush: u32,
+    poll: u32,
+}
+
+// The six in turn on one state, which each finds as the last one left it.
+pub fn run(
+    state: &mut [u8],
+    size: u64,
+    command: &[u8],
+    ack: &mut [u8],
+    receiver: u32,
+    posted: &[u8],
+    memory: &mut [u8],
+    sender: u32,
+    sent: &[u8],
+    cqn: u32,
+    buffer: &mut [u8],
+) -> Results
+    ensures { λ r. ⌜ Served (now (state .entry)) (turn (Call.reset size) (r .reset) [] [])
+        (turn (Call.control (now (command .entry)) (now (ack .entry))) (r .control) [] (now (ack .exit))
+        ∷ turn (Call.receive receiver (now (posted .entry))) (r .receive) [] []
+        ∷ turn (Call.send sender (now (sent .entry)) (now (memory .entry))) (r .send) (now (memory .exit)) []
+        ∷ turn (Call.flush receiver) (r .flush) [] []
+        ∷ turn (Call.poll cqn (now (buffer .entry))) (r .poll) [] (now (buffer .exit))
+        ∷ [])
+        (now (state .exit)) ⌝ }
+{
+    let first = reset(state, size);
+    let second = control(state, command, ack);
+    let third = receive(state, receiver, posted);
+    let fourth = send(state, memory, sender, sent);
+    let fifth = flush(state, receiver);
+    let sixth = poll(state, cqn, buffer);
+    Results {
+        reset: first,
+        control: second,
+        receive: third,
+        send: fourth,
+        flush: fifth,
+        poll: sixth,
+    }
+}
