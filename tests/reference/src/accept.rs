@@ -88,34 +88,29 @@ pub fn fault(state: &[u8]) -> Option<Fault> {
 pub fn check(state: &State) -> Result<(), Fault> {
     let memory = get64(state, MEMORY_LENGTH);
     ensure((1..=MOST_MEMORY).contains(&memory), Fault::MemoryLength)?;
-    for number in 0..DOMAINS {
-        live(state[DOMAIN_FLAGS + number], Fault::DomainFlag)?;
+    flags(state, DOMAIN_FLAGS, DOMAINS, Fault::DomainFlag)?;
+    for number in live(flags(state, QUEUE_FLAGS, QUEUES, Fault::QueueFlag)?) {
+        check_queue(state, number)?;
     }
-    for number in 0..QUEUES {
-        if live(state[QUEUE_FLAGS + number], Fault::QueueFlag)? {
-            check_queue(state, number)?;
-        }
+    for number in live(flags(state, REGION_FLAGS, REGIONS, Fault::RegionFlag)?) {
+        check_region(state, number, memory)?;
     }
-    for number in 0..REGIONS {
-        if live(state[REGION_FLAGS + number], Fault::RegionFlag)? {
-            check_region(state, number, memory)?;
-        }
-    }
-    for number in 0..PAIRS {
-        if live(state[PAIR_FLAGS + number], Fault::PairFlag)? {
-            check_pair(state, number)?;
-        }
+    for number in live(flags(state, PAIR_FLAGS, PAIRS, Fault::PairFlag)?) {
+        check_pair(state, number)?;
     }
     Ok(())
 }
 
-/// What a live flag says.
-fn live(flag: u8, fault: Fault) -> Result<bool, Fault> {
-    match flag {
-        0 => Ok(false),
-        1 => Ok(true),
-        _ => Err(fault),
-    }
+/// A column of live flags, each 0 or 1.
+fn flags(state: &State, at: usize, count: usize, fault: Fault) -> Result<&[u8], Fault> {
+    let flags = &state[at..at + count];
+    ensure(flags.iter().fold(0, |bits, flag| bits | flag) <= 1, fault)?;
+    Ok(flags)
+}
+
+/// The numbers that it calls live.
+fn live(flags: &[u8]) -> impl Iterator<Item = usize> + '_ {
+    (0..flags.len()).filter(move |&number| flags[number] == 1)
 }
 
 fn check_queue(state: &State, number: usize) -> Result<(), Fault> {
