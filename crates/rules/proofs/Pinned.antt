@@ -5,6 +5,7 @@ use mathlib.Core.List.{List, [], _∷_, map}
 use Prim.Native.Nat.{ℕ}
 use Rattle.tables.specs.Card.{Receive, noReceive}
 use Rattle.tables.specs.declared.Sge.{Sge}
+use Rattle.validate.specs.Accept.{accessOk}
 use Rattle.rules.specs.Lists.{stored}
 use Rattle.rules.specs.Touch.{Request, range, sgeBytes, sgeTotal, total, ownBytes, farBytes, message, delivered}
 use Rattle.rules.specs.Permit.{Use, granted, permitsAll, permits, lookup, covers}
@@ -21,6 +22,11 @@ pub rights : map (λ u. map (granted u) (0 ∷ 1 ∷ 2 ∷ 3 ∷ 4 ∷ 5 ∷ 6 �
     ∷ (false ∷ false ∷ false ∷ false ∷ true ∷ true ∷ true ∷ true ∷ [])
     ∷ []
 rights = refl
+
+-- the accesses 0 to 9 that a region may have: "Access 2 and 6, accepted so far, are now a bad field"
+pub accesses : map accessOk (0 ∷ 1 ∷ 2 ∷ 3 ∷ 4 ∷ 5 ∷ 6 ∷ 7 ∷ 8 ∷ 9 ∷ [])
+    ≡ true ∷ true ∷ false ∷ true ∷ true ∷ true ∷ false ∷ true ∷ false ∷ false ∷ []
+accesses = refl
 
 -- the platform with a second domain and a queue pair in it: the region is the first domain's alone
 pub domains : map (λ q. permitsAll (after platform (Command.createPd ∷ Command.createQp (record { pd = 1; kind = 2; signal = 0; scq = 0; rcq = 0 }) ∷ [])) q Use.localRead (range 4096 1 1)) (0 ∷ 1 ∷ [])

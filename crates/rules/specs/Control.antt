@@ -6,9 +6,9 @@ use Prim.Native.Nat.{ℕ, _+_}
 use lib.Dec.{eqb, ltb, leb}
 use Rattle.wire.specs.Checks.{Check, _if_, has, only}
 use Rattle.wire.specs.Slots.{upd}
-use Rattle.tables.specs.Limits.{pdCount, cqCount, mrCount, qpCount, mostPlaces, mostAddress, mostAccess}
+use Rattle.tables.specs.Limits.{pdCount, cqCount, mrCount, qpCount, mostPlaces, mostAddress}
 use Rattle.tables.specs.Card.{Card, Qp, withPd, withCq, withMr, withQp, freeCq, freeMr, freeQp, cqLive}
-use Rattle.validate.specs.Accept.{isState}
+use Rattle.validate.specs.Accept.{isState, accessOk}
 use Rattle.tables.specs.Commands.{Command}
 use Rattle.validate.specs.Search.{freePdn, freeCqn, freeMrn, freeQpn, pdInUse, cqInUse}
 use Rattle.rules.specs.Permit.{keyOf}
@@ -43,7 +43,7 @@ commandChecks c (Command.destroyCq n) = 2 if not (cqLive c n) ∷ 10 if cqInUse 
 commandChecks c Command.createPd = 8 if leb pdCount (freePdn c) ∷ []
 commandChecks c (Command.destroyPd n) = 2 if not (c .pd n) ∷ 10 if pdInUse c n ∷ []
 commandChecks c (Command.register g) =
-    4 if not (only mostAccess (g .access)) ∷
+    4 if not (accessOk (g .access)) ∷
     2 if not (c .pd (g .pd)) ∷
     11 if eqb (g .length) 0 ∷
     11 if ltb (c .memory) (g .start + g .length) ∷

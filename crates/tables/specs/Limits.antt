@@ -43,5 +43,11 @@ abbrev pub mostReceiveSges : ℕ
 mostReceiveSges = 2
 
 -- access bits: "1 local write, 2 remote write, 4 remote read"
+abbrev pub localWrite : ℕ
+localWrite = 1
+
+abbrev pub remoteWrite : ℕ
+remoteWrite = 2
+
 abbrev pub mostAccess : ℕ
 mostAccess = 7

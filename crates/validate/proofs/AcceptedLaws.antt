@@ -3,9 +3,12 @@ use mathlib.Core.Path.{_≡_}
 use mathlib.Core.Bool.{Bool, true, _&&_, _||_}
 use mathlib.Core.List.{List}
 use Prim.Native.Nat.{ℕ, _+_, _≤_, _<_}
+use native.Mathlib.Omega.{arith}
+use lib.Bits.{bitAnd, and-le-r}
 use lib.ListN.{length}
 use lib.Dec.{eqb, ltb, leb}
 use borrow.Author.Tests.{eq-eqb, ne-eqb, eqb-true, ltb-true, leb-true, lt-ltb, le-leb}
+use Rattle.wire.specs.Checks.{only}
 use Rattle.wire.specs.Scan.{all, allBelow}
 use Rattle.wire.specs.Table.{rowAt}
 use Rattle.wire.proofs.ScanLaws.{all-at, all-each, and-left, and-right, or-true}
@@ -15,7 +18,7 @@ use Rattle.tables.specs.State.{QueueRows, RegionRows, PairRows, unread, posted}
 use Rattle.tables.specs.declared.QueueHead.{QueueHead}
 use Rattle.tables.specs.declared.Region.{Region}
 use Rattle.tables.specs.declared.WaitingHead.{WaitingHead}
-use Rattle.validate.specs.Accept.{accepts, memoryOk, completionOk, receiveOk, queueOk, regionOk, pairOk, namesOk, receivesOk, pdOk, cqSound, cqOk, mrSound, mrOk, qpSound, qpOk}
+use Rattle.validate.specs.Accept.{accepts, memoryOk, completionOk, receiveOk, queueOk, accessOk, regionOk, pairOk, namesOk, receivesOk, pdOk, cqSound, cqOk, mrSound, mrOk, qpSound, qpOk}
 
 pub record Accepted (l : List ℕ) : Type 0 where
   pub sized : length l ≡ stateSize
@@ -125,6 +128,12 @@ module _ (pd : ℕ → Bool) (memory : ℕ) (r : RegionRows) where
   pub registering : Registered pd memory r → mrSound pd memory r ≡ true
   registering q = rw (eq-eqb (r .flag) 1 (q .live), q .domain, q .limits) (or-true (eqb (r .flag) 0))
 
+pub access-most : (a : ℕ) → accessOk a ≡ true → a ≤ mostAccess
+access-most a e =
+    let x : bitAnd a mostAccess ≡ a = eqb-true (bitAnd a mostAccess) a (and-left (only mostAccess a) _ e) in
+    let y : bitAnd a mostAccess ≤ mostAccess = and-le-r a mostAccess in
+    omega arith
+
 -- the region's range, as whole numbers
 pub record Ranged (memory : ℕ) (r : Region) : Type 0 where
   pub access : r .access ≤ mostAccess
@@ -135,7 +144,7 @@ pub record Ranged (memory : ℕ) (r : Region) : Type 0 where
 
 pub ranged : (memory : ℕ) (r : Region) → regionOk memory r ≡ true → Ranged memory r
 ranged memory r e =
-    let a : Bool = leb (r .access) mostAccess in
+    let a : Bool = accessOk (r .access) in
     let b : Bool = leb 1 (r .variant) in
     let c : Bool = leb 1 (r .length) in
     let d : Bool = leb (r .start + r .length) memory in
@@ -144,7 +153,7 @@ ranged memory r e =
     let e2 : (a && b && c) ≡ true = and-left (a && b && c) d e3 in
     let e1 : (a && b) ≡ true = and-left (a && b) c e2 in
     record {
-      access = leb-true (r .access) mostAccess (and-left a b e1);
+      access = access-most (r .access) (and-left a b e1);
       variant = leb-true 1 (r .variant) (and-right a b e1);
       size = leb-true 1 (r .length) (and-right (a && b) c e2);
       inside = leb-true (r .start + r .length) memory (and-right (a && b && c) d e3);

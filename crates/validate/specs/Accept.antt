@@ -6,12 +6,13 @@ use mathlib.Core.List.{List}
 use Prim.Native.Nat.{ℕ, _+_}
 use lib.ListN.{length}
 use lib.Dec.{eqb, ltb, leb}
+use Rattle.wire.specs.Checks.{has, only}
 use Rattle.wire.specs.Scan.{all, allBelow}
 use Rattle.wire.specs.Table.{rowAt}
 use Rattle.tables.specs.Card.{cqLive}
 use Rattle.tables.specs.State.{QueueRows, RegionRows, PairRows, queueAt, regionAt, pairAt, unread, posted, card}
 use Rattle.tables.specs.Layout.{stateSize, memoryT, pdFlagT}
-use Rattle.tables.specs.Limits.{pdCount, cqCount, mrCount, qpCount, mostPlaces, mostWaiting, mostMemory, mostAddress, mostAccess, mostMessage, mostReceiveSges}
+use Rattle.tables.specs.Limits.{pdCount, cqCount, mrCount, qpCount, mostPlaces, mostWaiting, mostMemory, mostAddress, localWrite, remoteWrite, mostAccess, mostMessage, mostReceiveSges}
 use Rattle.tables.specs.declared.Completion.{Completion}
 use Rattle.tables.specs.declared.QueueHead.{QueueHead}
 use Rattle.tables.specs.declared.QueuePair.{QueuePair}
@@ -42,10 +43,14 @@ completionOk e = isStatus (e .status) && leb (e .opcode) 4 && leb (e .length) mo
 abbrev pub queueOk : QueueHead → Bool
 queueOk h = leb 1 (h .places) && leb (h .places) mostPlaces && ltb (h .first) mostPlaces && leb (h .count) (h .places)
 
+-- a region's access bits; 02, M-102: "a region with remote write must also have local write"
+abbrev pub accessOk : ℕ → Bool
+accessOk a = only mostAccess a && (not (has remoteWrite a) || has localWrite a)
+
 -- a live region: its access, its variant, its range in the memory and in the addresses
 abbrev pub regionOk : ℕ → Region → Bool
 regionOk memory r =
-    leb (r .access) mostAccess && leb 1 (r .variant) && leb 1 (r .length) && leb (r .start + r .length) memory && leb (r .virt + r .length) mostAddress
+    accessOk (r .access) && leb 1 (r .variant) && leb 1 (r .length) && leb (r .start + r .length) memory && leb (r .virt + r .length) mostAddress
 
 -- a live queue pair n: "QP state", and "(so is a QP that names itself as destination)"
 abbrev pub pairOk : ℕ → QueuePair → Bool

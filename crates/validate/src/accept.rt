@@ -9,6 +9,7 @@ use tables::limits::ERROR;
 use tables::limits::FLUSHED;
 use tables::limits::LOCAL_LENGTH;
 use tables::limits::LOCAL_PROTECTION;
+use tables::limits::LOCAL_WRITE;
 use tables::limits::MOST_ACCESS;
 use tables::limits::MOST_ADDRESS;
 use tables::limits::MOST_MEMORY;
@@ -22,6 +23,7 @@ use tables::limits::QP_COUNT;
 use tables::limits::RECEIVED_WRITE;
 use tables::limits::REMOTE_ACCESS;
 use tables::limits::REMOTE_INVALID;
+use tables::limits::REMOTE_WRITE;
 use tables::limits::RTS;
 use tables::limits::SUCCESS;
 use tables::rows;
@@ -35,7 +37,7 @@ ghost use Rattle.wire.specs.Ring.{ringList};
 ghost use Rattle.tables.specs.State.{card, pairAt, ringAt, receivesAt, noCompletion, noRecord};
 ghost use Rattle.tables.specs.Layout.{stateSize, memoryT};
 ghost use Rattle.tables.specs.Limits.{pdCount, cqCount, mrCount, qpCount, mostPlaces, mostWaiting};
-ghost use Rattle.validate.specs.Accept.{accepts, isStatus, isState, completionOk, receiveOk, regionOk, queueOk, pairOk, pdOk, cqOk, mrOk, qpOk, namesOk, receivesOk};
+ghost use Rattle.validate.specs.Accept.{accepts, isStatus, isState, completionOk, receiveOk, accessOk, regionOk, queueOk, pairOk, pdOk, cqOk, mrOk, qpOk, namesOk, receivesOk};
 
 // Whether protection domain n is live.
 pub fn pd_live(state: &[u8], n: u32) -> bool
@@ -98,10 +100,20 @@ fn completion_ok(e: Completion) -> bool
     owner < QP_COUNT
 }
 
+// Whether a region may have the access bits.
+pub fn access_ok(access: u32) -> bool
+    ensures { λ x. ⌜ x ≡ accessOk access ⌝ }
+{
+    let known = access & (MOST_ACCESS as u32) == access;
+    let remote = access & (REMOTE_WRITE as u32) != 0;
+    let local = access & (LOCAL_WRITE as u32) != 0;
+    known & (!remote | local)
+}
+
 fn region_ok(memory: u64, r: Region) -> bool
     ensures { λ x. ⌜ x ≡ regionOk memory r ⌝ }
 {
-    if MOST_ACCESS < r.access {
+    if !access_ok(r.access as u32) {
         return false;
     }
     if r.variant < 1 {

@@ -1,35 +1,46 @@
 use borrow.Author.Tests.{le-leb, lt-leb, not-true, not-false}
 use mathlib.Core.Path.{sym, _∙_}
-use Rattle.tables.specs.Limits.{mostAccess}
 use borrow.Author.Needs.{needs}
 use Rattle.validate.proofs.accept.region_ok.Statement.{statement}
 use Rattle.validate.proofs.accept.region_ok.Tie as tie
+use Rattle.validate.proofs.accept.region_ok.Reads as reads
+use Rattle.validate.proofs.accept.region_ok.Lts as lts
+use Rattle.validate.proofs.accept.access_ok.Reads as access-ok-reads
+use Rattle.wire.proofs.sum_within.Reads as sum-within-reads
+
+cast-access-ok : tie.Need-cast-access-ok
+cast-access-ok c = search needs
+
+access-ok-requires : tie.Need-access-ok-requires
+access-ok-requires c κs = search needs
 
 returns : tie.Need-returns
-returns c = let r = c .before .before .args .r in rw (lt-leb (r .access) mostAccess (c .if1 .taken))
+returns c = let r = c .before .before .before .args .r in rw (sym (c .before .access-ok .ensures) ∙ not-true _ (c .if1 .taken))
 
 returns-2 : tie.Need-returns-2
-returns-2 c = let r = c .before .before .before .before .args .r in rw (le-leb (r .access) mostAccess (c .before .before .if1 .left), lt-leb 1 (r .variant) (c .if2 .taken))
+returns-2 c = let r = c .before .before .before .before .before .args .r in rw (sym (c .before .before .before .access-ok .ensures) ∙ not-false _ (c .before .before .if1 .left), lt-leb 1 (r .variant) (c .if2 .taken))
 
 returns-3 : tie.Need-returns-3
-returns-3 c = let r = c .before .before .before .before .before .before .args .r in rw (le-leb (r .access) mostAccess (c .before .before .before .before .if1 .left), le-leb 1 (r .variant) (c .before .before .if2 .left), lt-leb 1 (r .length) (c .if3 .taken))
+returns-3 c = let r = c .before .before .before .before .before .before .before .args .r in rw (sym (c .before .before .before .before .before .access-ok .ensures) ∙ not-false _ (c .before .before .before .before .if1 .left), le-leb 1 (r .variant) (c .before .before .if2 .left), lt-leb 1 (r .length) (c .if3 .taken))
 
 sum-within-requires : tie.Need-sum-within-requires
 sum-within-requires c κs = search needs
 
 returns-4 : tie.Need-returns-4
-returns-4 c = let r = c .before .before .before .before .before .before .before .before .args .r in rw (le-leb (r .access) mostAccess (c .before .before .before .before .before .before .if1 .left), le-leb 1 (r .variant) (c .before .before .before .before .if2 .left), le-leb 1 (r .length) (c .before .before .if3 .left), sym (c .before .sum-within .ensures) ∙ not-true _ (c .if4 .taken))
+returns-4 c = let r = c .before .before .before .before .before .before .before .before .before .args .r in rw (sym (c .before .before .before .before .before .before .before .access-ok .ensures) ∙ not-false _ (c .before .before .before .before .before .before .if1 .left), le-leb 1 (r .variant) (c .before .before .before .before .if2 .left), le-leb 1 (r .length) (c .before .before .if3 .left), sym (c .before .sum-within .ensures) ∙ not-true _ (c .if4 .taken))
 
 sum-within-requires-2 : tie.Need-sum-within-requires-2
 sum-within-requires-2 c κs = search needs
 
 returns-5 : tie.Need-returns-5
-returns-5 c = let r = c .before .before .before .before .before .before .before .before .before .args .r in rw (le-leb (r .access) mostAccess (c .before .before .before .before .before .before .before .if1 .left), le-leb 1 (r .variant) (c .before .before .before .before .before .if2 .left), le-leb 1 (r .length) (c .before .before .before .if3 .left), sym (c .before .before .sum-within .ensures) ∙ not-false _ (c .before .if4 .left)) (c .sum-within2 .ensures)
+returns-5 c = let r = c .before .before .before .before .before .before .before .before .before .before .args .r in rw (sym (c .before .before .before .before .before .before .before .before .access-ok .ensures) ∙ not-false _ (c .before .before .before .before .before .before .before .if1 .left), le-leb 1 (r .variant) (c .before .before .before .before .before .if2 .left), le-leb 1 (r .length) (c .before .before .before .if3 .left), sym (c .before .before .sum-within .ensures) ∙ not-false _ (c .before .if4 .left)) (c .sum-within2 .ensures)
 
 pub region-ok-spec : {M : Type 1} → statement M
 region-ok-spec =
     tie.close
     (tie.spec
+    cast-access-ok
+    access-ok-requires
     returns
     returns-2
     returns-3
