@@ -5,18 +5,18 @@ use mathlib.Core.List.{List, [], _∷_}
 use mathlib.Core.Option.{none, some}
 use Prim.Native.Nat.{ℕ, _+_, _≤_, _<_}
 use native.Mathlib.Omega.{arith}
-use lib.Bits.{bitAnd, and-le-r}
 use lib.Dec.{eqb, ltb, leb}
 use lib.ListN.{length}
-use borrow.Author.Tests.{not-true, not-false, le-leb, lt-leb, leb-true, leb-false, lt-ltb, le-ltb, eqb-true, ne-eqb, eq-eqb}
-use Rattle.wire.specs.Checks.{Check, _if_, refusal, only}
+use borrow.Author.Tests.{not-true, not-false, le-leb, lt-leb, leb-true, leb-false, lt-ltb, le-ltb, ne-eqb, eq-eqb}
+use Rattle.wire.specs.Checks.{Check, _if_, refusal}
 use Rattle.wire.proofs.ScanLaws.{and-right}
 use Rattle.wire.specs.Table.{rowAt, putRow}
 use Rattle.tables.specs.State.{card}
 use Rattle.tables.specs.Layout.{memoryT, pdFlagT, mrT}
-use Rattle.tables.specs.Limits.{pdCount, cqCount, mrCount, mostPlaces, mostAddress, mostAccess}
+use Rattle.tables.specs.Limits.{pdCount, cqCount, mrCount, mostPlaces, mostAddress}
 use Rattle.tables.proofs.ObjectLaws.{memory-is, mr-variant}
 use Rattle.tables.specs.Commands.{Command}
+use Rattle.validate.specs.Accept.{accessOk}
 use Rattle.validate.specs.Search.{freePdn, freeCqn, freeMrn}
 use Rattle.tables.specs.declared.Ack.the-variants as ack
 use Rattle.tables.specs.declared.Registration.{Registration}
@@ -60,12 +60,6 @@ module _ (l k : List ℕ) (q : Command) where
 -- the fields that a byte of the state holds
 pub places-small : (p : ℕ) → (leb 1 p && leb p mostPlaces) ≡ true → p < 256
 places-small p e = let b : p ≤ mostPlaces = leb-true p mostPlaces (and-right (leb 1 p) (leb p mostPlaces) e) in omega arith
-
-pub access-most : (a : ℕ) → only mostAccess a ≡ true → a ≤ mostAccess
-access-most a e =
-    let x : bitAnd a mostAccess ≡ a = eqb-true (bitAnd a mostAccess) a e in
-    let y : bitAnd a mostAccess ≤ mostAccess = and-le-r a mostAccess in
-    omega arith
 
 pub over : (a b : ℕ) → ltb a b ≡ not (leb b a)
 over a b = by (leb b a) refl
@@ -160,11 +154,11 @@ module _ (l : List ℕ) where
         three false true false = refl
         three false true true = refl
 
-    pub register-access : only mostAccess (g .access) ≡ false → Ran l (some (Command.register g)) (Refused 4) l
+    pub register-access : accessOk (g .access) ≡ false → Ran l (some (Command.register g)) (Refused 4) l
     unfolding commandChecks
     register-access e = ran-refused l (Command.register g) 4 (rw e)
 
-    module _ (known : only mostAccess (g .access) ≡ true) where
+    module _ (known : accessOk (g .access) ≡ true) where
       pub register-dead : card l .pd (g .pd) ≡ false → Ran l (some (Command.register g)) (Refused 2) l
       unfolding commandChecks
       register-dead e = ran-refused l (Command.register g) 2 (rw (known, e))

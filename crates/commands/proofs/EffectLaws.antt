@@ -10,7 +10,7 @@ use native.Mathlib.Omega.{arith}
 use lib.Dec.{eqb, ltb, leb}
 use lib.ListN.{length}
 use borrow.Author.Tests.{leb-true, leb-false, ltb-false, le-leb, not-false, eqb-false}
-use Rattle.wire.specs.Checks.{_if_, refusal, Passed, only}
+use Rattle.wire.specs.Checks.{_if_, refusal, Passed}
 use Rattle.wire.proofs.CheckLaws.{passed}
 use Rattle.wire.specs.Codec.{Fit, Fits}
 use Rattle.wire.specs.Ring.{ringList}
@@ -19,8 +19,8 @@ use Rattle.wire.proofs.ScanLaws.{and-left, and-right}
 use Rattle.wire.specs.Slots.{upd}
 use Rattle.wire.specs.Table.{rowAt, putRow}
 use Rattle.wire.proofs.TableLaws.{putRow-length}
-use Rattle.validate.specs.Accept.{regionOk}
-use Rattle.validate.proofs.AcceptedLaws.{Accepted, memory-most, queueing, registering}
+use Rattle.validate.specs.Accept.{accessOk, regionOk}
+use Rattle.validate.proofs.AcceptedLaws.{Accepted, access-most, memory-most, queueing, registering}
 use Rattle.validate.proofs.KeptLaws.{domain-accepted, queue-accepted, region-accepted}
 use Rattle.validate.specs.Search.{freePdn, freeCqn, freeMrn, pdInUse}
 use Rattle.tables.specs.Card.{withPd}
@@ -37,7 +37,6 @@ use Rattle.tables.specs.declared.Registration.{Registration}
 use Rattle.rules.proofs.Variants.{next-small}
 use Rattle.rules.specs.Control.{commandChecks, commandEffect, nextVariant, newVariant}
 use Rattle.rules.specs.Bytes.{commandBytes, emptyQueue, regionRow}
-use Rattle.commands.proofs.CaseLaws.{access-most}
 
 -- what a command that is done leaves of an accepted state
 pub record Kept (l : List ℕ) (q : Command) : Type 0 where
@@ -139,7 +138,7 @@ module _ (l : List ℕ) (ok : Accepted l) where
     row = regionRow g v
 
     -- the tests, in order
-    tests : Passed (4 if not (only mostAccess (g .access)) ∷ 2 if not (card l .pd (g .pd)) ∷ 11 if eqb (g .length) 0 ∷
+    tests : Passed (4 if not (accessOk (g .access)) ∷ 2 if not (card l .pd (g .pd)) ∷ 11 if eqb (g .length) 0 ∷
         11 if ltb (card l .memory) (g .start + g .length) ∷ 11 if ltb mostAddress (g .virt + g .length) ∷ 8 if leb mrCount n ∷ [])
     unfolding commandChecks
     tests = passed (commandChecks (card l) (Command.register g)) e
@@ -148,7 +147,7 @@ module _ (l : List ℕ) (ok : Accepted l) where
     below = leb-false mrCount n (tests .1 .1 .1 .1 .1 .0)
 
     access : g .access ≤ mostAccess
-    access = access-most (g .access) (not-false (only mostAccess (g .access)) (tests .0))
+    access = access-most (g .access) (not-false (accessOk (g .access)) (tests .0))
 
     domain : card l .pd (g .pd) ≡ true
     domain = not-false (card l .pd (g .pd)) (tests .1 .0)
@@ -188,7 +187,7 @@ module _ (l : List ℕ) (ok : Accepted l) where
 
     limits : regionOk (rowAt memoryT l 0) row ≡ true
     limits =
-        rw (le-leb (g .access) mostAccess access, le-leb 1 v (variant .0), le-leb 1 (g .length) size)
+        rw (not-false (accessOk (g .access)) (tests .0), le-leb 1 v (variant .0), le-leb 1 (g .length) size)
         (rw (le-leb (g .start + g .length) (rowAt memoryT l 0) inside, le-leb (g .virt + g .length) mostAddress space))
 
     abbrev m : List ℕ

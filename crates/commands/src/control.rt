@@ -20,7 +20,6 @@ use tables::Region;
 use tables::RegisterRead;
 use tables::Registration;
 use tables::limits::CQ_COUNT;
-use tables::limits::MOST_ACCESS;
 use tables::limits::MOST_ADDRESS;
 use tables::limits::MOST_PLACES;
 use tables::limits::MR_COUNT;
@@ -35,12 +34,12 @@ ghost use mathlib.Core.List.{[]};
 ghost use Prim.Native.Nat.{_<_};
 ghost use lib.Dec.{leb};
 ghost use lib.ListN.{length};
-ghost use Rattle.wire.specs.Checks.{only};
 ghost use Rattle.wire.specs.Le.{leAt};
+ghost use Rattle.validate.specs.Accept.{accessOk};
 ghost use Rattle.validate.specs.Search.{freeCqn, freeMrn};
 ghost use Rattle.tables.specs.State.{card};
 ghost use Rattle.tables.specs.Layout.{stateSize};
-ghost use Rattle.tables.specs.Limits.{cqCount, mrCount, mostPlaces, mostAccess};
+ghost use Rattle.tables.specs.Limits.{cqCount, mrCount, mostPlaces};
 ghost use Rattle.tables.specs.Commands.{Command};
 ghost use Rattle.rules.specs.Bytes.{commandBytes};
 ghost use Rattle.rules.specs.Call.{Call};
@@ -133,12 +132,6 @@ fn create_pd(state: &mut [u8], command: &[u8]) -> Outcome
 
 // ---- regions
 
-fn known_access(access: u32) -> bool
-    ensures { λ r. ⌜ r ≡ only mostAccess access ⌝ }
-{
-    access & (MOST_ACCESS as u32) == access
-}
-
 // The tests of answer 11; no sum wraps.
 fn in_range(memory: u64, g: Registration) -> bool
     ensures { λ r. ⌜ r ≡ inRange memory g ⌝ }
@@ -172,7 +165,7 @@ fn key_of(n: usize, variant: u8) -> u32
 // The free slot n holds the region under the slot's next variant, which is returned.
 fn put_region(state: &mut [u8], n: usize, g: Registration) -> u8
     requires { ⌜ (n < mrCount) × (length (now state) ≡ stateSize) × (n ≡ freeMrn (card (now state)))
-        × (only mostAccess (g .access) ≡ true) × (card (now state) .pd (g .pd) ≡ true) ⌝ }
+        × (accessOk (g .access) ≡ true) × (card (now state) .pd (g .pd) ≡ true) ⌝ }
     ensures { λ r. ⌜ (r ≡ newVariant (card (now (state .entry)))) × (now (state .exit) ≡ commandBytes (now (state .entry)) (Command.register g)) ⌝ }
 {
     let variant = next_variant(rows::load_mr(state, n).variant);
@@ -196,7 +189,7 @@ fn register(state: &mut [u8], read: RegisterRead) -> Outcome
     let RegisterRead::Value(g) = read else {
         return Outcome::Refused(WRONG_LENGTH);
     };
-    if !known_access(g.access) {
+    if !accept::access_ok(g.access) {
         return Outcome::Refused(BAD_FIELD);
     }
     if !accept::pd_live(state, g.pd) {

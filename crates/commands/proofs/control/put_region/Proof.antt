@@ -6,7 +6,8 @@ use denote.Ref.{now}
 use native.Mathlib.Omega.{arith}
 use Rattle.tables.specs.declared.Region.{Region}
 use Rattle.tables.proofs.ObjectLaws.{pd-below}
-use Rattle.commands.proofs.CaseLaws.{access-most, new-variant}
+use Rattle.validate.proofs.AcceptedLaws.{access-most}
+use Rattle.commands.proofs.CaseLaws.{new-variant}
 use borrow.Author.Needs.{needs}
 use Rattle.commands.proofs.control.put_region.Statement.{statement}
 use Rattle.commands.proofs.control.put_region.Tie as tie

@@ -12,11 +12,11 @@ enum-told c = search needs
 returns : tie.Need-returns
 returns c = rw (c .enum-told .given .1) (ran-wrong _)
 
-known-access-requires : tie.Need-known-access-requires
-known-access-requires c κs = search needs
+access-ok-requires : tie.Need-access-ok-requires
+access-ok-requires c κs = search needs
 
 returns-2 : tie.Need-returns-2
-returns-2 c = rw (c .before .before .before .read .given .1) (register-access _ _ (fails (c .before .known-access .ensures) (c .if1 .taken)))
+returns-2 c = rw (c .before .before .before .read .given .1) (register-access _ _ (fails (c .before .access-ok .ensures) (c .if1 .taken)))
 
 pd-live-requires : tie.Need-pd-live-requires
 pd-live-requires c κs = search needs
@@ -28,7 +28,7 @@ returns-3 : tie.Need-returns-3
 returns-3 c =
     let known = c .before .before .before in
     rw (known .before .before .before .read .given .1)
-    (register-dead _ _ (passes (known .before .known-access .ensures) (known .if1 .left)) (fails (c .before .pd-live .ensures) (c .if2 .taken)))
+    (register-dead _ _ (passes (known .before .access-ok .ensures) (known .if1 .left)) (fails (c .before .pd-live .ensures) (c .if2 .taken)))
 
 load-memory-requires : tie.Need-load-memory-requires
 load-memory-requires c κs = search needs
@@ -44,7 +44,7 @@ returns-4 c =
     let live = c .before .before .before .before in
     let known = live .before .before .before in
     rw (known .before .before .before .read .given .1)
-    (register-range _ _ (passes (known .before .known-access .ensures) (known .if1 .left)) (passes (live .before .pd-live .ensures) (live .if2 .left))
+    (register-range _ _ (passes (known .before .access-ok .ensures) (known .if1 .left)) (passes (live .before .pd-live .ensures) (live .if2 .left))
     (rw (← (c .before .before .load-memory .ensures)) (fails (c .before .in-range .ensures) (c .if3 .taken))))
 
 free-mrn-requires : tie.Need-free-mrn-requires
@@ -59,7 +59,7 @@ returns-5 c =
     let live = range .before .before .before .before in
     let known = live .before .before .before in
     rw (known .before .before .before .read .given .1)
-    (register-full _ _ (passes (known .before .known-access .ensures) (known .if1 .left)) (passes (live .before .pd-live .ensures) (live .if2 .left))
+    (register-full _ _ (passes (known .before .access-ok .ensures) (known .if1 .left)) (passes (live .before .pd-live .ensures) (live .if2 .left))
     (rw (← (range .before .before .load-memory .ensures)) (passes (range .before .in-range .ensures) (range .if3 .left)))
     _ (c .before .free-mrn .ensures) (c .if4 .taken))
 
@@ -72,7 +72,7 @@ put-region-requires c κs =
       room .if4 .left,
       s .pre,
       room .before .free-mrn .ensures,
-      passes (known .before .known-access .ensures) (known .if1 .left),
+      passes (known .before .access-ok .ensures) (known .if1 .left),
       passes (live .before .pd-live .ensures) (live .if2 .left),
     )
 
@@ -93,7 +93,7 @@ returns-6 c =
     let live = range .before .before .before .before in
     let known = live .before .before .before in
     rw (known .before .before .before .read .given .1)
-    (register-done _ _ (passes (known .before .known-access .ensures) (known .if1 .left)) (passes (live .before .pd-live .ensures) (live .if2 .left))
+    (register-done _ _ (passes (known .before .access-ok .ensures) (known .if1 .left)) (passes (live .before .pd-live .ensures) (live .if2 .left))
     (rw (← (range .before .before .load-memory .ensures)) (passes (range .before .in-range .ensures) (range .if3 .left)))
     _ (room .before .free-mrn .ensures) (room .if4 .left)
     _ (put .put-region .ensures .0) _ (c .key-of .ensures) _ (put .put-region .ensures .1))
@@ -105,7 +105,7 @@ register-spec =
     enum-known-read
     enum-told
     returns
-    known-access-requires
+    access-ok-requires
     returns-2
     pd-live-requires
     same-length
