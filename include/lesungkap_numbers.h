@@ -10,9 +10,9 @@
 
 /* The minor number grows with each change of a call, a record or the state's layout; a state and a tape belong to one minor number. */
 #define LESUNGKAP_VERSION_MAJOR 0
-#define LESUNGKAP_VERSION_MINOR 1
+#define LESUNGKAP_VERSION_MINOR 2
 #define LESUNGKAP_VERSION_PATCH 0
-#define LESUNGKAP_VERSION "0.1.0"
+#define LESUNGKAP_VERSION "0.2.0"
 
 #ifdef __cplusplus
 extern "C" {
@@ -76,7 +76,8 @@ enum {
     LESUNGKAP_DESTROY_QP = 12
 };
 
-/* Access bits of a region, as IBV_ACCESS_*. Reading by its own side needs none. */
+/* Access bits of a region, as IBV_ACCESS_*. Reading by its own side needs none. As in libibverbs, a region with LESUNGKAP_REMOTE_WRITE has
+ * LESUNGKAP_LOCAL_WRITE too: 2 and 6 are no access. */
 enum { LESUNGKAP_LOCAL_WRITE = 1, LESUNGKAP_REMOTE_WRITE = 2, LESUNGKAP_REMOTE_READ = 4 };
 
 /* Queue pairs. A new one is in RESET. Modify QP moves it from RESET to INIT, from INIT to RTR (with the destination), from RTR to RTS, and

@@ -119,10 +119,10 @@ const RANGES: [(&str, u64, u64, u64, u8); 16] = [
 
 fn registrations() -> Vec<Case> {
     let mut access = Script::joined();
-    for bits in 0..8 {
-        access.register(0, bits, 0, 1, 0, 256 * (2 + bits) + 1);
+    for (slot, bits) in (2..).zip(ACCESSES) {
+        access.register(0, bits, 0, 1, 0, 256 * slot + 1);
     }
-    for bits in [8, 9, 15, 16, 128, 256, 1 << 31, u32::MAX] {
+    for bits in [2, 6, 8, 9, 10, 11, 15, 16, 128, 256, 258, 1 << 31, u32::MAX] {
         access.refused(register(0, bits, 0, 1, 0), 4);
     }
     let mut cases = vec![access.named("access-0-to-7")];
@@ -165,7 +165,7 @@ fn keys() -> Vec<Case> {
     slot31.done(deregister(31)).register(0, 7, 0, 1, 0, 7937);
     let mut unused = Script::joined();
     unused.done(deregister(0)).refused(register(0, 8, 0, 1, 0), 4).refused(register(0, 7, 0, 0, 0), 11);
-    unused.refused(register(9, 7, 0, 1, 0), 2).register(0, 7, 0, 1, 0, 2);
+    unused.refused(register(0, 2, 0, 1, 0), 4).refused(register(9, 7, 0, 1, 0), 2).register(0, 7, 0, 1, 0, 2);
     let mut lowest = Script::joined();
     for n in 2..32 {
         lowest.register(0, 7, 0, 1, 0, 256 * n + 1);

@@ -1,5 +1,6 @@
 //! Lent lengths and lent states: what no tape can show. Each check panics on a card that does anything else than document 01 says.
 
+use crate::script::ACCESSES;
 use cards::build::*;
 use cards::{Call, Card};
 use reference::layout::*;
@@ -176,7 +177,7 @@ pub fn forged_but_acceptable_states(card: &dyn Card) {
 }
 
 /// A fault, and the bytes of the sample that make it. A wrong length is made apart.
-const FAULTS: [(Fault, usize, &[u8]); 36] = [
+const FAULTS: [(Fault, usize, &[u8]); 38] = [
     (Fault::MemoryLength, MEMORY_LENGTH, &[0, 0]),
     (Fault::MemoryLength, MEMORY_LENGTH + 2, &[17]),
     (Fault::DomainFlag, DOMAIN_FLAGS + 5, &[2]),
@@ -191,6 +192,8 @@ const FAULTS: [(Fault, usize, &[u8]); 36] = [
     (Fault::CompletionOwner, completion_row(0, 0) + COMPLETION_OWNER, &[8]),
     (Fault::RegionFlag, REGION_FLAGS + 31, &[2]),
     (Fault::RegionAccess, region_row(0) + REGION_ACCESS, &[8]),
+    (Fault::RegionAccess, region_row(0) + REGION_ACCESS, &[2]),
+    (Fault::RegionAccess, region_row(1) + REGION_ACCESS, &[6]),
     (Fault::RegionVariant, region_row(0) + REGION_VARIANT, &[0]),
     (Fault::RegionDomain, region_row(0) + REGION_DOMAIN, &[2]),
     (Fault::RegionDomain, region_row(0) + REGION_DOMAIN, &[8]),
@@ -254,7 +257,12 @@ pub fn a_state_without_a_fault_is_taken(card: &dyn Card) {
     let good = sample(card);
     let mut edge = good.clone();
     put64(&mut edge, region_row(0) + REGION_VIRT, u64::MAX - 4096);
-    for lent in [good, edge] {
+    let with_access = ACCESSES.map(|access| {
+        let mut state = good.clone();
+        state[region_row(0) + REGION_ACCESS] = access as u8;
+        state
+    });
+    for lent in [good, edge].into_iter().chain(with_access) {
         assert_eq!(fault(&lent), None);
         let answers =
             tested_calls().map(|call| call.make(card, &mut lent.clone(), &mut [0; 4096], &mut vec![LEFT; call.buffer()]).answer);

@@ -237,12 +237,13 @@ fn local_rights() -> Vec<Case> {
         each.done(move_to(0, 0)).ready(0, 1);
     }
     let mut rights = Script::joined();
-    for access in 0..8 {
-        rights.register(0, access, 64, 64, 0, 256 * (2 + access) + 1);
-        rights.send(0, Send::new(1, WRITE).piece(0, 64, 256 * (2 + access) + 1).remote(B_VIRT, B_KEY), 0, 0);
+    for (slot, access) in (2..).zip(ACCESSES) {
+        let key = 256 * slot + 1;
+        rights.register(0, access, 64, 64, 0, key);
+        rights.send(0, Send::new(1, WRITE).piece(0, 64, key).remote(B_VIRT, B_KEY), 0, 0);
         rights.poll(0, 1, 0, 1, 64, 0);
         let status = if access & 1 == 1 { 0 } else { 3 };
-        rights.send(0, Send::new(2, READ).piece(0, 64, 256 * (2 + access) + 1).remote(B_VIRT, B_KEY), 0, status);
+        rights.send(0, Send::new(2, READ).piece(0, 64, key).remote(B_VIRT, B_KEY), 0, status);
         rights.poll(0, 2, status, 2, if status == 0 { 64 } else { 0 }, 0).done(move_to(0, 0)).ready(0, 1);
     }
     vec![each.named("local-each-piece-is-tested"), rights.named("local-rights-for-reading-and-writing")]
@@ -310,11 +311,12 @@ fn remote_ranges() -> Vec<Case> {
 
 fn remote_rights() -> Vec<Case> {
     let mut rights = Script::joined();
-    for access in 0..8 {
-        rights.register(1, access, 0, 64, 0, 256 * (2 + access) + 1);
+    for (slot, access) in (2..).zip(ACCESSES) {
+        let key = 256 * slot + 1;
+        rights.register(1, access, 0, 64, 0, key);
         for (opcode, right, done) in [(WRITE, 2, 1), (READ, 4, 2)] {
             let status = if access & right != 0 { 0 } else { 8 };
-            rights.send(0, Send::new(1, opcode).piece(A_VIRT, 4, A_KEY).remote(0, 256 * (2 + access) + 1), 0, status);
+            rights.send(0, Send::new(1, opcode).piece(A_VIRT, 4, A_KEY).remote(0, key), 0, status);
             rights.poll(0, 1, status, done, if status == 0 { 4 } else { 0 }, 0).done(move_to(0, 0)).ready(0, 1);
         }
     }

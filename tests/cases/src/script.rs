@@ -61,6 +61,8 @@ pub const B_VIRT: u64 = 0x2_0000;
 pub const B_KEY: u32 = 257;
 pub const B_START: usize = 2048;
 pub const REGION: u32 = 1024;
+/// What a region's access may be: remote write (2) beside local write (1) only.
+pub const ACCESSES: [u32; 6] = [0, 1, 3, 4, 5, 7];
 
 impl Script {
     /// A fresh card.

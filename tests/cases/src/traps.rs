@@ -21,8 +21,12 @@ fn orders() -> Vec<Case> {
     for n in 0..32 {
         region.register(0, 7, 0, 1, 0, 256 * n + 1);
     }
-    region.refused(register(9, 8, 4096, 1, 0), 4).refused(register(9, 7, 4096, 1, 0), 2);
-    region.refused(register(0, 7, 4096, 1, 0), 11).refused(register(0, 7, 0, 1, 0), 8);
+    for access in [2, 6, 8] {
+        region.refused(register(9, access, 4096, 1, 0), 4).refused(register(0, access, 4096, 1, 0), 4);
+        region.refused(register(0, access, 0, 1, 0), 4);
+    }
+    region.refused(register(9, 7, 4096, 1, 0), 2).refused(register(0, 7, 4096, 1, 0), 11);
+    region.refused(register(0, 7, 0, 1, 0), 8).refused(register(0, 3, 0, 1, 0), 8);
     let mut pair = Script::joined();
     for n in 2..8 {
         pair.create(create_pair(0, 2, 0, 0, 0), n);
@@ -122,8 +126,8 @@ fn receive_rights() -> Vec<Case> {
     let whole = piece(B_VIRT, REGION, B_KEY);
     let dead = piece(B_VIRT, REGION, 0);
     let mut rights = Script::joined();
-    for access in 0..8 {
-        let (key, status) = (256 * (2 + access) + 1, if access & 1 == 1 { 0 } else { 7 });
+    for (slot, access) in (2..).zip(ACCESSES) {
+        let (key, status) = (256 * slot + 1, if access & 1 == 1 { 0 } else { 7 });
         rights.register(1, access, 0, 64, 0, key).receive(1, 5, &[piece(0, 4, key)], 0).send(0, send(4), 0, status);
         rights.poll(1, 5, if status == 0 { 0 } else { 3 }, 3, if status == 0 { 4 } else { 0 }, 1);
         rights.done(move_to(0, 0)).done(move_to(1, 0)).join_pairs(0, 1);

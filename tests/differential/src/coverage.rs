@@ -4,7 +4,7 @@ use crate::side::Done;
 use cards::Call;
 use reference::layout::*;
 use reference::listing::{Listing, PairListing};
-use reference::record::{total, Completion, Local, SendRecord, READ};
+use reference::record::{total, Command, Completion, Local, SendRecord, READ};
 use std::collections::BTreeMap;
 
 #[derive(Default)]
@@ -34,6 +34,9 @@ const COMMANDS: [(u8, &[u8]); 9] = [
     (10, &[0, 1, 2, 3, 4]),
     (12, &[0, 1, 2]),
 ];
+
+/// Whether a registration with this access can be done: remote write (2) needs local write (1).
+const ACCESSES: [(u8, &[u8]); 8] = [(0, &[0]), (1, &[0]), (2, &[4]), (3, &[0]), (4, &[0]), (5, &[0]), (6, &[4]), (7, &[0])];
 
 /// Every status of each opcode.
 const STATUSES: [(u8, &[u8]); 5] =
@@ -73,6 +76,9 @@ impl Coverage {
         match call {
             Call::Control { command, .. } if command.len() >= 2 && command[0] == 6 => {
                 self.add(format!("command {} answer {answer}", command[1]));
+                if let Ok(Command::Register { access, .. }) = Command::read(command) {
+                    self.add(format!("access {access} answer {answer}"));
+                }
             }
             Call::Send { qpn, record, .. } => {
                 if answer == 0 {
@@ -160,6 +166,7 @@ fn groups() -> Vec<(&'static str, Vec<String>)> {
     vec![
         ("answers of each call", answers),
         ("answers of each command", cells("command", "answer", &COMMANDS)),
+        ("registrations with each access", cells("access", "answer", &ACCESSES)),
         ("statuses of each opcode", cells("opcode", "status", &STATUSES)),
         ("completions polled", cells("completion", "status", &COMPLETIONS)),
         ("steps of post send", STEPS.iter().map(|step| format!("step {step}")).collect()),

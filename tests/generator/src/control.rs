@@ -76,6 +76,7 @@ impl Generator {
             3 => u64::MAX - length - self.rng.below(5000),
             _ => self.rng.word() >> 1,
         };
+        // 2 and 6 are refused
         let access = if self.rng.percent(60) { 7 } else { self.rng.below(8) as u32 };
         register(self.live_domain(card), access, start, length, virt)
     }

@@ -175,7 +175,7 @@ impl Generator {
             2 => put64(command, 18, self.rng.pick(&[0, memory, memory + 1, u64::MAX])),
             3 => put64(command, 26, (u64::MAX - length).wrapping_add(self.rng.below(2))),
             4 => put64(command, 26, u64::MAX - self.rng.below(2)),
-            _ => put32(command, 6, self.rng.pick(&[8, 15, 16, 256, 1 << 31])),
+            _ => put32(command, 6, self.rng.pick(&[2, 6, 8, 10, 15, 16, 256, 1 << 31])),
         }
     }
 

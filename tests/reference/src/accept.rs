@@ -132,12 +132,17 @@ fn check_completion(state: &State, row: usize) -> Result<(), Fault> {
     ensure((get32(state, row + COMPLETION_OWNER) as usize) < PAIRS, Fault::CompletionOwner)
 }
 
+/// Whether a region may have this access: 1 local write, 4 remote read, and 2 remote write beside local write only.
+pub fn access_ok(access: u32) -> bool {
+    matches!(access, 0 | 1 | 3 | 4 | 5 | 7)
+}
+
 fn check_region(state: &State, number: usize, memory: u64) -> Result<(), Fault> {
     let row = region_row(number);
     let start = get64(state, row + REGION_START);
     let length = get64(state, row + REGION_LENGTH);
     let virt = get64(state, row + REGION_VIRT);
-    ensure(state[row + REGION_ACCESS] <= LOCAL_WRITE | REMOTE_WRITE | REMOTE_READ, Fault::RegionAccess)?;
+    ensure(access_ok(state[row + REGION_ACCESS].into()), Fault::RegionAccess)?;
     ensure(state[row + REGION_VARIANT] != 0, Fault::RegionVariant)?;
     ensure(live_domain(state, state[row + REGION_DOMAIN]), Fault::RegionDomain)?;
     ensure(length != 0, Fault::RegionEmpty)?;

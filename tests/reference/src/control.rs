@@ -1,5 +1,6 @@
 //! Control commands.
 
+use crate::accept::access_ok;
 use crate::answer::{Outcome, Refusal};
 use crate::card::{Card, Pair, Region};
 use crate::layout::*;
@@ -106,7 +107,7 @@ fn destroy_domain(card: &mut Card, number: u32) -> Result<Ack, Refusal> {
 }
 
 fn register(card: &mut Card, domain: u32, access: u32, start: u64, length: u64, virt: u64) -> Result<Ack, Refusal> {
-    if access & !u32::from(LOCAL_WRITE | REMOTE_WRITE | REMOTE_READ) != 0 {
+    if !access_ok(access) {
         return Err(Refusal::BadField);
     }
     let domain = card.domain(domain)?;
