@@ -16,28 +16,28 @@ pub fn free_pdn(state: &[u8]) -> usize
     requires { ⌜ length (now state) ≡ stateSize ⌝ }
     ensures { λ r. ⌜ r ≡ freePdn (card (now (state .entry))) ⌝ }
 {
-    wire::lowest_clear(state, rows::PD_FLAGS, PD_COUNT)
+    wire::lowest_clear(state, rows::PD_FLAGS, PD_COUNT / 8)
 }
 
 pub fn free_cqn(state: &[u8]) -> usize
     requires { ⌜ length (now state) ≡ stateSize ⌝ }
     ensures { λ r. ⌜ r ≡ freeCqn (card (now (state .entry))) ⌝ }
 {
-    wire::lowest_clear(state, rows::CQ_FLAGS, CQ_COUNT)
+    wire::lowest_clear(state, rows::CQ_FLAGS, CQ_COUNT / 8)
 }
 
 pub fn free_mrn(state: &[u8]) -> usize
     requires { ⌜ length (now state) ≡ stateSize ⌝ }
     ensures { λ r. ⌜ r ≡ freeMrn (card (now (state .entry))) ⌝ }
 {
-    wire::lowest_clear(state, rows::MR_FLAGS, MR_COUNT)
+    wire::lowest_clear(state, rows::MR_FLAGS, MR_COUNT / 8)
 }
 
 pub fn free_qpn(state: &[u8]) -> usize
     requires { ⌜ length (now state) ≡ stateSize ⌝ }
     ensures { λ r. ⌜ r ≡ freeQpn (card (now (state .entry))) ⌝ }
 {
-    wire::lowest_clear(state, rows::QP_FLAGS, QP_COUNT)
+    wire::lowest_clear(state, rows::QP_FLAGS, QP_COUNT / 8)
 }
 
 // Whether a live region names the domain.

@@ -2,7 +2,7 @@
 // a part of a slice; a sum that does not wrap; places of a ring.
 ghost use mathlib.Core.Path.{_≡_};
 ghost use mathlib.Core.List.{_∷_, []};
-ghost use Prim.Native.Nat.{_+_, _^_, _≤_, _<_};
+ghost use Prim.Native.Nat.{_+_, _*_, _^_, _≤_, _<_};
 ghost use lib.Dec.{leb};
 ghost use lib.ListN.{length, take, drop};
 ghost use lib.Seq.{paste};
@@ -211,17 +211,39 @@ pub fn ring_place(cap: usize, first: usize, k: usize) -> usize
 
 // ---- searches
 
-// The lowest i below count whose byte, at index at + i, is not 1; count where there is none.
-pub fn lowest_clear(s: &[u8], at: usize, count: usize) -> usize
-    requires { ⌜ at + count ≤ length (now s) ⌝ }
-    ensures { λ r. ⌜ r ≡ lowest count (clearAt (now (s .entry)) at) ⌝ }
+// Eight flags that are all 1, read as one number.
+const ALL_SET: u64 = 0x0101_0101_0101_0101;
+
+// The lowest i below 8 whose byte, at index at + i, is not 1; 8 where there is none.
+fn clear_of_eight(s: &[u8], at: usize) -> usize
+    requires { ⌜ at + 8 ≤ length (now s) ⌝ }
+    ensures { λ r. ⌜ r ≡ lowest 8 (clearAt (now (s .entry)) at) ⌝ }
 {
+    if get64(s, at) == ALL_SET {
+        return 8;
+    }
     let mut n = 0;
-    while n < count {
+    while n < 8 {
         if get8(s, at + n) != 1 {
             return n;
         }
         n += 1;
     }
     n
+}
+
+// The lowest i below 8 * words whose byte, at index at + i, is not 1; 8 * words where there is none.
+pub fn lowest_clear(s: &[u8], at: usize, words: usize) -> usize
+    requires { ⌜ at + 8 * words ≤ length (now s) ⌝ }
+    ensures { λ r. ⌜ r ≡ lowest (8 * words) (clearAt (now (s .entry)) at) ⌝ }
+{
+    let mut i = 0;
+    while i < words {
+        let n = clear_of_eight(s, at + 8 * i);
+        if n < 8 {
+            return 8 * i + n;
+        }
+        i += 1;
+    }
+    8 * words
 }
