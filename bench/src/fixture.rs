@@ -3,7 +3,7 @@
 use cards::build::*;
 use cards::{Card, Reference};
 use reference::layout::*;
-use reference::ACK_BYTES;
+use reference::{Refusal, ACK_BYTES};
 
 pub const MEMORY: usize = 1 << 16;
 pub const LOCAL_VIRT: u64 = 0x10_0000;
@@ -48,6 +48,32 @@ pub fn full() -> Vec<u8> {
         }
     }
     state
+}
+
+/// Full tables but for the last region.
+pub fn all_but_one_region() -> Vec<u8> {
+    let mut state = full();
+    run(&mut state, deregister(REGIONS as u32 - 1));
+    state
+}
+
+/// A card with a domain and a queue on which the command can be done once more, and then its table is full.
+pub fn once_more(command: &[u8]) -> Vec<u8> {
+    let mut state = vec![0; STATE_BYTES];
+    assert_eq!(Reference.reset(&mut state, MEMORY as u64).answer, 0);
+    run(&mut state, create_domain());
+    run(&mut state, create_queue(MOST_PLACES as u32));
+    let mut last = state.clone();
+    loop {
+        let before = state.clone();
+        match Reference.control(&mut state, command, &mut [0; ACK_BYTES]).answer {
+            0 => last = before,
+            answer => {
+                assert_eq!(answer, Refusal::Full as u8);
+                return last;
+            }
+        }
+    }
 }
 
 /// Puts unread completions into each live queue that has a joined pair, as many as fit.

@@ -23,7 +23,7 @@ impl Work<'_> {
     }
 
     /// Nanoseconds per call over as many runs as it takes to reach `least` calls.
-    fn sample(&mut self, least: u32) -> f64 {
+    pub fn sample(&mut self, least: u32) -> f64 {
         let runs = (least + self.calls - 1) / self.calls;
         let spent: Duration = (0..runs).map(|_| self.time()).sum();
         spent.as_nanos() as f64 / f64::from(runs * self.calls)

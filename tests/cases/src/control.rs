@@ -13,6 +13,7 @@ pub fn cases() -> Vec<Case> {
     cases.extend(modifications());
     cases.extend(moves());
     cases.extend(removals());
+    cases.push(freed_numbers());
     cases
 }
 
@@ -308,4 +309,38 @@ fn removals() -> Vec<Case> {
         queue.named("queue-in-use-as-send-or-receive-queue"),
         numbers.named("removals-of-numbers-past-the-tables"),
     ]
+}
+
+/// Every number of each full table is freed, and of regions some together: the lowest is taken, up to a full table.
+fn freed_numbers() -> Case {
+    let mut script = Script::new();
+    for n in 0..8 {
+        script.create(create_domain(), n).create(create_queue(1), n);
+    }
+    for n in 0..32 {
+        script.register(0, 7, 0, 1, 0, 256 * n + 1);
+    }
+    for n in 0..8 {
+        script.create(create_pair(0, 2, 0, 0, 0), n);
+    }
+    let mut variants = [1; 32];
+    let together = [vec![0, 31], vec![6, 7], vec![7, 8], vec![15, 24], vec![8, 16, 23]];
+    for freed in (0..32).map(|slot| vec![slot]).chain(together) {
+        for &slot in freed.iter().rev() {
+            script.done(deregister(slot));
+        }
+        for slot in freed {
+            variants[slot as usize] += 1;
+            script.register(0, 7, 0, 1, 0, 256 * slot + variants[slot as usize]);
+        }
+        script.refused(register(0, 7, 0, 1, 0), 8);
+    }
+    for n in 0..8 {
+        script.done(destroy_pair(n)).create(create_pair(0, 2, 0, 0, 0), n).refused(create_pair(0, 2, 0, 0, 0), 8);
+    }
+    for n in 1..8 {
+        script.done(destroy_domain(n)).create(create_domain(), n).refused(create_domain(), 8);
+        script.done(destroy_queue(n)).create(create_queue(1), n).refused(create_queue(1), 8);
+    }
+    script.named("each-freed-number-is-taken-again")
 }
