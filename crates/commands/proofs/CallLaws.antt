@@ -1,15 +1,17 @@
 -- Any control command: which command its bytes are, the tests before its own, and what the call owes. Assumes nothing.
-use mathlib.Core.Path.{_≡_, refl, _∙_}
+use mathlib.Core.Path.{_≡_, refl, sym, _∙_}
 use mathlib.Core.Logic.{_⊎_, inl, inr}
-use mathlib.Core.Bool.{Bool, true, false, cond, not, _&&_, _||_}
+use mathlib.Core.Bool.{Bool, true, false, cond, not, _&&_, _||_, false≢true}
 use mathlib.Core.List.{List, [], _∷_, _++_}
 use mathlib.Core.Option.{Option, none, some, Option·some-ne-none}
 use Prim.Native.Nat.{ℕ, _+_, _≤_, _<_}
-use lib.Dec.{eqb}
+use lib.Dec.{eqb, leb}
 use lib.ListN.{length}
-use borrow.Author.Tests.{lt-ltb, le-ltb, ne-eqb, not-true}
+use native.Mathlib.Omega.{arith}
+use borrow.Author.Tests.{lt-ltb, le-ltb, le-leb, leb-true, ltb-false, ne-eqb, not-true, not-false}
 use Rattle.wire.specs.Checks.{Check, _if_, refusal}
-use Rattle.wire.specs.Codec.{putFields, decode}
+use Rattle.wire.specs.Codec.{decode}
+use Rattle.wire.proofs.CheckLaws.{passed}
 use Rattle.wire.specs.Le.{leAt}
 use Rattle.wire.specs.Scan.{all}
 use Rattle.wire.proofs.ScanLaws.{and-left, and-right}
@@ -17,8 +19,10 @@ use Rattle.validate.specs.Accept.{accepts}
 use Rattle.validate.proofs.AcceptedLaws.{Accepted, accepted}
 use Rattle.tables.specs.Card.{Card}
 use Rattle.tables.specs.State.{card}
-use Rattle.tables.specs.Commands.{headChecks, numberRead, registerRead, createQpRead, modifyQpRead, ackValues, Command, numberCodec, registerCodec, createQpCodec, modifyQpCodec, ackFields, ackLeast, dataSize, commandOf}
+use Rattle.tables.specs.Commands.{headChecks, numberRead, registerRead, createQpRead, modifyQpRead, encodeAck, ackSize, ackNeed, roomBy, controlClass, Command, numberCodec, registerCodec, createQpCodec, modifyQpCodec, ackLeast, dataSize, commandOf}
 use Rattle.tables.specs.declared.Ack.{Ack}
+use Rattle.tables.specs.declared.Ack.the-variants as ack
+use Rattle.tables.proofs.AckLaws.{need-least}
 use Rattle.tables.specs.declared.CreateQp.{CreateQp}
 use Rattle.tables.specs.declared.ModifyQp.{ModifyQp}
 use Rattle.tables.specs.declared.Registration.{Registration}
@@ -38,10 +42,10 @@ use Rattle.rules.specs.Call.{Call}
 use Rattle.rules.specs.Calls.{checks, controlChecks, owedChecks, statusOf, effect, memoryAfter, bufferAfter}
 use Rattle.rules.specs.Contract.{Owes}
 use Rattle.rules.specs.Control.{commandChecks, commandAck, commandEffect}
-use Rattle.rules.specs.Lists.{maybe}
+use Rattle.rules.specs.Lists.{isSome, maybe}
 use Rattle.rules.specs.declared.Answer.{Answer}
 use Rattle.rules.specs.declared.Answer.the-variants as answer
-use Rattle.commands.specs.Control.{Ran, Chosen, Classed, numberChecks, classChecks, numbered, registering, creating, modifying, bare, ackOf, outcomeAck, outcomeAnswer}
+use Rattle.commands.specs.Control.{Ran, Chosen, Classed, numberChecks, classChecks, numbered, registering, creating, modifying, bare, outcomeAck, outcomeAnswer}
 use Rattle.commands.specs.declared.Outcome.{Outcome}
 use Rattle.commands.specs.declared.Outcome.the-variants.{Refused, Done}
 use Rattle.commands.proofs.EffectLaws as effect
@@ -73,9 +77,8 @@ module _ (l k : List ℕ) where
         let d : ℕ = decode numberCodec k 2 in
         chosen (f d) c (numbered f x) (rw (s d, is) (made (numbered f) (eqb (length k) (2 + numberCodec .size)) (number.Value d) number.Wrong)) r l′
 
-    pub by-nothing : commandOf k ≡ some Command.createPd → Ran l (bare Command.createPd k) r l′ → Chosen l k r l′
-    unfolding dataSize
-    by-nothing c = chosen Command.createPd c (bare Command.createPd k) refl r l′
+    pub by-nothing : (q : Command) → commandOf k ≡ some q → dataSize q ≡ 0 → Ran l (bare q k) r l′ → Chosen l k r l′
+    by-nothing q c s = chosen q c (bare q k) (rw s) r l′
 
     pub by-registration : commandOf k ≡ some (Command.register (decode registerCodec k 2)) → (x : RegisterRead) → x ≡ registerRead k
         → Ran l (registering x) r l′ → Chosen l k r l′
@@ -111,12 +114,13 @@ module _ (l k : List ℕ) where
     run-gap (inl e) = by-none (rw (← is, e))
     run-gap (inr e) = by-none (rw (← is, e))
 
-    pub run-unknown : (n ≡ 2 → ⊥) → (n ≡ 3 → ⊥) → (n ≡ 4 → ⊥) → (n ≡ 5 → ⊥) → (n ≡ 7 → ⊥) → (n ≡ 8 → ⊥) → (n ≡ 9 → ⊥) → (n ≡ 10 → ⊥) → (n ≡ 12 → ⊥)
-        → Chosen l k (Refused 13) l
+    pub run-unknown : (n ≡ 0 → ⊥) → (n ≡ 1 → ⊥) → (n ≡ 2 → ⊥) → (n ≡ 3 → ⊥) → (n ≡ 4 → ⊥) → (n ≡ 5 → ⊥) → (n ≡ 7 → ⊥) → (n ≡ 8 → ⊥) → (n ≡ 9 → ⊥)
+        → (n ≡ 10 → ⊥) → (n ≡ 12 → ⊥) → Chosen l k (Refused 13) l
     unfolding commandOf
-    run-unknown a b c d e f g h i =
+    run-unknown x y a b c d e f g h i =
         by-none
-        (rw (← is, ne-eqb n 2 a, ne-eqb n 3 b, ne-eqb n 4 c, ne-eqb n 5 d, ne-eqb n 7 e, ne-eqb n 8 f, ne-eqb n 9 g, ne-eqb n 10 h, ne-eqb n 12 i))
+        (rw (← is, ne-eqb n 0 x, ne-eqb n 1 y, ne-eqb n 2 a, ne-eqb n 3 b, ne-eqb n 4 c, ne-eqb n 5 d, ne-eqb n 7 e, ne-eqb n 8 f, ne-eqb n 9 g)
+        (rw (ne-eqb n 10 h, ne-eqb n 12 i)))
 
   -- ---- the tests before: the length, and the class
   -- the head is refused
@@ -142,22 +146,98 @@ class-quiet : (c : Card) (k : List ℕ) (n : ℕ) → refusal (classChecks c k) 
 unfolding all
 class-quiet c k n e = first-with quiet (classChecks c k) n (command-tests quiet refl refl refl refl refl refl c (commandOf k)) e
 
--- the ack's values are the rules' ack data
-ack-values : (c : Card) (o : Option Command) → ackValues (ackOf (maybe [] (commandAck c) o)) ≡ 0 ∷ maybe [] (commandAck c) o
+-- ---- tests that all pass, the earlier of them
+
+first-none : (xs ys : List Check) → refusal (xs ++ ys) ≡ none → refusal xs ≡ none
+first-none xs ys e = go (refusal xs) (rw (refusal-append xs ys) at e)
+  where
+    go : (o : Option ℕ) → firstOf o (refusal ys) ≡ none → o ≡ none
+    go none p = refl
+    go (some n) p = absurd (Option·some-ne-none n p)
+
+-- ---- room for the ack
+
+-- the head is refused, or names a command
+pub need-refused : (k : List ℕ) (n : ℕ) → refusal (headChecks k) ≡ some n → ackNeed k ≡ ackLeast
+unfolding ackNeed
+need-refused k n e = go (leb 2 (length k)) (eqb (leAt 1 k 0) controlClass) refl refl
+  where
+    go : (a b : Bool) → leb 2 (length k) ≡ a → eqb (leAt 1 k 0) controlClass ≡ b → cond (leb 2 (length k) && eqb (leAt 1 k 0) controlClass) (roomBy (commandOf k)) ackLeast ≡ ackLeast
+    go false b x y = rw x
+    go true false x y = rw (x, y)
+    go true true x y = absurd (Option·some-ne-none n (sym e ∙ rw (le-ltb (length k) 2 (leb-true 2 (length k) x), y)))
+
+pub need-named : (k : List ℕ) → refusal (headChecks k) ≡ none → ackNeed k ≡ roomBy (commandOf k)
+unfolding ackNeed
+need-named k e =
+    let p = passed (headChecks k) e in
+    rw (le-leb 2 (length k) (ltb-false (length k) 2 (p .0)), not-false (eqb (leAt 1 k 0) controlClass) (p .1 .0))
+
+-- by the command's number
+module _ (k : List ℕ) (n : ℕ) (is : n ≡ leAt 1 k 1) where
+  pub room-device : n ≡ 0 → roomBy (commandOf k) ≡ 129
+  unfolding commandOf
+  room-device e = rw (← is, e)
+
+  pub room-port : n ≡ 1 → roomBy (commandOf k) ≡ 33
+  unfolding commandOf
+  room-port e = rw (← is, e)
+
+  pub room-other : (n ≡ 0 → ⊥) → (n ≡ 1 → ⊥) → roomBy (commandOf k) ≡ ackLeast
+  unfolding commandOf
+  room-other a b =
+      rw (← is, ne-eqb n 0 a, ne-eqb n 1 b) (ten (eqb n 2) (eqb n 3) (eqb n 4) (eqb n 5) (eqb n 7) (eqb n 8) (eqb n 9) (eqb n 10) (eqb n 12))
+    where
+      x : ℕ
+      x = decode numberCodec k 2
+
+      ten : (b2 b3 b4 b5 b7 b8 b9 b10 b12 : Bool) → roomBy (cond b2 (some (Command.createCq x)) (cond b3 (some (Command.destroyCq x)) (cond b4 (some Command.createPd)
+          (cond b5 (some (Command.destroyPd x)) (cond b7 (some (Command.register (decode registerCodec k 2))) (cond b8 (some (Command.deregister x))
+          (cond b9 (some (Command.createQp (decode createQpCodec k 2))) (cond b10 (some (Command.modifyQp (decode modifyQpCodec k 2)))
+          (cond b12 (some (Command.destroyQp x)) none))))))))) ≡ ackLeast
+      ten true b3 b4 b5 b7 b8 b9 b10 b12 = refl
+      ten false true b4 b5 b7 b8 b9 b10 b12 = refl
+      ten false false true b5 b7 b8 b9 b10 b12 = refl
+      ten false false false true b7 b8 b9 b10 b12 = refl
+      ten false false false false true b8 b9 b10 b12 = refl
+      ten false false false false false true b9 b10 b12 = refl
+      ten false false false false false false true b10 b12 = refl
+      ten false false false false false false false true b12 = refl
+      ten false false false false false false false false true = refl
+      ten false false false false false false false false false = refl
+
+-- an ack fits the room of its command
+ack-room : (c : Card) (o : Option Command) → ackSize (maybe ack.Done (commandAck c) o) ≤ roomBy o
 unfolding commandAck
-ack-values c none = refl
-ack-values c (some (Command.createCq n)) = refl
-ack-values c (some (Command.destroyCq n)) = refl
-ack-values c (some Command.createPd) = refl
-ack-values c (some (Command.destroyPd n)) = refl
-ack-values c (some (Command.register g)) = refl
-ack-values c (some (Command.deregister n)) = refl
-ack-values c (some (Command.createQp r)) = refl
-ack-values c (some (Command.modifyQp r)) = refl
-ack-values c (some (Command.destroyQp q)) = refl
+ack-room c none = omega arith
+ack-room c (some Command.queryDevice) = omega arith
+ack-room c (some Command.queryPort) = omega arith
+ack-room c (some (Command.createCq n)) = omega arith
+ack-room c (some (Command.destroyCq n)) = omega arith
+ack-room c (some Command.createPd) = omega arith
+ack-room c (some (Command.destroyPd n)) = omega arith
+ack-room c (some (Command.register g)) = omega arith
+ack-room c (some (Command.deregister n)) = omega arith
+ack-room c (some (Command.createQp r)) = omega arith
+ack-room c (some (Command.modifyQp r)) = omega arith
+ack-room c (some (Command.destroyQp q)) = omega arith
+
+pub outcome-room : (l k : List ℕ) (p : Outcome) (l′ : List ℕ) → Classed l k p l′ → ackSize (outcomeAck p) ≤ ackNeed k
+outcome-room l k p l′ d = go (refusal (classChecks (card l) k)) refl
+  where
+    go : (m : Option ℕ) → refusal (classChecks (card l) k) ≡ m → ackSize (outcomeAck p) ≤ ackNeed k
+    go none e =
+        let eo : p ≡ Done (maybe ack.Done (commandAck (card l)) (commandOf k)) = d .outcome ∙ rw e in
+        rw (eo, need-named k (first-none (headChecks k) (numberChecks (card l) k) e)) (ack-room (card l) (commandOf k))
+    go (some n) e =
+        let eo : p ≡ Refused n = d .outcome ∙ rw e in
+        let h : ackLeast ≤ ackNeed k = need-least k in
+        rw eo (omega arith)
 
 -- every command that passes its tests
 kept : (l : List ℕ) → Accepted l → (q : Command) → refusal (commandChecks (card l) q) ≡ none → Kept l q
+kept l ok Command.queryDevice e = effect.query-device l ok
+kept l ok Command.queryPort e = effect.query-port l ok
 kept l ok (Command.createCq n) e = effect.create-cq l ok n e
 kept l ok (Command.destroyCq n) e = effect.destroy-cq l ok n e
 kept l ok Command.createPd e = effect.create-pd l ok e
@@ -181,6 +261,12 @@ left : (l : List ℕ) → Accepted l → (o : Option Command) → refusal (maybe
 left l ok none e = (refl, ok)
 left l ok (some q) e = let s = kept l ok q e in (s .meant, s .still)
 
+-- the ack of a command that the number names
+said : (c : Card) (a : List ℕ) (o : Option Command) → isSome o ≡ true
+    → maybe a (λ q. encodeAck (commandAck c q) a) o ≡ encodeAck (maybe ack.Done (commandAck c) o) a
+said c a none e = absurd (false≢true e)
+said c a (some q) e = refl
+
 module _ (l k a : List ℕ) where
   abbrev call : Call
   call = Call.control k a
@@ -192,24 +278,25 @@ module _ (l k a : List ℕ) where
   control-state e = refused-owes l call 15 (rw e)
 
   module _ (good : accepts l ≡ true) where
-    pub control-short : length a < ackLeast → Owes l call (answer.Refused 12) l [] a
+    pub control-short : length a < ackNeed k → Owes l call (answer.Refused 12) l [] a
     unfolding checks controlChecks
-    control-short h = refused-owes l call 12 (rw (good, lt-ltb (length a) ackLeast h))
+    control-short h = refused-owes l call 12 (rw (good, lt-ltb (length a) (ackNeed k) h))
 
-    module _ (room : ackLeast ≤ length a) where
+    module _ (room : ackNeed k ≤ length a) where
       tests : refusal (owedChecks card accepts l call) ≡ refusal (classChecks (card l) k)
       unfolding checks controlChecks
-      tests = rw (good, le-ltb (length a) ackLeast room)
+      tests = rw (good, le-ltb (length a) (ackNeed k) room)
 
       -- one that is done, and one that is refused
       done : refusal (classChecks (card l) k) ≡ none
-          → Owes l call (answer.Done 0) (maybe l (commandBytes l) o) [] (putFields ackFields a 0 (ackValues (ackOf (maybe [] (commandAck (card l)) o))))
+          → Owes l call (answer.Done 0) (maybe l (commandBytes l) o) [] (encodeAck (maybe ack.Done (commandAck (card l)) o) a)
       unfolding effectBytes statusOf effect memoryAfter bufferAfter controlChecks
       done e =
-          let s = left l (accepted l good) o (rest-none (controlChecks k a) (maybe [] (commandChecks (card l)) o) (rw (le-ltb (length a) ackLeast room) e)) in
-          rw (ack-values (card l) o) (done-owes l call (tests ∙ e) (s .0) (s .1) (maybe l (commandBytes l) o) refl)
+          let s = left l (accepted l good) o (rest-none (controlChecks k a) (maybe [] (commandChecks (card l)) o) (rw (le-ltb (length a) (ackNeed k) room) e)) in
+          let p = passed (classChecks (card l) k) e in
+          rw (← said (card l) a o (not-false (isSome o) (p .1 .1 .0))) (done-owes l call (tests ∙ e) (s .0) (s .1) (maybe l (commandBytes l) o) refl)
 
-      no : (n : ℕ) → refusal (classChecks (card l) k) ≡ some n → Owes l call (answer.Refused n) l [] (putFields ackFields a 0 (1 ∷ []))
+      no : (n : ℕ) → refusal (classChecks (card l) k) ≡ some n → Owes l call (answer.Refused n) l [] (encodeAck ack.Error a)
       no n e =
           let x : Bool = not (eqb n 5) in
           let y : Bool = not (eqb n 6) in
@@ -220,12 +307,12 @@ module _ (l k a : List ℕ) where
           at (refused-owes l call n (tests ∙ e))
 
       pub control-done : (p : Outcome) (l′ : List ℕ) → Classed l k p l′ → (x : Ack) → x ≡ outcomeAck p → (r : Answer) → r ≡ outcomeAnswer p
-          → (a′ : List ℕ) → a′ ≡ putFields ackFields a 0 (ackValues x) → Owes l call r l′ [] a′
+          → (a′ : List ℕ) → a′ ≡ encodeAck x a → Owes l call r l′ [] a′
       control-done p l′ d x ex r er a′ ea = go (refusal (classChecks (card l) k)) refl
         where
           go : (m : Option ℕ) → refusal (classChecks (card l) k) ≡ m → Owes l call r l′ [] a′
           go none e =
-              let eo : p ≡ Done (ackOf (maybe [] (commandAck (card l)) o)) = d .outcome ∙ rw e in
+              let eo : p ≡ Done (maybe ack.Done (commandAck (card l)) o) = d .outcome ∙ rw e in
               let el : l′ ≡ maybe l (commandBytes l) o = d .bytes ∙ rw e in
               rw (ea, er, ex, eo, el) (done e)
           go (some n) e =

@@ -19,11 +19,13 @@ use Rattle.tables.specs.Commands.{Command}
 use Rattle.validate.specs.Accept.{accessOk}
 use Rattle.validate.specs.Search.{freePdn, freeCqn, freeMrn}
 use Rattle.tables.specs.declared.Ack.the-variants as ack
+use Rattle.tables.specs.declared.Device.{Device}
+use Rattle.tables.specs.declared.Port.{Port}
 use Rattle.tables.specs.declared.Registration.{Registration}
 use Rattle.rules.specs.Permit.{keyOf}
-use Rattle.rules.specs.Control.{commandChecks, commandAck, nextVariant, newVariant}
+use Rattle.rules.specs.Control.{commandChecks, commandAck, deviceOf, portOf, nextVariant, newVariant}
 use Rattle.rules.specs.Bytes.{commandBytes}
-use Rattle.commands.specs.Control.{Ran, ackOf, bare, inRange, destroyOf, liveOf, usedOf}
+use Rattle.commands.specs.Control.{Ran, bare, inRange, destroyOf, liveOf, usedOf}
 use Rattle.commands.specs.declared.Kind.{Kind}
 use Rattle.commands.specs.declared.Kind.the-variants.{Pd, Cq, Mr, Qp}
 use Rattle.commands.specs.declared.Outcome.{Outcome}
@@ -42,7 +44,7 @@ module _ (l : List ℕ) (q : Command) where
   ran-refused n e = record { outcome = rw e; bytes = rw e }
 
   pub ran-done : refusal (commandChecks (card l) q) ≡ none → (r : Outcome) (l′ : List ℕ)
-      → r ≡ Done (ackOf (commandAck (card l) q)) → l′ ≡ commandBytes l q → Ran l (some q) r l′
+      → r ≡ Done (commandAck (card l) q) → l′ ≡ commandBytes l q → Ran l (some q) r l′
   ran-done e r l′ a b = record { outcome = rw e a; bytes = rw e b }
 
 -- one whose data has not its length
@@ -81,11 +83,11 @@ module _ (l : List ℕ) where
         by Mr = refl
         by Qp = refl
 
-    no-data : commandAck (card l) (destroyOf kind n) ≡ []
+    no-data : commandAck (card l) (destroyOf kind n) ≡ ack.Done
     unfolding commandAck
     no-data = by kind
       where
-        by : (k : Kind) → commandAck (card l) (destroyOf k n) ≡ []
+        by : (k : Kind) → commandAck (card l) (destroyOf k n) ≡ ack.Done
         by Pd = refl
         by Cq = refl
         by Mr = refl
@@ -101,6 +103,15 @@ module _ (l : List ℕ) where
       pub destroy-done : usedOf (card l) kind n ≡ false → (l′ : List ℕ) → l′ ≡ commandBytes l (destroyOf kind n)
           → Ran l (some (destroyOf kind n)) (Done ack.Done) l′
       destroy-done e l′ s = ran-done l (destroyOf kind n) (destroy-tests ∙ rw (live, e)) (Done ack.Done) l′ (rw no-data) s
+
+  -- ---- queries: no test, and nothing is stored
+  pub device-done : (d : Device) → d ≡ deviceOf (card l) → Ran l (some Command.queryDevice) (Done (ack.Device d)) l
+  unfolding commandChecks commandAck commandBytes
+  device-done d e = ran-done l Command.queryDevice refl (Done (ack.Device d)) l (ap (λ (x : Device). Done (ack.Device x)) e) refl
+
+  pub port-done : (p : Port) → p ≡ portOf (card l) → Ran l (some Command.queryPort) (Done (ack.Port p)) l
+  unfolding commandChecks commandAck commandBytes
+  port-done p e = ran-done l Command.queryPort refl (Done (ack.Port p)) l (ap (λ (x : Port). Done (ack.Port x)) e) refl
 
   -- ---- create CQ
   module _ (p : ℕ) where

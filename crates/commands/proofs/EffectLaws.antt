@@ -44,6 +44,15 @@ pub record Kept (l : List ℕ) (q : Command) : Type 0 where
   pub still : Accepted (commandBytes l q)
 
 module _ (l : List ℕ) (ok : Accepted l) where
+  -- ---- queries
+  pub query-device : Kept l Command.queryDevice
+  unfolding commandBytes commandEffect
+  query-device = record { meant = refl; still = ok }
+
+  pub query-port : Kept l Command.queryPort
+  unfolding commandBytes commandEffect
+  query-port = record { meant = refl; still = ok }
+
   -- ---- domains
   domain-flag : (n v : ℕ) → n < pdCount → v ≤ 1 → (isLive v ≡ true) ⊎ (pdInUse (card l) n ≡ false)
       → (card (putRow pdFlagT l n v) ≡ withPd (card l) (upd (card l .pd) n (isLive v))) × Accepted (putRow pdFlagT l n v)

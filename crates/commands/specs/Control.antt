@@ -39,15 +39,9 @@ use Rattle.commands.specs.declared.Outcome.the-variants.{Refused, Done}
 
 -- ---- outcomes
 
--- the column "Ack data", by how many numbers it has
-abbrev pub ackOf : List ℕ → Ack
-ackOf [] = ack.Done
-ackOf (n ∷ []) = ack.Number n
-ackOf (n ∷ key ∷ vs) = ack.Keys n key
-
-abbrev pub outcomeBy : (refused : Option ℕ) (numbers : List ℕ) → Outcome
-outcomeBy none vs = Done (ackOf vs)
-outcomeBy (some n) vs = Refused n
+abbrev pub outcomeBy : (refused : Option ℕ) (said : Ack) → Outcome
+outcomeBy none a = Done a
+outcomeBy (some n) a = Refused n
 
 -- "Any answer but 0 leaves memory, tables and lent bytes unchanged"
 abbrev pub leftBy : (refused : Option ℕ) (before after : List ℕ) → List ℕ
@@ -66,7 +60,7 @@ outcomeAnswer (Done a) = answer.Done 0
 -- ---- what a function owes that runs the command o on the state l after these tests: its outcome r, and the state's bytes l′
 
 pub record Ends (tests : List Check) (l : List ℕ) (o : Option Command) (r : Outcome) (l′ : List ℕ) : Type 0 where
-  pub outcome : r ≡ outcomeBy (refusal tests) (maybe [] (commandAck (card l)) o)
+  pub outcome : r ≡ outcomeBy (refusal tests) (maybe ack.Done (commandAck (card l)) o)
   pub bytes : l′ ≡ leftBy (refusal tests) l (maybe l (commandBytes l) o)
 
 -- "Check order: .. data length 1; then 4, 2, 11, 3, 10, 8": a command whose data has not its length is none
@@ -113,7 +107,7 @@ abbrev pub modifying : ModifyQpRead → Option Command
 modifying (modify.Value r) = some (Command.modifyQp r)
 modifying modify.Wrong = none
 
--- "4 create PD | none": a command without data is two bytes long
+-- "4 create PD | none", and a query: a command without data is two bytes long
 abbrev pub bare : Command → List ℕ → Option Command
 bare q k = cond (eqb (length k) 2) (some q) none
 

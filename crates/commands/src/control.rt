@@ -3,6 +3,7 @@ use crate::Kind;
 use crate::Outcome;
 use crate::control_qp;
 use crate::destroy;
+use crate::query;
 use rules::Answer;
 use rules::numbers::BAD_FIELD;
 use rules::numbers::BAD_RANGE;
@@ -24,6 +25,7 @@ use tables::limits::MOST_ADDRESS;
 use tables::limits::MOST_PLACES;
 use tables::limits::MR_COUNT;
 use tables::limits::PD_COUNT;
+use tables::queries;
 use tables::records;
 use tables::rows;
 use validate::accept;
@@ -40,7 +42,7 @@ ghost use Rattle.validate.specs.Search.{freeCqn, freeMrn};
 ghost use Rattle.tables.specs.State.{card};
 ghost use Rattle.tables.specs.Layout.{stateSize};
 ghost use Rattle.tables.specs.Limits.{cqCount, mrCount, mostPlaces};
-ghost use Rattle.tables.specs.Commands.{Command};
+ghost use Rattle.tables.specs.Commands.{Command, ackNeed};
 ghost use Rattle.rules.specs.Bytes.{commandBytes};
 ghost use Rattle.rules.specs.Call.{Call};
 ghost use Rattle.rules.specs.Contract.{Owes};
@@ -48,12 +50,17 @@ ghost use Rattle.rules.specs.Control.{nextVariant, newVariant};
 ghost use Rattle.rules.specs.Permit.{keyOf};
 ghost use Rattle.commands.specs.Control.{Ran, Chosen, Classed, numbered, registering, bare, inRange, outcomeAck, outcomeAnswer};
 
+// "The ack buffer has at least 13 bytes".
 const ACK_LEAST: usize = 13;
 
 // The class byte and the command byte.
-const HEAD_SIZE: usize = 2;
+pub const HEAD_SIZE: usize = 2;
 
-// The command numbers of document 01's table.
+// The command numbers: the queries of document 02, and document 01's table.
+const QUERY_DEVICE: u8 = 0;
+
+const QUERY_PORT: u8 = 1;
+
 const CREATE_CQ: u8 = 2;
 
 const DESTROY_CQ: u8 = 3;
@@ -214,6 +221,8 @@ fn run(state: &mut [u8], command: &[u8], number: u8) -> Outcome
     ensures { λ r. ⌜ Chosen (now (state .entry)) (now (command .entry)) r (now (state .exit)) ⌝ }
 {
     match number {
+        QUERY_DEVICE => query::query_device(state, command),
+        QUERY_PORT => query::query_port(state, command),
         CREATE_CQ => create_cq(state, records::read_number(command)),
         DESTROY_CQ => destroy::destroy(state, Kind::Cq, records::read_number(command)),
         CREATE_PD => create_pd(state, command),
@@ -223,7 +232,7 @@ fn run(state: &mut [u8], command: &[u8], number: u8) -> Outcome
         CREATE_QP => control_qp::create_qp(state, records::read_create_qp(command)),
         MODIFY_QP => control_qp::modify_qp(state, records::read_modify_qp(command)),
         DESTROY_QP => destroy::destroy(state, Kind::Qp, records::read_number(command)),
-        0..=1 | 6 | 11 | 13..=255 => Outcome::Refused(UNKNOWN),
+        6 | 11 | 13..=255 => Outcome::Refused(UNKNOWN),
     }
 }
 
@@ -234,6 +243,20 @@ fn dispatch(state: &mut [u8], command: &[u8]) -> Outcome
     match records::read_head(command) {
         HeadRead::Number(n) => run(state, command, n),
         HeadRead::Refused(n) => Outcome::Refused(n),
+    }
+}
+
+// The bytes that the ack buffer must have for a command.
+fn ack_need(command: &[u8]) -> usize
+    ensures { λ r. ⌜ r ≡ ackNeed (now (command .entry)) ⌝ }
+{
+    let HeadRead::Number(n) = records::read_head(command) else {
+        return ACK_LEAST;
+    };
+    match n {
+        QUERY_DEVICE => queries::DEVICE_ACK,
+        QUERY_PORT => queries::PORT_ACK,
+        _ => ACK_LEAST,
     }
 }
 
@@ -262,7 +285,7 @@ pub fn control(state: &mut [u8], command: &[u8], ack: &mut [u8]) -> Answer
     if !accept::accepted(state) {
         return Answer::Refused(BAD_STATE);
     }
-    if ack.len() < ACK_LEAST {
+    if ack.len() < ack_need(command) {
         return Answer::Refused(SHORT_BUFFER);
     }
     let o = dispatch(state, command);

@@ -10,7 +10,7 @@ use Rattle.wire.specs.Codec.{fieldsAt, putFields, Fit, within, clear, apart}
 use Rattle.wire.proofs.CodecLaws.{fieldsAt-stored}
 use Rattle.tables.specs.Card.{Card}
 use Rattle.tables.specs.Limits.{pdCount, cqCount, mrCount, qpCount}
-use Rattle.tables.specs.Commands.{Command, ackFields, ackLeast}
+use Rattle.tables.specs.Commands.{Command, ackFields, ackLeast, encodeAck, numbersOf}
 use Rattle.validate.specs.Search.{freePdn, freeCqn, freeMrn, freeQpn}
 use Rattle.rules.specs.Permit.{keyOf}
 use Rattle.rules.specs.Control.{commandChecks, commandAck, newVariant}
@@ -33,8 +33,10 @@ module _ (a : List ℕ) (h : ackLeast ≤ length a) where
       ap (drop 1) (fieldsAt-stored 13 ackFields a 0 (0 ∷ m ∷ i ∷ j ∷ []) tt tt h (omega arith, (x, (y, (z, tt)))))
 
   pub ack-back : (c : Card) (k : Command) → Passed (commandChecks c k) →
-      ackData k (putFields ackFields a 0 (0 ∷ commandAck c k)) ≡ commandAck c k
-  unfolding ackData commandChecks commandAck
+      ackData k (encodeAck (commandAck c k) a) ≡ numbersOf (commandAck c k)
+  unfolding ackData commandChecks commandAck fieldsAt
+  ack-back c Command.queryDevice p = refl
+  ack-back c Command.queryPort p = refl
   ack-back c (Command.createCq n) p = let i : freeCqn c < cqCount = leb-false cqCount (freeCqn c) (p .1 .0) in one-written (freeCqn c) (omega arith)
   ack-back c (Command.destroyCq n) p = none-written
   ack-back c Command.createPd p = let i : freePdn c < pdCount = leb-false pdCount (freePdn c) (p .0) in one-written (freePdn c) (omega arith)

@@ -13,7 +13,8 @@ use Rattle.wire.proofs.ScanLaws.{lowest-passes, and-left, and-off}
 use Rattle.wire.proofs.SlotLaws.{split, same}
 use Rattle.tables.specs.Limits.{mrCount, qpCount, mostAddress}
 use Rattle.tables.specs.Card.{Card, Mr, Qp, fresh}
-use Rattle.tables.specs.Commands.{Command, commandOf, ackLeast, ackFields}
+use Rattle.tables.proofs.AckLaws.{need-least}
+use Rattle.tables.specs.Commands.{Command, commandOf, ackLeast, ackFields, encodeAck, numbersOf, ackNeed}
 use Rattle.tables.specs.Records.{sendChecks}
 use Rattle.rules.specs.Lists.{isSome, isEmpty, names, orElse, maybe}
 use Rattle.rules.specs.Touch.{Request, requestOf, receiveIn, takes}
@@ -46,8 +47,10 @@ Agree c l = Agreed (c .memory) (c .mr) (c .qp) (standing l) (dropped l) (said l)
 -- ---- control commands
 
 module _ (c : Card) (l : Log) (a : Agree c l) where
-  command : (k : Command) → Passed (commandChecks c k) → Agree (commandEffect c k) (noteCommand k (commandAck c k) ∷ l)
+  command : (k : Command) → Passed (commandChecks c k) → Agree (commandEffect c k) (noteCommand k (numbersOf (commandAck c k)) ∷ l)
   unfolding commandChecks commandEffect commandAck standing dropped told domain peer accepted taken
+  command Command.queryDevice p = a
+  command Command.queryPort p = a
   command (Command.createCq n) p = a
   command (Command.destroyCq n) p = a
   command Command.createPd p = a
@@ -146,11 +149,14 @@ accepted-call c (Call.control k b) l p a =
     known (commandOf k) (passed-after (controlChecks k b) (maybe [] (commandChecks c) (commandOf k)) p)
   where
     wide : ackLeast ≤ length b
-    wide = ltb-false (length b) ackLeast (passed-before (controlChecks k b) (maybe [] (commandChecks c) (commandOf k)) p .0)
+    wide =
+        let n : ackNeed k ≤ length b = ltb-false (length b) (ackNeed k) (passed-before (controlChecks k b) (maybe [] (commandChecks c) (commandOf k)) p .0) in
+        let m : ackLeast ≤ ackNeed k = need-least k in
+        omega arith
 
     known : (o : Option Command) → Passed (maybe [] (commandChecks c) o) →
         Agree (maybe c (commandEffect c) o)
-        (maybe Note.other (λ x. noteCommand x (maybe [] (λ y. ackData y (putFields ackFields b 0 (0 ∷ maybe [] (commandAck c) o))) o)) o ∷ l)
+        (maybe Note.other (λ x. noteCommand x (maybe [] (λ y. ackData y (maybe b (λ q. encodeAck (commandAck c q) b) o)) o)) o ∷ l)
     known none t = a
     known (some x) t = rw (ack-back b wide c x t) (command c l a x t)
 accepted-call c (Call.send q x m) l p a =

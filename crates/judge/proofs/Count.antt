@@ -12,7 +12,8 @@ use Rattle.wire.specs.Checks.{Passed}
 use Rattle.wire.proofs.ScanLaws.{and-left}
 use Rattle.wire.proofs.SlotLaws.{split, same}
 use Rattle.tables.specs.Card.{Card, Cq, Qp, Receive, freeCq, tail}
-use Rattle.tables.specs.Commands.{Command, commandOf, ackLeast, ackFields}
+use Rattle.tables.proofs.AckLaws.{need-least}
+use Rattle.tables.specs.Commands.{Command, commandOf, ackLeast, ackFields, encodeAck, numbersOf, ackNeed}
 use Rattle.validate.specs.Search.{freeCqn, freeQpn}
 use Rattle.tables.specs.declared.Completion.{Completion}
 use Rattle.rules.specs.Lists.{isEmpty, when, maybe}
@@ -55,6 +56,8 @@ emptied false s t e = refl
 
 command-puts : (c : Card) (k : Command) (n : ℕ) → commandEffect c k .cq n .entries ≡ staysBy c k n (c .cq n .entries)
 unfolding commandEffect
+command-puts c Command.queryDevice n = refl
+command-puts c Command.queryPort n = refl
 command-puts c (Command.createCq p) n = emptied (eqb (freeCqn c) n) (record { live = true; places = p; entries = [] }) (c .cq n) refl
 command-puts c (Command.destroyCq i) n = emptied (eqb i n) freeCq (c .cq n) refl
 command-puts c Command.createPd n = refl
@@ -105,7 +108,7 @@ same-sums s t h e = let k = h e in omega arith
 
 module _ (c : Card) (t : ℕ → Tally) (a : Counts (c .qp) t) where
   abbrev Command-counts : Command → Type 0
-  Command-counts k = (q : ℕ) → Sums (commandEffect c k .qp q) (noted (noteCommand k (commandAck c k)) q (length (c .qp q .waiting)) (t q))
+  Command-counts k = (q : ℕ) → Sums (commandEffect c k .qp q) (noted (noteCommand k (numbersOf (commandAck c k))) q (length (c .qp q .waiting)) (t q))
 
   moved-sums : (s : Qp) (v : Tally) (z : Bool) → v .accepted ≡ v .put + v .dropped + length (s .waiting) →
       let v′ = cond z (record { accepted = v .accepted; put = v .put; dropped = v .dropped + length (s .waiting) }) v in
@@ -115,6 +118,8 @@ module _ (c : Card) (t : ℕ → Tally) (a : Counts (c .qp) t) where
 
   command : (k : Command) → Command-counts k
   unfolding commandEffect commandAck
+  command Command.queryDevice = a
+  command Command.queryPort = a
   command (Command.createCq n) = a
   command (Command.destroyCq n) = a
   command Command.createPd = a
@@ -226,16 +231,19 @@ counts-call c (Call.control k b) l t p a =
     known (commandOf k) (passed-after (controlChecks k b) (maybe [] (commandChecks c) (commandOf k)) p)
   where
     wide : ackLeast ≤ length b
-    wide = ltb-false (length b) ackLeast (passed-before (controlChecks k b) (maybe [] (commandChecks c) (commandOf k)) p .0)
+    wide =
+        let n : ackNeed k ≤ length b = ltb-false (length b) (ackNeed k) (passed-before (controlChecks k b) (maybe [] (commandChecks c) (commandOf k)) p .0) in
+        let m : ackLeast ≤ ackNeed k = need-least k in
+        omega arith
 
     known : (o : Option Command) → Passed (maybe [] (commandChecks c) o) →
         Counts (maybe c (commandEffect c) o .qp)
-        (λ q. completed 0 (noted (maybe Note.other (λ x. noteCommand x (maybe [] (λ y. ackData y (putFields ackFields b 0 (0 ∷ maybe [] (commandAck c) o))) o)) o)
+        (λ q. completed 0 (noted (maybe Note.other (λ x. noteCommand x (maybe [] (λ y. ackData y (maybe b (λ q. encodeAck (commandAck c q) b) o)) o)) o)
         q (length (c .qp q .waiting)) (t q)))
     known none s = λ q. same-sums (c .qp q) (t q) (a q)
     known (some x) s =
         rw (ack-back b wide c x s)
-        (λ q. same-sums (commandEffect c x .qp q) (noted (noteCommand x (commandAck c x)) q (length (c .qp q .waiting)) (t q)) (command c t a x q))
+        (λ q. same-sums (commandEffect c x .qp q) (noted (noteCommand x (numbersOf (commandAck c x))) q (length (c .qp q .waiting)) (t q)) (command c t a x q))
 counts-call c (Call.send q x m) l t p a =
     let o = sendable c q x m p in
     let r : Request = requestOf x in

@@ -39,6 +39,8 @@ putInto n (p ∷ ps) = cond (eqb (p .cqn) n) (p .entry ∷ putInto n ps) (putInt
 
 -- what stays of the unread completions es of queue n: a new queue has none, and one that is destroyed takes them along,
 abbrev pub staysBy : Card → Command → (n : ℕ) → List Completion → List Completion
+staysBy c Command.queryDevice n es = es
+staysBy c Command.queryPort n es = es
 staysBy c (Command.createCq p) n es = cond (eqb (freeCqn c) n) [] es
 staysBy c (Command.destroyCq i) n es = cond (eqb i n) [] es
 staysBy c Command.createPd n es = es

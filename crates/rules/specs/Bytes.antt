@@ -61,6 +61,8 @@ movedHead h t = record { first = h .first; count = cond (eqb t 0) 0 (h .count) }
 -- ---- control commands
 
 unfoldable pub commandBytes : List ℕ → Command → List ℕ
+commandBytes l Command.queryDevice = l
+commandBytes l Command.queryPort = l
 commandBytes l (Command.createCq n) = let k = freeCqn (card l) in putRow cqFlagT (putRow cqT l k (emptyQueue n)) k 1
 commandBytes l (Command.destroyCq n) = putRow cqFlagT l n 0
 commandBytes l Command.createPd = putRow pdFlagT l (freePdn (card l)) 1

@@ -8,12 +8,13 @@ use Prim.Native.Nat.{ℕ, _+_}
 use lib.Dec.{eqb, ltb}
 use lib.ListN.{length}
 use Rattle.wire.specs.Checks.{Check, _if_, refusal}
-use Rattle.wire.specs.Codec.{putFields, encode}
+use Rattle.wire.specs.Codec.{encode}
 use Rattle.wire.specs.Le.{leAt}
 use Rattle.validate.specs.Accept.{memoryOk}
 use Rattle.tables.specs.Layout.{stateSize}
 use Rattle.tables.specs.Card.{Card, fresh}
-use Rattle.tables.specs.Commands.{controlClass, ackFields, ackLeast, dataSize, commandOf}
+use Rattle.tables.specs.Commands.{controlClass, encodeAck, ackNeed, dataSize, commandOf}
+use Rattle.tables.specs.declared.Ack.the-variants as ack
 use Rattle.tables.specs.Records.{sendChecks, receiveChecks, completionCodec}
 use Rattle.rules.specs.Lists.{isSome, maybe}
 use Rattle.rules.specs.declared.Answer.{Answer}
@@ -33,7 +34,7 @@ resetChecks n = 11 if not (memoryOk n) ∷ []
 -- "Check order: 12; fewer than two bytes 1; 13; data length 1"
 unfoldable pub controlChecks : (k a : List ℕ) → List Check
 controlChecks k a =
-    12 if ltb (length a) ackLeast ∷
+    12 if ltb (length a) (ackNeed k) ∷
     1 if ltb (length k) 2 ∷
     13 if not (eqb (leAt 1 k 0) controlClass) ∷
     13 if not (isSome (commandOf k)) ∷
@@ -82,7 +83,7 @@ memoryAfter c (Call.poll n b) = []
 -- "On OK the ack byte and its data are written, later bytes stay"; a completion "fills the first 24 bytes"
 unfoldable pub bufferAfter : Card → Call → List ℕ
 bufferAfter c (Call.reset n) = []
-bufferAfter c (Call.control k a) = putFields ackFields a 0 (0 ∷ maybe [] (commandAck c) (commandOf k))
+bufferAfter c (Call.control k a) = maybe a (λ q. encodeAck (commandAck c q) a) (commandOf k)
 bufferAfter c (Call.send q x m) = []
 bufferAfter c (Call.receive q x) = []
 bufferAfter c (Call.flush q) = []
@@ -93,7 +94,7 @@ bufferAfter c (Call.poll n b) = encode completionCodec b 0 (oldestEntry c n)
 -- "a control refusal other than 12 and 15 writes 1 as the first ack byte"
 abbrev pub bufferRefused : (n : ℕ) → Call → List ℕ
 bufferRefused n (Call.reset k) = []
-bufferRefused n (Call.control k a) = cond (eqb n 12 || eqb n 15) a (putFields ackFields a 0 (1 ∷ []))
+bufferRefused n (Call.control k a) = cond (eqb n 12 || eqb n 15) a (encodeAck ack.Error a)
 bufferRefused n (Call.send q x m) = []
 bufferRefused n (Call.receive q x) = []
 bufferRefused n (Call.flush q) = []

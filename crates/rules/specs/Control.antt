@@ -1,4 +1,5 @@
--- Document 01, "Control commands": for each command its tests in order, its ack data, and the card after it. Assumes nothing.
+-- Document 01, "Control commands", and the queries of 02, M-100: for each command its tests in order, its ack, and the card after it.
+-- Assumes nothing.
 use mathlib.Core.Bool.{Bool, true, false, cond, not, _&&_, _||_}
 use mathlib.Core.List.{List, [], _∷_}
 use mathlib.Core.Option.{none, some}
@@ -6,10 +7,14 @@ use Prim.Native.Nat.{ℕ, _+_}
 use lib.Dec.{eqb, ltb, leb}
 use Rattle.wire.specs.Checks.{Check, _if_, has, only}
 use Rattle.wire.specs.Slots.{upd}
-use Rattle.tables.specs.Limits.{pdCount, cqCount, mrCount, qpCount, mostPlaces, mostAddress}
+use Rattle.tables.specs.Limits.{pdCount, cqCount, mrCount, qpCount, mostPlaces, mostWaiting, mostAddress, mostMessage, mostSges, mostReceiveSges}
 use Rattle.tables.specs.Card.{Card, Qp, withPd, withCq, withMr, withQp, freeCq, freeMr, freeQp, cqLive}
 use Rattle.validate.specs.Accept.{isState, accessOk}
 use Rattle.tables.specs.Commands.{Command}
+use Rattle.tables.specs.declared.Ack.{Ack}
+use Rattle.tables.specs.declared.Ack.the-variants as ack
+use Rattle.tables.specs.declared.Device.{Device}
+use Rattle.tables.specs.declared.Port.{Port}
 use Rattle.validate.specs.Search.{freePdn, freeCqn, freeMrn, freeQpn, pdInUse, cqInUse}
 use Rattle.rules.specs.Permit.{keyOf}
 
@@ -38,6 +43,8 @@ destBit = 32768
 -- ---- the tests of each command, in the order 4, 2, 11, 3, 10, 8
 
 unfoldable pub commandChecks : Card → Command → List Check
+commandChecks c Command.queryDevice = []
+commandChecks c Command.queryPort = []
 commandChecks c (Command.createCq n) = 4 if not (leb 1 n && leb n mostPlaces) ∷ 8 if leb cqCount (freeCqn c) ∷ []
 commandChecks c (Command.destroyCq n) = 2 if not (cqLive c n) ∷ 10 if cqInUse c n ∷ []
 commandChecks c Command.createPd = 8 if leb pdCount (freePdn c) ∷ []
@@ -72,18 +79,33 @@ commandChecks c (Command.modifyQp r) =
     []
 commandChecks c (Command.destroyQp q) = 2 if not (c .qp q .live) ∷ []
 
--- ---- the ack data: the column of that name
+-- ---- the acks: 01's column "ack data", and what a query reports
 
-unfoldable pub commandAck : Card → Command → List ℕ
-commandAck c (Command.createCq n) = freeCqn c ∷ []
-commandAck c (Command.destroyCq n) = []
-commandAck c Command.createPd = freePdn c ∷ []
-commandAck c (Command.destroyPd n) = []
-commandAck c (Command.register g) = freeMrn c ∷ keyOf (freeMrn c) (newVariant c) ∷ keyOf (freeMrn c) (newVariant c) ∷ []
-commandAck c (Command.deregister n) = []
-commandAck c (Command.createQp r) = freeQpn c ∷ []
-commandAck c (Command.modifyQp r) = []
-commandAck c (Command.destroyQp q) = []
+-- "Device: flags 0, largest region the memory length, page size mask 4096, version 1, then in 001's order 4, 4, 2, 4, 16, 32, 8, 1, 1, 0, delay 0"
+unfoldable pub deviceOf : Card → Device
+deviceOf c =
+    record {
+      caps = record { flags = 0; region = c .memory; page = 4096; version = 1 };
+      work = record { requests = mostWaiting; sends = mostSges; receives = mostReceiveSges; reads = mostSges; entries = mostPlaces };
+      objects = record { regions = mrCount; domains = pdCount; responses = 1; initiations = 1; handles = 0; delay = 0 };
+    }
+
+-- "Port: GID length 0, message size 4096"
+unfoldable pub portOf : Card → Port
+portOf c = record { gids = 0; message = mostMessage }
+
+unfoldable pub commandAck : Card → Command → Ack
+commandAck c Command.queryDevice = ack.Device (deviceOf c)
+commandAck c Command.queryPort = ack.Port (portOf c)
+commandAck c (Command.createCq n) = ack.Number (freeCqn c)
+commandAck c (Command.destroyCq n) = ack.Done
+commandAck c Command.createPd = ack.Number (freePdn c)
+commandAck c (Command.destroyPd n) = ack.Done
+commandAck c (Command.register g) = ack.Keys (freeMrn c) (keyOf (freeMrn c) (newVariant c))
+commandAck c (Command.deregister n) = ack.Done
+commandAck c (Command.createQp r) = ack.Number (freeQpn c)
+commandAck c (Command.modifyQp r) = ack.Done
+commandAck c (Command.destroyQp q) = ack.Done
 
 -- ---- the card after it
 
@@ -102,6 +124,8 @@ moved s t d =
     }
 
 unfoldable pub commandEffect : Card → Command → Card
+commandEffect c Command.queryDevice = c
+commandEffect c Command.queryPort = c
 commandEffect c (Command.createCq n) = withCq c (upd (c .cq) (freeCqn c) (record { live = true; places = n; entries = [] }))
 commandEffect c (Command.destroyCq n) = withCq c (upd (c .cq) n freeCq)
 commandEffect c Command.createPd = withPd c (upd (c .pd) (freePdn c) true)

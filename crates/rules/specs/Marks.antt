@@ -8,7 +8,7 @@ use lib.ListN.{drop}
 use Rattle.wire.specs.Scan.{all}
 use Rattle.wire.specs.Checks.{refusal}
 use Rattle.tables.specs.Card.{Card, fresh}
-use Rattle.tables.specs.Commands.{Command}
+use Rattle.tables.specs.Commands.{Command, numbersOf}
 use Rattle.tables.specs.declared.Registration.{Registration}
 use Rattle.rules.specs.Lists.{All}
 use Rattle.rules.specs.Touch.{Byte, range}
@@ -98,7 +98,7 @@ ask (byte a k) = verdict platform (range a k 1) (at (place platform (record { ad
 ask (stands k) = verdict renewed (range 4096 k 1) permitted
 ask wrapped =
     let k = Command.register (region 256 4096) in
-    keys (drop 1 (commandAck nearlyFull k)) (drop 1 (commandAck (after nearlyFull (k ∷ Command.deregister 31 ∷ [])) k))
+    keys (drop 1 (numbersOf (commandAck nearlyFull k))) (drop 1 (numbersOf (commandAck (after nearlyFull (k ∷ Command.deregister 31 ∷ [])) k)))
 ask (registers s v) = answer (refusal (commandChecks platform (Command.register (region s v))))
 
 -- ---- the table

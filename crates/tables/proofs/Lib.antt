@@ -1,3 +1,4 @@
+pub mod AckLaws
 pub mod ReadingLaws
 pub mod KindLaws
 pub mod StoreLaws

@@ -8,9 +8,11 @@ use lib.ListN.{replicate, length}
 use Rattle.wire.specs.Codec.{Codec, decode, encode, fieldsAt, putFields}
 use Rattle.wire.specs.Le.{leAt, putLe}
 use Rattle.wire.specs.Rows.{rows, rowsFrom}
-use Rattle.tables.specs.Commands.{Command, commandOf, numberCodec, registerCodec, createQpCodec, modifyQpCodec}
+use Rattle.tables.specs.Commands.{Command, commandOf, encodeAck, ackNeed, numberCodec, registerCodec, createQpCodec, modifyQpCodec}
 use Rattle.tables.specs.Layout.{queueCodec, regionCodec, pairCodec, waitingCodec, pdFlagBase, cqFlagBase, cqBase, entryBase, mrFlagBase, mrBase, qpFlagBase, qpBase, waitingBase, receiveBase, stateSize}
 use Rattle.tables.specs.Records.{sgeCodec, sendCodec, sendSge, inlineBytes, inlineLength, receiveCodec, receiveSges, completionCodec}
+use Rattle.tables.specs.Queries.{deviceCodec, portCodec}
+use Rattle.tables.specs.declared.Ack.the-variants.{Device, Port}
 use Rattle.tables.specs.declared.Sge.{Sge}
 
 -- the bytes read as the value, and the value is written as those bytes over others
@@ -47,6 +49,35 @@ modify-read = refl
 pub none-read : commandOf (6 ∷ 6 ∷ []) ≡ none
 unfolding leAt commandOf
 none-read = refl
+
+-- ---- acks
+
+-- 02, M-100: the ack byte, then 001's struct of 128 bytes, its rest zero; a byte behind it stays
+pub device-ack : encodeAck
+    (Device
+    (record {
+      caps = record { flags = 1 + 2 * 2 ^ 56; region = 3 + 4 * 2 ^ 56; page = 5 + 6 * 2 ^ 56; version = 7 + 8 * 2 ^ 24 };
+      work = record { requests = 9 + 10 * 2 ^ 24; sends = 11; receives = 12; reads = 13; entries = 14 };
+      objects = record { regions = 15; domains = 16; responses = 17; initiations = 18; handles = 19 + 20 * 2 ^ 24; delay = 21 };
+    }))
+    (replicate 130 99)
+    ≡ 0 ∷ 1 ∷ 0 ∷ 0 ∷ 0 ∷ 0 ∷ 0 ∷ 0 ∷ 2 ∷ 3 ∷ 0 ∷ 0 ∷ 0 ∷ 0 ∷ 0 ∷ 0 ∷ 4 ∷ 5 ∷ 0 ∷ 0 ∷ 0 ∷ 0 ∷ 0 ∷ 0 ∷ 6 ∷ 7 ∷ 0 ∷ 0 ∷ 8 ∷
+    9 ∷ 0 ∷ 0 ∷ 10 ∷ 11 ∷ 0 ∷ 0 ∷ 0 ∷ 12 ∷ 0 ∷ 0 ∷ 0 ∷ 13 ∷ 0 ∷ 0 ∷ 0 ∷ 14 ∷ 0 ∷ 0 ∷ 0 ∷
+    15 ∷ 0 ∷ 0 ∷ 0 ∷ 16 ∷ 0 ∷ 0 ∷ 0 ∷ 17 ∷ 0 ∷ 0 ∷ 0 ∷ 18 ∷ 0 ∷ 0 ∷ 0 ∷ 19 ∷ 0 ∷ 0 ∷ 20 ∷ 21 ∷ (replicate 59 0 ++ (99 ∷ []))
+unfolding putFields putLe deviceCodec
+device-ack = refl
+
+-- the ack byte, then 001's struct of 32 bytes, its rest zero
+pub port-ack : encodeAck (Port (record { gids = 1 + 2 * 2 ^ 24; message = 3 + 4 * 2 ^ 24 })) (replicate 34 99)
+    ≡ 0 ∷ 1 ∷ 0 ∷ 0 ∷ 2 ∷ 3 ∷ 0 ∷ 0 ∷ 4 ∷ (replicate 24 0 ++ (99 ∷ []))
+unfolding putFields putLe portCodec
+port-ack = refl
+
+-- the bytes that an ack buffer must have: `06 00`, `06 01`, also with data; `06` alone, another class and another command keep 13
+pub needs : ackNeed (6 ∷ 0 ∷ []) ∷ ackNeed (6 ∷ 0 ∷ 9 ∷ []) ∷ ackNeed (6 ∷ 1 ∷ []) ∷ ackNeed (6 ∷ []) ∷ ackNeed (5 ∷ 0 ∷ []) ∷ ackNeed (6 ∷ 2 ∷ []) ∷ ackNeed [] ∷ []
+    ≡ 129 ∷ 129 ∷ 33 ∷ 13 ∷ 13 ∷ 13 ∷ 13 ∷ []
+unfolding ackNeed commandOf leAt
+needs = refl
 
 -- ---- work requests
 

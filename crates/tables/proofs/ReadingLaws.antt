@@ -17,10 +17,8 @@ use Rattle.wire.specs.Le.{leAt, putLe}
 use Rattle.wire.proofs.CodecLaws.{both, fieldsAt-stored, putFields-outside}
 use Rattle.wire.proofs.LeLaws.{leAt-below, leAt-split}
 use Rattle.tables.specs.Limits.{mostSges, mostInline, mostReceiveSges}
-use Rattle.tables.specs.Commands.{controlClass, headRead, headReadBy, ackFields, ackLeast, ackValues}
+use Rattle.tables.specs.Commands.{controlClass, headRead, headReadBy}
 use Rattle.tables.specs.Records.{sgeCodec, sgeAt, noSge, sendCodec, flagBits, isInline, inlineLength, sendChecks, sendRead, sendReadBy, sendBad, sendSize, receiveCodec, receiveChecks, receiveRead}
-use Rattle.tables.specs.declared.Ack.{Ack}
-use Rattle.tables.specs.declared.Ack.the-variants.{Error, Done, Number, Keys}
 use Rattle.tables.specs.declared.HeadRead.the-variants as head
 use Rattle.tables.specs.declared.ReceiveRecord.{ReceiveRecord}
 use Rattle.tables.specs.declared.ReceiveRead.the-variants as receive
@@ -168,76 +166,3 @@ module _ (x : List ℕ) where
             go w (yes y) = inr y
             go (inl a) (no y) = inl (omega arith)
             go (inr a) (no y) = inl (omega arith)
-
--- ---- an ack
-
-each : (a b : Bool) → T a → T b → T (a && b)
-each true b s t = t
-each false b s t = absurd s
-
--- values for a part of the fields are stored in that part
-put-part : (fs : List Field) (l : List ℕ) (at : ℕ) (vs : List ℕ) → putFields fs l at vs ≡ putFields (take (length vs) fs) l at vs
-unfolding putFields
-put-part [] l at [] = refl
-put-part [] l at (v ∷ vs) = refl
-put-part (f ∷ fs) l at [] = refl
-put-part (f ∷ fs) l at (v ∷ vs) = put-part fs (putLe (f .width) l (at + f .offset) v) at vs
-
-within-part : (size n : ℕ) (fs : List Field) → T (within size fs) → T (within size (take n fs))
-unfolding within
-within-part size zero fs t = tt
-within-part size (suc n) [] t = tt
-within-part size (suc n) (f ∷ fs) t =
-    let p = both (leb (f .offset + f .width) size) (within size fs) t in
-    each (leb (f .offset + f .width) size) (within size (take n fs)) (p .0) (within-part size n fs (p .1))
-
-clear-part : (g : Field) (n : ℕ) (fs : List Field) → T (clear g fs) → T (clear g (take n fs))
-unfolding clear
-clear-part g zero fs t = tt
-clear-part g (suc n) [] t = tt
-clear-part g (suc n) (f ∷ fs) t =
-    let b : Bool = leb (g .offset + g .width) (f .offset) || leb (f .offset + f .width) (g .offset) in
-    let p = both b (clear g fs) t in
-    each b (clear g (take n fs)) (p .0) (clear-part g n fs (p .1))
-
-apart-part : (n : ℕ) (fs : List Field) → T (apart fs) → T (apart (take n fs))
-unfolding apart
-apart-part zero fs t = tt
-apart-part (suc n) [] t = tt
-apart-part (suc n) (f ∷ fs) t =
-    let p = both (clear f fs) (apart fs) t in
-    each (clear f (take n fs)) (apart (take n fs)) (clear-part f n fs (p .0)) (apart-part n fs (p .1))
-
--- values that were stored in the first fields are read back
-pub part-stored : (size : ℕ) (fs : List Field) (l : List ℕ) (at : ℕ) (vs : List ℕ) → T (within size fs) → T (apart fs)
-    → at + size ≤ length l → Fit (take (length vs) fs) vs → fieldsAt (take (length vs) fs) (putFields fs l at vs) at ≡ vs
-part-stored size fs l at vs t a h b =
-    rw (put-part fs l at vs)
-    (fieldsAt-stored size (take (length vs) fs) l at vs (within-part size (length vs) fs t) (apart-part (length vs) fs a) h b)
-
--- the fields of an ack, and its bytes
-abbrev pub ackPart : Ack → List Field
-ackPart a = take (length (ackValues a)) ackFields
-
-abbrev pub ackSize : Ack → ℕ
-ackSize Error = 1
-ackSize Done = 1
-ackSize (Number n) = 5
-ackSize (Keys n key) = 13
-
--- an ack's numbers are read back
-pub ack-back : (a : Ack) (l : List ℕ) → ackLeast ≤ length l → Fit (ackPart a) (ackValues a)
-    → fieldsAt (ackPart a) (putFields ackFields l 0 (ackValues a)) 0 ≡ ackValues a
-unfolding within apart clear
-ack-back a l h f = part-stored ackLeast ackFields l 0 (ackValues a) tt tt (omega arith) f
-
--- "later bytes stay"
-pub ack-after : (a : Ack) (l : List ℕ) (i : ℕ) → ackSize a ≤ i → getD (putFields ackFields l 0 (ackValues a)) i 0 ≡ getD l i 0
-unfolding within
-ack-after a l i h = rw (put-part ackFields l 0 (ackValues a)) (putFields-outside (ackSize a) (ackPart a) l 0 (ackValues a) (ends a) i (inr (omega arith)))
-  where
-    ends : (a : Ack) → T (within (ackSize a) (ackPart a))
-    ends Error = tt
-    ends Done = tt
-    ends (Number n) = tt
-    ends (Keys n key) = tt

@@ -1,17 +1,18 @@
 -- Document 01, "Control commands": "Class byte 6, command byte, data. The ack buffer". Each command's data by its layout, the command that
 -- a record is, and the acks. Laws: proofs/ReadingLaws.antt. Assumes nothing.
 use mathlib.Core.Path.{refl}
-use mathlib.Core.Bool.{cond, not}
+use mathlib.Core.Bool.{cond, not, _&&_}
 use mathlib.Core.Option.{Option, none, some}
 use mathlib.Core.List.{List, [], _∷_}
 use Prim.Native.Nat.{ℕ, _+_}
-use lib.Dec.{eqb, ltb}
+use lib.Dec.{eqb, ltb, leb}
 use lib.ListN.{length, getD}
 use Rattle.wire.specs.Checks.{Check, _if_, refusal}
-use Rattle.wire.specs.Codec.{Codec, Field, field, line, decode, within, clear, apart}
+use Rattle.wire.specs.Codec.{Codec, Field, field, line, decode, encode, putFields, within, clear, apart}
 use Rattle.wire.specs.Le.{leAt}
+use Rattle.tables.specs.Queries.{deviceCodec, portCodec}
 use Rattle.tables.specs.declared.Ack.{Ack}
-use Rattle.tables.specs.declared.Ack.the-variants.{Error, Done, Number, Keys}
+use Rattle.tables.specs.declared.Ack.the-variants.{Error, Done, Number, Keys, Device, Port}
 use Rattle.tables.specs.declared.CreateQp.{CreateQp}
 use Rattle.tables.specs.declared.CreateQpRead.{CreateQpRead}
 use Rattle.tables.specs.declared.CreateQpRead.the-variants as create
@@ -102,8 +103,10 @@ modifyQpCodec = record {
 
 -- ---- commands
 
--- a control command and its data, in the order of 01's table
+-- a control command and its data: the queries of 02, M-100, and then those of 01's table in its order
 pub data Command : Type 0 where
+  queryDevice : Command
+  queryPort : Command
   createCq : (places : ℕ) → Command
   destroyCq : (cqn : ℕ) → Command
   createPd : Command
@@ -114,12 +117,14 @@ pub data Command : Type 0 where
   modifyQp : ModifyQp → Command
   destroyQp : (qpn : ℕ) → Command
 
--- "class byte, command byte, data": the command that a record is by its command byte; none for a number that is not in 01's table
+-- "class byte, command byte, data": the command that a record is by its command byte; none for a number that is no command's
 unfoldable pub commandOf : (k : List ℕ) → Option Command
 commandOf k =
     let n : ℕ = leAt 1 k 1 in
     let x : ℕ = decode numberCodec k 2 in
-    cond (eqb n 2) (some (createCq x))
+    cond (eqb n 0) (some queryDevice)
+    (cond (eqb n 1) (some queryPort)
+    (cond (eqb n 2) (some (createCq x))
     (cond (eqb n 3) (some (destroyCq x))
     (cond (eqb n 4) (some createPd)
     (cond (eqb n 5) (some (destroyPd x))
@@ -127,10 +132,12 @@ commandOf k =
     (cond (eqb n 8) (some (deregister x))
     (cond (eqb n 9) (some (createQp (decode createQpCodec k 2)))
     (cond (eqb n 10) (some (modifyQp (decode modifyQpCodec k 2)))
-    (cond (eqb n 12) (some (destroyQp x)) none))))))))
+    (cond (eqb n 12) (some (destroyQp x)) none))))))))))
 
 -- the length of a command's data
 unfoldable pub dataSize : Command → ℕ
+dataSize queryDevice = 0
+dataSize queryPort = 0
 dataSize (createCq n) = numberCodec .size
 dataSize (destroyCq n) = numberCodec .size
 dataSize createPd = 0
@@ -170,17 +177,71 @@ modifyQpRead k = cond (eqb (length k) (2 + modifyQpCodec .size)) (modify.Value (
 
 -- ---- acks
 
--- "ack 0 is OK, 1 is error": the ack byte, then up to three numbers. A writer stops where its values stop.
+-- "ack 0 is OK, 1 is error"
+abbrev pub ackByte : Ack → ℕ
+ackByte Error = 1
+ackByte Done = 0
+ackByte (Number n) = 0
+ackByte (Keys n key) = 0
+ackByte (Device d) = 0
+ackByte (Port p) = 0
+
+-- its numbers, up to three
+abbrev pub numbersOf : Ack → List ℕ
+numbersOf Error = []
+numbersOf Done = []
+numbersOf (Number n) = n ∷ []
+numbersOf (Keys n key) = n ∷ key ∷ key ∷ []
+numbersOf (Device d) = []
+numbersOf (Port p) = []
+
+-- the ack byte, and the numbers behind it; a writer stops where its values stop
 abbrev pub ackFields : List Field
 ackFields = field 0 1 ∷ field 1 4 ∷ field 5 4 ∷ field 9 4 ∷ []
 
--- "The ack buffer has at least 13 bytes"
+-- what a query reports, behind the ack byte
+abbrev pub reported : Ack → List ℕ → List ℕ
+reported Error b = b
+reported Done b = b
+reported (Number n) b = b
+reported (Keys n key) b = b
+reported (Device d) b = encode deviceCodec b 1 d
+reported (Port p) b = encode portCodec b 1 p
+
+-- an ack, stored over the buffer b
+abbrev pub encodeAck : Ack → List ℕ → List ℕ
+encodeAck a b = reported a (putFields ackFields b 0 (ackByte a ∷ numbersOf a))
+
+-- the bytes of an ack
+abbrev pub ackSize : Ack → ℕ
+ackSize Error = 1
+ackSize Done = 1
+ackSize (Number n) = 5
+ackSize (Keys n key) = 13
+ackSize (Device d) = 129
+ackSize (Port p) = 33
+
+-- "The ack buffer has at least 13 bytes"; 02: "fewer than 129 or 33 bytes"
 abbrev pub ackLeast : ℕ
 ackLeast = 13
 
--- the values of an ack: the ack byte, then its numbers
-abbrev pub ackValues : Ack → List ℕ
-ackValues Error = 1 ∷ []
-ackValues Done = 0 ∷ []
-ackValues (Number n) = 0 ∷ n ∷ []
-ackValues (Keys n key) = 0 ∷ n ∷ key ∷ key ∷ []
+abbrev pub ackRoom : Command → ℕ
+ackRoom queryDevice = 129
+ackRoom queryPort = 33
+ackRoom (createCq n) = ackLeast
+ackRoom (destroyCq n) = ackLeast
+ackRoom createPd = ackLeast
+ackRoom (destroyPd n) = ackLeast
+ackRoom (register g) = ackLeast
+ackRoom (deregister n) = ackLeast
+ackRoom (createQp r) = ackLeast
+ackRoom (modifyQp r) = ackLeast
+ackRoom (destroyQp q) = ackLeast
+
+abbrev pub roomBy : Option Command → ℕ
+roomBy none = ackLeast
+roomBy (some k) = ackRoom k
+
+-- "Where a record's first two bytes name one of these": a record of one byte names none
+unfoldable pub ackNeed : List ℕ → ℕ
+ackNeed k = cond (leb 2 (length k) && eqb (leAt 1 k 0) controlClass) (roomBy (commandOf k)) ackLeast

@@ -1,5 +1,6 @@
 pub mod Limits
 pub mod Records
+pub mod Queries
 pub mod Commands
 pub mod Card
 pub mod Layout

@@ -1,5 +1,6 @@
 // The lower part: the records' layouts and the card's tables in the lent state.
 pub mod limits;
+pub mod queries;
 pub mod queue;
 pub mod records;
 pub mod reset;
@@ -154,10 +155,63 @@ pub enum ModifyQpRead {
     Wrong,
 }
 
-// What an ack says: error; OK; OK and a number; OK, a region's number, and its key as lkey and as rkey.
+// The ack of command 0, query device, in 001's order: what the device is, its work requests, and its objects.
+pub struct Device {
+    pub caps: DeviceCaps,
+    pub work: DeviceWork,
+    pub objects: DeviceObjects,
+}
+
+// 001's device_cap_flags, max_mr_size, page_size_cap, hw_ver.
+pub struct DeviceCaps {
+    pub flags: u64,
+    pub region: u64,
+    pub page: u64,
+    pub version: u32,
+}
+
+// 001's max_qp_wr, max_send_sge, max_recv_sge, max_sge_rd, max_cqe.
+pub struct DeviceWork {
+    pub requests: u32,
+    pub sends: u32,
+    pub receives: u32,
+    pub reads: u32,
+    pub entries: u32,
+}
+
+// 001's max_mr, max_pd, max_qp_rd_atom, max_qp_init_rd_atom, max_ah, local_ca_ack_delay.
+pub struct DeviceObjects {
+    pub regions: u32,
+    pub domains: u32,
+    pub responses: u32,
+    pub initiations: u32,
+    pub handles: u32,
+    pub delay: u8,
+}
+
+// The ack of command 1, query port: 001's gid_tbl_len, max_msg_sz.
+pub struct Port {
+    pub gids: u32,
+    pub message: u32,
+}
+
+// What reading an ack of command 0 or 1 gives: what it reports, or the answer of the refusal.
+pub enum DeviceRead {
+    Value(Device),
+    Refused(u8),
+}
+
+pub enum PortRead {
+    Value(Port),
+    Refused(u8),
+}
+
+// What an ack says: error; OK; OK and a number; OK, a region's number, and its key as lkey and as rkey; OK and what a query reports.
 pub enum Ack {
     Error,
     Done,
     Number(u32),
     Keys(u32, u32),
+    Device(Device),
+    Port(Port),
 }

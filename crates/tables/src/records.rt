@@ -1,4 +1,4 @@
-// The records, read and written by their layouts: specs/Records.antt and specs/Reading.antt.
+// The records, read and written by their layouts: specs/Records.antt and specs/Commands.antt.
 use crate::Ack;
 use crate::Completion;
 use crate::CreateQp;
@@ -20,6 +20,7 @@ use crate::limits::MOST_INLINE;
 use crate::limits::MOST_RECEIVE_SGES;
 use crate::limits::MOST_SGES;
 use crate::limits::READ;
+use crate::queries;
 ghost use mathlib.Core.List.{_∷_, []};
 ghost use mathlib.Core.Path.{_≡_};
 ghost use Prim.Native.Nat.{_<_, _≤_, _+_, _^_};
@@ -27,7 +28,7 @@ ghost use lib.ListN.{length};
 ghost use Rattle.wire.specs.Codec.{decode, encode, putFields};
 ghost use Rattle.wire.specs.Rows.{rows};
 ghost use Rattle.tables.specs.Limits.{mostSges};
-ghost use Rattle.tables.specs.Commands.{ackFields, ackLeast, ackValues, headRead, numberRead, registerRead, createQpRead, modifyQpRead};
+ghost use Rattle.tables.specs.Commands.{ackLeast, ackSize, encodeAck, headRead, numberRead, registerRead, createQpRead, modifyQpRead};
 ghost use Rattle.tables.specs.Records.{sgeCodec, sgeAt, completionCodec, resultFields, receiveRead, sendCodec, sendRead, sendSge, sendBad, sendSize, inlineBytes};
 
 // A send record's bytes before its scatter/gather entries, and where its inline bytes begin.
@@ -300,10 +301,10 @@ pub fn read_modify_qp(command: &[u8]) -> ModifyQpRead
     })
 }
 
-// Writes an ack; the bytes after its data stay.
+// Writes an ack; the bytes behind it stay.
 pub fn write_ack(ack: &mut [u8], a: Ack)
-    requires { ⌜ ackLeast ≤ length (now ack) ⌝ }
-    ensures { λ _. ⌜ now (ack .exit) ≡ putFields ackFields (now (ack .entry)) 0 (ackValues a) ⌝ }
+    requires { ⌜ (ackLeast ≤ length (now ack)) × (ackSize a ≤ length (now ack)) ⌝ }
+    ensures { λ _. ⌜ now (ack .exit) ≡ encodeAck a (now (ack .entry)) ⌝ }
 {
     match a {
         Ack::Error => {
@@ -321,6 +322,14 @@ pub fn write_ack(ack: &mut [u8], a: Ack)
             wire::put32(ack, 1, n);
             wire::put32(ack, 5, key);
             wire::put32(ack, 9, key);
+        }
+        Ack::Device(d) => {
+            wire::put8(ack, 0, 0);
+            queries::put_device(ack, d);
+        }
+        Ack::Port(p) => {
+            wire::put8(ack, 0, 0);
+            queries::put_port(ack, p);
         }
     }
 }

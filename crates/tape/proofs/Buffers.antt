@@ -6,13 +6,15 @@ use mathlib.Core.Option.{Option, some}
 use Prim.Native.Nat.{ℕ}
 use lib.Dec.{eqb}
 use lib.ListN.{drop}
+use borrow.Author.Tests.{le-ltb}
+use Rattle.tables.proofs.AckLaws.{need-most}
 use Rattle.wire.specs.Checks.{Check, _if_, refusal}
 use Rattle.wire.specs.Codec.{within, clear, apart}
 use Rattle.wire.specs.Scan.{all}
 use Rattle.validate.specs.Accept.{accepts}
 use Rattle.tables.specs.Card.{Card}
 use Rattle.tables.specs.State.{card}
-use Rattle.tables.specs.Commands.{Command, ackLeast, commandOf}
+use Rattle.tables.specs.Commands.{Command, ackNeed, commandOf}
 use Rattle.tables.specs.Records.{sendChecks, receiveChecks, completionCodec}
 use Rattle.tables.specs.Reset.{zeros}
 use Rattle.rules.specs.Call.{Call}
@@ -23,7 +25,7 @@ use Rattle.rules.specs.Queues.{joinChecks, flushChecks, pollChecks}
 use Rattle.rules.specs.Send.{deliveryChecks}
 use Rattle.rules.proofs.Answers.{first-with, command-tests}
 use Rattle.rules.proofs.Ranges.{all-split}
-use Rattle.tape.specs.Tape.{completionSize, callOf}
+use Rattle.tape.specs.Tape.{completionSize, tapeAck, callOf}
 
 abbrev other : ℕ → Bool
 other n = not (eqb n 12)
@@ -45,12 +47,12 @@ module _ (l : List ℕ) where
   abbrev unusable : Check
   unusable = 15 if not (accepts l)
 
-  control-never : (b : List ℕ) → Never l (Call.control b (zeros ackLeast))
+  control-never : (b : List ℕ) → Never l (Call.control b (zeros tapeAck))
   unfolding all checks controlChecks
   control-never b e =
-      without (unusable ∷ (drop 1 (controlChecks b (zeros ackLeast)) ++ maybe [] (commandChecks (card l)) (commandOf b)))
-      (rw (all-split spare (drop 1 (controlChecks b (zeros ackLeast))) (maybe [] (commandChecks (card l)) (commandOf b)), command-spare (card l) (commandOf b)))
-      e
+      without (unusable ∷ (drop 1 (controlChecks b (zeros tapeAck)) ++ maybe [] (commandChecks (card l)) (commandOf b)))
+      (rw (all-split spare (drop 1 (controlChecks b (zeros tapeAck))) (maybe [] (commandChecks (card l)) (commandOf b)), command-spare (card l) (commandOf b)))
+      (rw (le-ltb tapeAck (ackNeed b) (need-most b)) at e)
 
   send-never : (q : ℕ) (x m : List ℕ) → Never l (Call.send q x m)
   unfolding all checks sendChecks deliveryChecks
@@ -74,7 +76,7 @@ module _ (l : List ℕ) where
 
   pub never-short : (k n : ℕ) (b m : List ℕ) → Never l (callOf k n b m)
   never-short k n b m =
-      either (eqb k 1) (Call.control b (zeros ackLeast)) _ (control-never b)
+      either (eqb k 1) (Call.control b (zeros tapeAck)) _ (control-never b)
       (either (eqb k 2) (Call.send n b m) _ (send-never n b m)
       (either (eqb k 3) (Call.receive n b) _ (receive-never n b)
       (either (eqb k 4) (Call.poll n (zeros completionSize)) (Call.flush n) (poll-never n) (flush-never n))))

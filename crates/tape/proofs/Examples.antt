@@ -11,7 +11,7 @@ use Rattle.validate.specs.Accept.{accepts}
 use Rattle.validate.proofs.AcceptedLaws.{accepting}
 use Rattle.tables.specs.Card.{fresh}
 use Rattle.tables.specs.State.{card}
-use Rattle.tables.specs.Commands.{commandOf, dataSize, ackLeast}
+use Rattle.tables.specs.Commands.{commandOf, dataSize, ackNeed}
 use Rattle.tables.specs.Reset.{zeros, resetBytes}
 use Rattle.validate.proofs.ResetLaws.{reset-accepted}
 use Rattle.tables.proofs.ResetLaws.{reset-card}
@@ -19,15 +19,15 @@ use Rattle.rules.specs.Call.{Call}
 use Rattle.rules.specs.Calls.{checks, controlChecks, statusOf, bufferAfter}
 use Rattle.rules.specs.Control.{commandChecks, commandAck}
 use Rattle.tape.specs.declared.Header.the-variants.{Record, Bad, Cut}
-use Rattle.tape.specs.Tape.{headerOf, answerRecord, answerTo, play, tapeMemory, output}
+use Rattle.tape.specs.Tape.{headerOf, answerRecord, answerTo, play, tapeAck, tapeMemory, output}
 use Rattle.tape.specs.Turns.{turn-record, turn-end}
 
 -- 52 4B 01 00 02 00 06 04
 abbrev wholeCase : List ℕ
 wholeCase = 82 ∷ 75 ∷ 1 ∷ 0 ∷ 2 ∷ 0 ∷ 6 ∷ 4 ∷ []
 
-first-domain : answerTo (resetBytes tapeMemory) (Call.control (6 ∷ 4 ∷ []) (zeros ackLeast)) ≡ 114 ∷ 107 ∷ 0 ∷ 0 ∷ 5 ∷ 0 ∷ 0 ∷ 0 ∷ 0 ∷ 0 ∷ 0 ∷ []
-unfolding answerTo answerRecord checks controlChecks commandChecks commandAck commandOf dataSize statusOf bufferAfter putFields putLe leAt lowest lowestFrom
+first-domain : answerTo (resetBytes tapeMemory) (Call.control (6 ∷ 4 ∷ []) (zeros tapeAck)) ≡ 114 ∷ 107 ∷ 0 ∷ 0 ∷ 5 ∷ 0 ∷ 0 ∷ 0 ∷ 0 ∷ 0 ∷ 0 ∷ []
+unfolding answerTo answerRecord checks controlChecks commandChecks commandAck commandOf dataSize ackNeed statusOf bufferAfter putFields putLe leAt lowest lowestFrom
 first-domain =
     let l : List ℕ = resetBytes tapeMemory in
     let c : card l ≡ fresh tapeMemory = reset-card tapeMemory (omega arith) (omega arith) in

@@ -9,7 +9,7 @@ use Rattle.wire.specs.Le.{leAt}
 use Rattle.validate.specs.Accept.{accepts}
 use Rattle.tables.specs.Card.{Card}
 use Rattle.tables.specs.State.{card}
-use Rattle.tables.specs.Commands.{ackLeast, commandOf}
+use Rattle.tables.specs.Commands.{ackSize, commandOf}
 use Rattle.tables.specs.Reset.{zeros, resetBytes}
 use Rattle.rules.specs.Answer.{number, status, isDone}
 use Rattle.rules.specs.Call.{Call}
@@ -52,10 +52,14 @@ headerOf i = cond (ltb (length i) headerSize) Cut (cond (isGood i) (Record (leAt
 abbrev pub completionSize : ℕ
 completionSize = 24
 
--- "lends buffers that never give 12"; the number is "ignored for 1"
+-- "lends buffers that never give 12": the longest ack is that of query device
+abbrev pub tapeAck : ℕ
+tapeAck = 129
+
+-- the number is "ignored for 1"
 abbrev pub callOf : (kind number : ℕ) → (body memory : List ℕ) → Call
 callOf k n b m =
-    cond (eqb k 1) (Call.control b (zeros ackLeast))
+    cond (eqb k 1) (Call.control b (zeros tapeAck))
     (cond (eqb k 2) (Call.send n b m)
     (cond (eqb k 3) (Call.receive n b) (cond (eqb k 4) (Call.poll n (zeros completionSize)) (Call.flush n))))
 
@@ -70,9 +74,9 @@ memoryLeft l m (Call.poll n b) = m
 
 -- ---- its answer: "72 6B, answer, status, length 16 bits, bytes written (ack and its data, or a completion)"
 
--- a control command writes its ack byte and numbers of 32 bits; one that is refused the ack byte, and none with 12 and 15
+-- a control command writes its ack; one that is refused the ack byte, and none with 12 and 15
 abbrev pub ackWritten : Answer → Card → List ℕ → ℕ
-ackWritten (Done s) c k = 1 + 4 * length (maybe [] (commandAck c) (commandOf k))
+ackWritten (Done s) c k = maybe 1 (λ q. ackSize (commandAck c q)) (commandOf k)
 ackWritten (Held x) c k = 1
 ackWritten (Refused n) c k = cond (eqb n 12 || eqb n 15) 0 1
 

@@ -16,7 +16,7 @@ use Rattle.wire.proofs.ScanLaws.{and-left, and-right}
 use Rattle.validate.specs.Accept.{accepts}
 use Rattle.tables.specs.Card.{Card}
 use Rattle.tables.specs.State.{card}
-use Rattle.tables.specs.Commands.{Command, commandOf}
+use Rattle.tables.specs.Commands.{Command, commandOf, ackSize}
 use Rattle.rules.specs.Answer.{isDone}
 use Rattle.rules.specs.Call.{Call}
 use Rattle.rules.specs.Calls.{Result, owed}
@@ -61,34 +61,36 @@ body-most i {k} {n} {s} e =
     let m : leAt 2 i 4 ≤ 640 = leb-true _ 640 (and-left (leb (leAt 2 i 4) 640) _ g) in
     omega arith
 
--- ---- an answer record has at most 30 bytes
+-- ---- an answer record has at most 135 bytes
 
-numbers-most : (c : Card) (q : Command) → length (commandAck c q) ≤ 3
+size-most : (c : Card) (q : Command) → ackSize (commandAck c q) ≤ 129
 unfolding commandAck
-numbers-most c (Command.createCq n) = omega arith
-numbers-most c (Command.destroyCq n) = omega arith
-numbers-most c Command.createPd = omega arith
-numbers-most c (Command.destroyPd n) = omega arith
-numbers-most c (Command.register g) = omega arith
-numbers-most c (Command.deregister n) = omega arith
-numbers-most c (Command.createQp r) = omega arith
-numbers-most c (Command.modifyQp r) = omega arith
-numbers-most c (Command.destroyQp q) = omega arith
+size-most c Command.queryDevice = omega arith
+size-most c Command.queryPort = omega arith
+size-most c (Command.createCq n) = omega arith
+size-most c (Command.destroyCq n) = omega arith
+size-most c Command.createPd = omega arith
+size-most c (Command.destroyPd n) = omega arith
+size-most c (Command.register g) = omega arith
+size-most c (Command.deregister n) = omega arith
+size-most c (Command.createQp r) = omega arith
+size-most c (Command.modifyQp r) = omega arith
+size-most c (Command.destroyQp q) = omega arith
 
-some-most : (c : Card) (o : Option Command) → length (maybe [] (commandAck c) o) ≤ 3
+some-most : (c : Card) (o : Option Command) → maybe 1 (λ q. ackSize (commandAck c q)) o ≤ 129
 some-most c none = omega arith
-some-most c (some q) = numbers-most c q
+some-most c (some q) = size-most c q
 
 picked-most : (b : Bool) {x y most : ℕ} → x ≤ most → y ≤ most → cond b x y ≤ most
 picked-most true p q = p
 picked-most false p q = q
 
-ack-most : (r : Answer) (c : Card) (k : List ℕ) → ackWritten r c k ≤ 24
-ack-most (Done s) c k = let h = some-most c (commandOf k) in omega arith
+ack-most : (r : Answer) (c : Card) (k : List ℕ) → ackWritten r c k ≤ 129
+ack-most (Done s) c k = some-most c (commandOf k)
 ack-most (Held x) c k = omega arith
 ack-most (Refused n) c k = picked-most (eqb n 12 || eqb n 15) (omega arith) (omega arith)
 
-written-most : (r : Answer) (c : Card) (k : Call) → writtenBy r c k ≤ 24
+written-most : (r : Answer) (c : Card) (k : Call) → writtenBy r c k ≤ 129
 written-most r c (Call.reset n) = omega arith
 written-most r c (Call.control k a) = ack-most r c k
 written-most r c (Call.send q x m) = omega arith
@@ -96,17 +98,17 @@ written-most r c (Call.receive q x) = omega arith
 written-most r c (Call.flush q) = omega arith
 written-most r c (Call.poll n b) = picked-most (isDone r) (omega arith) (omega arith)
 
-pub answer-most : (l : List ℕ) (k : Call) → length (answerTo l k) ≤ 30
+pub answer-most : (l : List ℕ) (k : Call) → length (answerTo l k) ≤ 135
 unfolding answerTo answerRecord
 answer-most l k =
     let o : Result = owed card accepts l k in
     let n : ℕ = writtenBy (o .answer) (card l) k in
-    let w : n ≤ 24 = written-most (o .answer) (card l) k in
+    let w : n ≤ 129 = written-most (o .answer) (card l) k in
     let t : length (take n (o .buffer)) ≡ min n (length (o .buffer)) = length-take n (o .buffer) in
     let e : length (answerTo l k) ≡ 6 + length (take n (o .buffer)) = length-append (answerHead (o .answer) (length (take n (o .buffer)))) (take n (o .buffer)) in
     omega arith
 
-pub answers-most : {k : Call} {l out : List ℕ} {n : ℕ} {l′ out′ : List ℕ} → Answers k l out n l′ out′ → n ≤ 30
+pub answers-most : {k : Call} {l out : List ℕ} {n : ℕ} {l′ out′ : List ℕ} → Answers k l out n l′ out′ → n ≤ 135
 answers-most {k} {l} a = let h = answer-most l k in let e = a .count in omega arith
 
 -- ---- the output does not depend on the bound on the records, where it is at least the input's length

@@ -21,7 +21,7 @@ use Rattle.tables.specs.State.{card}
 use Rattle.tables.specs.declared.CreateQp.{CreateQp}
 use Rattle.tables.specs.declared.ModifyQp.{ModifyQp}
 use Rattle.tables.specs.declared.Registration.{Registration}
-use Rattle.tables.specs.Commands.{ackLeast, Command, numberCodec, registerCodec, createQpCodec, modifyQpCodec, commandOf}
+use Rattle.tables.specs.Commands.{ackSize, Command, numberCodec, registerCodec, createQpCodec, modifyQpCodec, commandOf}
 use Rattle.tables.specs.Layout.{stateSize}
 use Rattle.tables.specs.Reset.{zeros, resetBytes}
 use Rattle.rules.specs.Answer.{answered, isDone}
@@ -34,7 +34,7 @@ use Rattle.rules.proofs.Answers.{answered-not-done}
 use Rattle.rules.proofs.Tests.{passed-before}
 use Rattle.rules.specs.Bytes.{effectBytes}
 use Rattle.rules.specs.Contract.{Owes, bytesAfter}
-use Rattle.tape.specs.Tape.{answerHead, answerRecord, answerTo, writtenBy, placed, Answers, completionSize, callOf, tapeMemory}
+use Rattle.tape.specs.Tape.{answerHead, answerRecord, answerTo, writtenBy, placed, Answers, completionSize, callOf, tapeAck, tapeMemory}
 
 -- the head, then the first n of the bytes behind it
 module _ (r : Answer) (b : List ℕ) (n : ℕ) (within : n ≤ length b) where
@@ -56,38 +56,43 @@ module _ (r : Answer) (b : List ℕ) (n : ℕ) (within : n ≤ length b) where
 
 -- ---- the size of an ack
 
-abbrev numbers : Card → Option Command → List ℕ
-numbers c o = maybe [] (commandAck c) o
+abbrev sizeOf : Card → Option Command → ℕ
+sizeOf c o = maybe 1 (λ q. ackSize (commandAck c q)) o
 
-picked : (c : Card) (n : ℕ) (g : Registration) (p : CreateQp) (t : ModifyQp) (b2 b3 b4 b5 b7 b8 b9 b10 b12 : Bool) →
-    (cond b2 5 (cond b3 1 (cond b4 5 (cond b5 1 (cond b7 13 (cond b8 1 (cond b9 5 1))))))) ≡
-    1 + 4 * length (numbers c
+picked : (c : Card) (n : ℕ) (g : Registration) (p : CreateQp) (t : ModifyQp) (b0 b1 b2 b3 b4 b5 b7 b8 b9 b10 b12 : Bool) →
+    (cond b0 129 (cond b1 33 (cond b2 5 (cond b3 1 (cond b4 5 (cond b5 1 (cond b7 13 (cond b8 1 (cond b9 5 1))))))))) ≡
+    sizeOf c
+    (cond b0 (some Command.queryDevice) (cond b1 (some Command.queryPort)
     (cond b2 (some (Command.createCq n)) (cond b3 (some (Command.destroyCq n)) (cond b4 (some Command.createPd) (cond b5 (some (Command.destroyPd n))
     (cond b7 (some (Command.register g)) (cond b8 (some (Command.deregister n)) (cond b9 (some (Command.createQp p))
-    (cond b10 (some (Command.modifyQp t)) (cond b12 (some (Command.destroyQp n)) none))))))))))
+    (cond b10 (some (Command.modifyQp t)) (cond b12 (some (Command.destroyQp n)) none)))))))))))
 unfolding commandAck
-picked c n g p t true b3 b4 b5 b7 b8 b9 b10 b12 = refl
-picked c n g p t false true b4 b5 b7 b8 b9 b10 b12 = refl
-picked c n g p t false false true b5 b7 b8 b9 b10 b12 = refl
-picked c n g p t false false false true b7 b8 b9 b10 b12 = refl
-picked c n g p t false false false false true b8 b9 b10 b12 = refl
-picked c n g p t false false false false false true b9 b10 b12 = refl
-picked c n g p t false false false false false false true b10 b12 = refl
-picked c n g p t false false false false false false false true b12 = refl
-picked c n g p t false false false false false false false false true = refl
-picked c n g p t false false false false false false false false false = refl
+picked c n g p t true b1 b2 b3 b4 b5 b7 b8 b9 b10 b12 = refl
+picked c n g p t false true b2 b3 b4 b5 b7 b8 b9 b10 b12 = refl
+picked c n g p t false false true b3 b4 b5 b7 b8 b9 b10 b12 = refl
+picked c n g p t false false false true b4 b5 b7 b8 b9 b10 b12 = refl
+picked c n g p t false false false false true b5 b7 b8 b9 b10 b12 = refl
+picked c n g p t false false false false false true b7 b8 b9 b10 b12 = refl
+picked c n g p t false false false false false false true b8 b9 b10 b12 = refl
+picked c n g p t false false false false false false false true b9 b10 b12 = refl
+picked c n g p t false false false false false false false false true b10 b12 = refl
+picked c n g p t false false false false false false false false false true b12 = refl
+picked c n g p t false false false false false false false false false false true = refl
+picked c n g p t false false false false false false false false false false false = refl
 
 -- each command's ack, by the command byte
-abbrev pub ackSize : ℕ → ℕ
-ackSize n =
-    cond (eqb n 2) 5 (cond (eqb n 3) 1 (cond (eqb n 4) 5 (cond (eqb n 5) 1 (cond (eqb n 7) 13 (cond (eqb n 8) 1 (cond (eqb n 9) 5 1))))))
+abbrev pub sizeBy : ℕ → ℕ
+sizeBy n =
+    cond (eqb n 0) 129
+    (cond (eqb n 1) 33
+    (cond (eqb n 2) 5 (cond (eqb n 3) 1 (cond (eqb n 4) 5 (cond (eqb n 5) 1 (cond (eqb n 7) 13 (cond (eqb n 8) 1 (cond (eqb n 9) 5 1))))))))
 
-pub ack-size : (c : Card) (k : List ℕ) → ackSize (leAt 1 k 1) ≡ 1 + 4 * length (numbers c (commandOf k))
+pub ack-size : (c : Card) (k : List ℕ) → sizeBy (leAt 1 k 1) ≡ sizeOf c (commandOf k)
 unfolding commandOf
 ack-size c k =
     let n = leAt 1 k 1 in
     picked c (decode numberCodec k 2) (decode registerCodec k 2) (decode createQpCodec k 2) (decode modifyQpCodec k 2)
-    (eqb n 2) (eqb n 3) (eqb n 4) (eqb n 5) (eqb n 7) (eqb n 8) (eqb n 9) (eqb n 10) (eqb n 12)
+    (eqb n 0) (eqb n 1) (eqb n 2) (eqb n 3) (eqb n 4) (eqb n 5) (eqb n 7) (eqb n 8) (eqb n 9) (eqb n 10) (eqb n 12)
 
 same : (x y z : Bool) → _≡_ {A = ℕ} 1 (cond x 1 (cond y 1 (cond z 1 1)))
 same true y z = refl
@@ -96,22 +101,29 @@ same false false true = refl
 same false false false = refl
 
 module _ (c : Card) (k : List ℕ) (n : ℕ) (byte : n ≡ leAt 1 k 1) where
-  sized : ackSize n ≡ 1 + 4 * length (numbers c (commandOf k))
-  sized = ap (λ (x : ℕ). ackSize x) byte ∙ ack-size c k
+  sized : sizeBy n ≡ sizeOf c (commandOf k)
+  sized = ap (λ (x : ℕ). sizeBy x) byte ∙ ack-size c k
+
+  -- what a query reports
+  pub ack-device : n ≡ 0 → 129 ≡ sizeOf c (commandOf k)
+  ack-device e = rw e at sized
+
+  pub ack-port : n ≡ 1 → 33 ≡ sizeOf c (commandOf k)
+  ack-port e = rw e at sized
 
   -- a registration's number and keys
-  pub ack-keys : n ≡ 7 → 13 ≡ 1 + 4 * length (numbers c (commandOf k))
+  pub ack-keys : n ≡ 7 → 13 ≡ sizeOf c (commandOf k)
   ack-keys e = rw e at sized
 
   -- one number
-  pub ack-number : OneOf (2 ∷ 4 ∷ 9 ∷ []) n → 5 ≡ 1 + 4 * length (numbers c (commandOf k))
+  pub ack-number : OneOf (2 ∷ 4 ∷ 9 ∷ []) n → 5 ≡ sizeOf c (commandOf k)
   ack-number h = ⊎-elim (λ e. rw e at sized) (⊎-elim (λ e. rw e at sized) (λ e. rw e at sized)) h
 
-  -- no number
-  pub ack-bare : (n ≡ 7 → ⊥) → (OneOf (2 ∷ 4 ∷ 9 ∷ []) n → ⊥) → 1 ≡ 1 + 4 * length (numbers c (commandOf k))
-  ack-bare a b =
-      let e : 1 ≡ ackSize n =
-      rw (ne-eqb n 2 (λ x. b (inl x)), ne-eqb n 4 (λ x. b (inr (inl x))), ne-eqb n 7 a, ne-eqb n 9 (λ x. b (inr (inr x))))
+  -- the ack byte alone
+  pub ack-bare : (n ≡ 0 → ⊥) → (n ≡ 1 → ⊥) → (n ≡ 7 → ⊥) → (OneOf (2 ∷ 4 ∷ 9 ∷ []) n → ⊥) → 1 ≡ sizeOf c (commandOf k)
+  ack-bare x y a b =
+      let e : 1 ≡ sizeBy n =
+      rw (ne-eqb n 0 x, ne-eqb n 1 y, ne-eqb n 2 (λ x. b (inl x)), ne-eqb n 4 (λ x. b (inr (inl x))), ne-eqb n 7 a, ne-eqb n 9 (λ x. b (inr (inr x))))
       (same (eqb n 3) (eqb n 5) (eqb n 8)) in
       e ∙ sized
 
@@ -147,7 +159,7 @@ started l {r} {l′} h o = let e : l′ ≡ bytesAfter l (Call.reset tapeMemory)
 -- ---- the call of each kind
 
 module _ (k n : ℕ) (b m : List ℕ) where
-  pub call-control : k ≡ 1 → callOf k n b m ≡ Call.control b (zeros ackLeast)
+  pub call-control : k ≡ 1 → callOf k n b m ≡ Call.control b (zeros tapeAck)
   call-control e = rw e
 
   pub call-send : k ≡ 2 → callOf k n b m ≡ Call.send n b m

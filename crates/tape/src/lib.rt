@@ -7,13 +7,13 @@ ghost use Prim.Native.Nat.{_+_, _*_, _≤_};
 ghost use lib.ListN.{length, take, drop};
 ghost use Rattle.tables.specs.Card.{Card};
 ghost use Rattle.tables.specs.Layout.{stateSize};
-ghost use Rattle.tables.specs.Commands.{ackLeast, commandOf};
+ghost use Rattle.tables.specs.Commands.{ackSize, commandOf};
 ghost use Rattle.tables.specs.Reset.{zeros, resetBytes};
 ghost use Rattle.rules.specs.Answer.{isDone};
 ghost use Rattle.rules.specs.Call.{Call};
 ghost use Rattle.rules.specs.Control.{commandAck};
 ghost use Rattle.rules.specs.Lists.{maybe};
-ghost use Rattle.tape.specs.Tape.{isMark, isKind, isLength, headerOf, ackWritten, answerHead, answerRecord, placed, badRecord, completionSize, callOf, memoryLeft, Answers, tapeMemory};
+ghost use Rattle.tape.specs.Tape.{isMark, isKind, isLength, headerOf, ackWritten, answerHead, answerRecord, placed, badRecord, completionSize, callOf, memoryLeft, Answers, tapeAck, tapeMemory};
 
 const HEADER: usize = 6;
 
@@ -90,7 +90,7 @@ fn put_bare(out: &mut [u8], answer: Answer) -> usize
 
 // Writes the answer record of a call that wrote the first n of the bytes, and returns its length.
 fn put_answer(out: &mut [u8], answer: Answer, bytes: &[u8], n: usize) -> usize
-    requires { ⌜ (n ≤ length (now bytes)) × (n ≤ 24) × (30 ≤ length (now out)) ⌝ }
+    requires { ⌜ (n ≤ length (now bytes)) × (n ≤ 129) × (135 ≤ length (now out)) ⌝ }
     ensures { λ r. ⌜ r ≡ length (answerRecord answer (take n (now (bytes .entry)))) ⌝ }
     ensures { λ _. ⌜ now (out .exit) ≡ placed (answerRecord answer (take n (now (bytes .entry)))) (now (out .entry)) ⌝ }
 {
@@ -102,10 +102,12 @@ fn put_answer(out: &mut [u8], answer: Answer, bytes: &[u8], n: usize) -> usize
 // How many ack bytes a command writes that is answered 0.
 fn ack_size(command: &[u8]) -> usize
     requires { ⌜ 2 ≤ length (now command) ⌝ }
-    ensures { λ r. ⌜ ((c : Card) → r ≡ 1 + 4 * length (maybe [] (commandAck c) (commandOf (now (command .entry))))) ⌝ }
-    ensures { λ r. ⌜ r ≤ 13 ⌝ }
+    ensures { λ r. ⌜ ((c : Card) → r ≡ maybe 1 (λ q. ackSize (commandAck c q)) (commandOf (now (command .entry)))) ⌝ }
+    ensures { λ r. ⌜ r ≤ 129 ⌝ }
 {
     match wire::get8(command, 1) {
+        0 => 129,
+        1 => 33,
         7 => 13,
         2 | 4 | 9 => 5,
         _ => 1,
@@ -115,7 +117,7 @@ fn ack_size(command: &[u8]) -> usize
 fn ack_written(answer: Answer, command: &[u8]) -> usize
     requires { ⌜ (isDone answer ≡ true → 2 ≤ length (now command)) ⌝ }
     ensures { λ r. ⌜ ((c : Card) → r ≡ ackWritten answer c (now (command .entry))) ⌝ }
-    ensures { λ r. ⌜ r ≤ 13 ⌝ }
+    ensures { λ r. ⌜ r ≤ 129 ⌝ }
 {
     match answer {
         Answer::Done(_) => ack_size(command),
@@ -142,10 +144,10 @@ fn completion_written(answer: Answer) -> usize
 // ---- one call for each kind of record, with its answer record written
 
 fn answer_control(state: &mut [u8], body: &[u8], out: &mut [u8]) -> usize
-    requires { ⌜ 30 ≤ length (now out) ⌝ }
-    ensures { λ r. ⌜ Answers (Call.control (now (body .entry)) (zeros ackLeast)) (now (state .entry)) (now (out .entry)) r (now (state .exit)) (now (out .exit)) ⌝ }
+    requires { ⌜ 135 ≤ length (now out) ⌝ }
+    ensures { λ r. ⌜ Answers (Call.control (now (body .entry)) (zeros tapeAck)) (now (state .entry)) (now (out .entry)) r (now (state .exit)) (now (out .exit)) ⌝ }
 {
-    let mut ack = [0u8; 13];
+    let mut ack = [0u8; 129];
     let answer = commands::control::control(state, body, &mut ack);
     let n = ack_written(answer, body);
     put_answer(out, answer, &ack, n)
@@ -158,7 +160,7 @@ fn answer_send(
     body: &[u8],
     out: &mut [u8],
 ) -> usize
-    requires { ⌜ 30 ≤ length (now out) ⌝ }
+    requires { ⌜ 135 ≤ length (now out) ⌝ }
     ensures { λ r. ⌜ Answers (Call.send number (now (body .entry)) (now (memory .entry))) (now (state .entry)) (now (out .entry)) r (now (state .exit)) (now (out .exit)) ⌝ }
     ensures { λ _. ⌜ now (memory .exit) ≡ memoryLeft (now (state .entry)) (now (memory .entry)) (Call.send number (now (body .entry)) (now (memory .entry))) ⌝ }
 {
@@ -167,7 +169,7 @@ fn answer_send(
 }
 
 fn answer_receive(state: &mut [u8], number: u8, body: &[u8], out: &mut [u8]) -> usize
-    requires { ⌜ 30 ≤ length (now out) ⌝ }
+    requires { ⌜ 135 ≤ length (now out) ⌝ }
     ensures { λ r. ⌜ Answers (Call.receive number (now (body .entry))) (now (state .entry)) (now (out .entry)) r (now (state .exit)) (now (out .exit)) ⌝ }
 {
     let answer = queues::post_receive(state, number as u32, body);
@@ -175,7 +177,7 @@ fn answer_receive(state: &mut [u8], number: u8, body: &[u8], out: &mut [u8]) -> 
 }
 
 fn answer_poll(state: &mut [u8], number: u8, out: &mut [u8]) -> usize
-    requires { ⌜ 30 ≤ length (now out) ⌝ }
+    requires { ⌜ 135 ≤ length (now out) ⌝ }
     ensures { λ r. ⌜ Answers (Call.poll number (zeros completionSize)) (now (state .entry)) (now (out .entry)) r (now (state .exit)) (now (out .exit)) ⌝ }
 {
     let mut buffer = [0u8; 24];
@@ -185,7 +187,7 @@ fn answer_poll(state: &mut [u8], number: u8, out: &mut [u8]) -> usize
 }
 
 fn answer_flush(state: &mut [u8], number: u8, out: &mut [u8]) -> usize
-    requires { ⌜ 30 ≤ length (now out) ⌝ }
+    requires { ⌜ 135 ≤ length (now out) ⌝ }
     ensures { λ r. ⌜ Answers (Call.flush number) (now (state .entry)) (now (out .entry)) r (now (state .exit)) (now (out .exit)) ⌝ }
 {
     let answer = queues::flush(state, number as u32);
@@ -201,7 +203,7 @@ pub fn answer_record(
     body: &[u8],
     out: &mut [u8],
 ) -> usize
-    requires { ⌜ 30 ≤ length (now out) ⌝ }
+    requires { ⌜ 135 ≤ length (now out) ⌝ }
     ensures { λ r. ⌜ Answers (callOf kind number (now (body .entry)) (now (memory .entry))) (now (state .entry)) (now (out .entry)) r (now (state .exit)) (now (out .exit)) ⌝ }
     ensures { λ _. ⌜ now (memory .exit) ≡ memoryLeft (now (state .entry)) (now (memory .entry)) (callOf kind number (now (body .entry)) (now (memory .entry))) ⌝ }
 {

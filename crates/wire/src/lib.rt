@@ -165,6 +165,18 @@ pub fn put_bytes8(
 
 // ---- copies
 
+// Sets n bytes to 0, from index at on.
+pub fn put_zeros(s: &mut [u8], at: usize, n: usize)
+    requires { ⌜ at + n ≤ length (now s) ⌝ }
+    ensures { λ _. ⌜ now (s .exit) ≡ putLe n (now (s .entry)) at 0 ⌝ }
+{
+    let mut i = 0;
+    while i < n {
+        s[at + i] = 0;
+        i += 1;
+    }
+}
+
 // Copies n bytes of src, from index from on, into dst from index at on.
 pub fn copy_bytes(dst: &mut [u8], at: usize, src: &[u8], from: usize, n: usize)
     requires { ⌜ (at + n ≤ length (now dst)) × (from + n ≤ length (now src)) ⌝ }

@@ -1,7 +1,16 @@
+use denote.Ref.{now}
+use lib.ListN.{length}
+use Prim.Native.Nat.{_≤_}
 use Rattle.wire.specs.Codec.{putFields}
 use borrow.Author.Needs.{needs}
 use Rattle.tables.proofs.records.write_ack.Statement.{statement}
 use Rattle.tables.proofs.records.write_ack.Tie as tie
+use Rattle.tables.proofs.records.write_ack.Reads as reads
+use Rattle.tables.proofs.records.write_ack.Lts as lts
+use Rattle.tables.proofs.queries.put_device.Reads as put-device-reads
+use Rattle.tables.proofs.queries.put_port.Reads as put-port-reads
+use Rattle.wire.proofs.put32.Reads as put32-reads
+use Rattle.wire.proofs.put8.Reads as put8-reads
 
 enum-told : tie.Need-enum-told
 enum-told c = search needs
@@ -39,6 +48,30 @@ put32-requires-3 c κs = search needs
 put32-requires-4 : tie.Need-put32-requires-4
 put32-requires-4 c κs = search needs
 
+enum-known-a-3 : tie.Need-enum-known-a-3
+enum-known-a-3 c = search needs
+
+put8-requires-5 : tie.Need-put8-requires-5
+put8-requires-5 c κs = search needs
+
+put-device-requires : tie.Need-put-device-requires
+put-device-requires c κs =
+    let a = c .before .before .before .before .before .before .before .before .before .args in
+    let r : 129 ≤ length (now (a .ack)) = rw (c .before .before .before .before .before .before .a3 .given .1) at (c .before .before .before .before .before .before .before .before .before .pre .1) in
+    search needs
+
+enum-known-a-4 : tie.Need-enum-known-a-4
+enum-known-a-4 c = search needs
+
+put8-requires-6 : tie.Need-put8-requires-6
+put8-requires-6 c κs = search needs
+
+put-port-requires : tie.Need-put-port-requires
+put-port-requires c κs =
+    let a = c .before .before .before .before .before .before .before .before .before .args in
+    let r : 33 ≤ length (now (a .ack)) = rw (c .before .before .before .before .before .before .a4 .given .1) at (c .before .before .before .before .before .before .before .before .before .pre .1) in
+    search needs
+
 same-length : tie.Need-same-length
 same-length c = search needs
 
@@ -67,6 +100,20 @@ returns-4 : tie.Need-returns-4
 unfolding putFields
 returns-4 c = rw (c .before .before .before .before .before .before .before .before .before .before .before .before .before .before .before .before .before .a2 .given .1, c .before .before .put324 .ensures, c .before .before .before .before .before .before .put323 .ensures, c .before .before .before .before .before .before .before .before .before .before .put322 .ensures, c .before .before .before .before .before .before .before .before .before .before .before .before .before .before .put84 .ensures)
 
+same-length-5 : tie.Need-same-length-5
+same-length-5 c = search needs
+
+returns-5 : tie.Need-returns-5
+unfolding putFields
+returns-5 c = rw (c .before .before .before .before .before .before .before .before .before .a3 .given .1, c .before .before .put-device .ensures, c .before .before .before .before .before .before .put85 .ensures)
+
+same-length-6 : tie.Need-same-length-6
+same-length-6 c = search needs
+
+returns-6 : tie.Need-returns-6
+unfolding putFields
+returns-6 c = rw (c .before .before .before .before .before .before .before .before .before .a4 .given .1, c .before .before .put-port .ensures, c .before .before .before .before .before .before .put86 .ensures)
+
 pub write-ack-spec : {M : Type 1} → statement M
 write-ack-spec =
     tie.close
@@ -83,6 +130,12 @@ write-ack-spec =
     put32-requires-2
     put32-requires-3
     put32-requires-4
+    enum-known-a-3
+    put8-requires-5
+    put-device-requires
+    enum-known-a-4
+    put8-requires-6
+    put-port-requires
     same-length
     returns
     same-length-2
@@ -90,4 +143,8 @@ write-ack-spec =
     same-length-3
     returns-3
     same-length-4
-    returns-4)
+    returns-4
+    same-length-5
+    returns-5
+    same-length-6
+    returns-6)

@@ -1,0 +1,38 @@
+use Rattle.wire.specs.Codec.{fieldsAt}
+use Rattle.tables.specs.Queries.{deviceCodec}
+use borrow.Author.Needs.{needs}
+use Rattle.tables.proofs.queries.get_work.Statement.{statement}
+use Rattle.tables.proofs.queries.get_work.Tie as tie
+use Rattle.tables.proofs.queries.get_work.Reads as reads
+use Rattle.tables.proofs.queries.get_work.Lts as lts
+use Rattle.wire.proofs.get32.Reads as get32-reads
+
+get32-requires : tie.Need-get32-requires
+get32-requires c κs = search needs
+
+get32-requires-2 : tie.Need-get32-requires-2
+get32-requires-2 c κs = search needs
+
+get32-requires-3 : tie.Need-get32-requires-3
+get32-requires-3 c κs = search needs
+
+get32-requires-4 : tie.Need-get32-requires-4
+get32-requires-4 c κs = search needs
+
+get32-requires-5 : tie.Need-get32-requires-5
+get32-requires-5 c κs = search needs
+
+returns : tie.Need-returns
+unfolding deviceCodec fieldsAt
+returns c = (cc)
+
+pub get-work-spec : {M : Type 1} → statement M
+get-work-spec =
+    tie.close
+    (tie.spec
+    get32-requires
+    get32-requires-2
+    get32-requires-3
+    get32-requires-4
+    get32-requires-5
+    returns)

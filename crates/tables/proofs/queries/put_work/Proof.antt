@@ -1,0 +1,41 @@
+use Rattle.wire.specs.Codec.{putFields}
+use borrow.Author.Needs.{needs}
+use Rattle.tables.proofs.queries.put_work.Statement.{statement}
+use Rattle.tables.proofs.queries.put_work.Tie as tie
+use Rattle.tables.proofs.queries.put_work.Reads as reads
+use Rattle.tables.proofs.queries.put_work.Lts as lts
+use Rattle.wire.proofs.put32.Reads as put32-reads
+
+put32-requires : tie.Need-put32-requires
+put32-requires c κs = search needs
+
+put32-requires-2 : tie.Need-put32-requires-2
+put32-requires-2 c κs = search needs
+
+put32-requires-3 : tie.Need-put32-requires-3
+put32-requires-3 c κs = search needs
+
+put32-requires-4 : tie.Need-put32-requires-4
+put32-requires-4 c κs = search needs
+
+put32-requires-5 : tie.Need-put32-requires-5
+put32-requires-5 c κs = search needs
+
+same-length : tie.Need-same-length
+same-length c = search needs
+
+returns : tie.Need-returns
+unfolding putFields
+returns c = (cc)
+
+pub put-work-spec : {M : Type 1} → statement M
+put-work-spec =
+    tie.close
+    (tie.spec
+    put32-requires
+    put32-requires-2
+    put32-requires-3
+    put32-requires-4
+    put32-requires-5
+    same-length
+    returns)
