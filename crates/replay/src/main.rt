@@ -1,76 +1,131 @@
 // Replays a tape: reads records from standard input, makes each one's call on one card, and writes the answer records to standard output
-// (docs/TAPE.md). The library tape has what a record means; here bytes are only moved.
+// (docs/TAPE.md). The library tape has what a tape means and what to do with the bytes held; here bytes are only moved.
+use libc::STDERR_FILENO;
 use libc::STDIN_FILENO;
 use libc::STDOUT_FILENO;
-use tape::Header;
-ghost use Prim.Native.Nat.{_≤_};
-ghost use lib.ListN.{length};
+use tape::Turn;
+use tape::input::Held;
+ghost use mathlib.Core.Path.{_≡_};
+ghost use mathlib.Core.List.{List};
+ghost use Prim.Native.Nat.{ℕ, _≤_};
+ghost use lib.ListN.{length as ListN·length};
+ghost use Rattle.tape.specs.Pieces.{Lies};
+ghost use Rattle.replay.specs.Next.{Uses, Goes};
 
-// Writes the record that answers a fault. The tape ends there.
-fn end_with_fault() -> bool {
-    let mut out = [0u8; 6];
-    tape::bad_record(&mut out);
-    io::write_all(STDOUT_FILENO, &out);
-    false
+// What a turn did: it used so many of the bytes held, wants more, or ends the tape.
+enum Done {
+    Used(usize),
+    More,
+    Stop,
 }
 
-// Fills the body, makes the record's call and writes its answer; true if the tape goes on.
-fn answer(
-    state: &mut [u8],
-    memory: &mut [u8],
-    kind: u8,
-    number: u8,
-    body: &mut [u8],
-    out: &mut [u8],
-) -> bool
-    requires { ⌜ 135 ≤ length (now out) ⌝ }
+// What is held after a turn, or that the tape ends.
+enum Next {
+    On(Held),
+    Stop,
+}
+
+// Writes an answer record of a record of so many bytes. The tape goes on where it could be written.
+fn write(out: &[u8], used: usize) -> Done
+    ensures { λ r. ⌜ ((held : List ℕ) → used ≤ ListN·length held → Uses r held) ⌝ }
 {
-    let held = io::read_full(STDIN_FILENO, body);
-    if held < body.len() {
-        return end_with_fault();
+    if io::write_all(STDOUT_FILENO, out) {
+        return Done::Used(used);
     }
-    let written = tape::answer_record(state, memory, kind, number, body, out);
-    io::write_all(STDOUT_FILENO, &out[..written])
+    Done::Stop
 }
 
-fn answer_sized(state: &mut [u8], memory: &mut [u8], kind: u8, number: u8, size: usize) -> bool
-    requires { ⌜ size ≤ 640 ⌝ }
+fn answer(state: &mut [u8], memory: &mut [u8], held: &[u8], ended: bool) -> Done
+    ensures { λ r. ⌜ Uses r (now (held .entry)) ⌝ }
 {
-    let mut body = [0u8; 640];
-    let mut out = [0u8; 135];
-    answer(state, memory, kind, number, &mut body[..size], &mut out)
+    let mut out = [0u8; tape::MOST_ANSWER];
+    match tape::steps::turn(state, memory, held, ended, &mut out) {
+        Turn::Answered { used, written } => write(&out[..written], used),
+        Turn::Fault => {
+            io::write_all(STDOUT_FILENO, &out[..6]);
+            Done::Stop
+        }
+        Turn::End => Done::Stop,
+        Turn::More => Done::More,
+    }
 }
 
-// One record; true if the tape goes on.
-fn turn(state: &mut [u8], memory: &mut [u8]) -> bool {
-    let mut bytes = [0u8; 6];
-    let held = io::read_full(STDIN_FILENO, &mut bytes);
-    if held == 0 {
-        return false;
-    }
-    let header = tape::read_header(&bytes[..held]);
-    match header {
-        Header::Record {
-            kind,
-            number,
-            length,
-        } => answer_sized(state, memory, kind, number, length as usize),
-        Header::Bad => end_with_fault(),
-        Header::Cut => end_with_fault(),
+fn turn(state: &mut [u8], memory: &mut [u8], window: &mut [u8], held: Held) -> Next
+    requires { ⌜ Lies held (now window) ⌝ }
+    ensures { λ r. ⌜ Goes r (now (window .exit)) ⌝ }
+{
+    let from = held.from;
+    let to = held.to;
+    let ended = held.ended;
+    match answer(state, memory, &window[from..to], ended) {
+        Done::Used(n) => Next::On(Held {
+            from: from + n,
+            to,
+            ended,
+        }),
+        Done::More => Next::On(tape::input::more(STDIN_FILENO, window, held)),
+        Done::Stop => Next::Stop,
     }
 }
 
 // A proved loop has to end, and nothing says that a tape does: the turns are counted down from a number that no run uses up.
-fn run(state: &mut [u8], memory: &mut [u8]) {
+fn run(state: &mut [u8], memory: &mut [u8], window: &mut [u8]) {
+    let mut held = Held {
+        from: 0,
+        to: 0,
+        ended: false,
+    };
     let mut turns = u64::MAX;
-    while turns > 0 && turn(state, memory) {
+    while turns > 0 {
+        match turn(state, memory, window, held) {
+            Next::On(next) => held = next,
+            Next::Stop => return,
+        }
         turns -= 1;
     }
 }
 
+// The memory's length that the argument asks for, 4,096 without one; 0 where it asks for none that a card takes.
+fn length_asked() -> u64
+    ensures { λ r. ⌜ r ≤ 1048576 ⌝ }
+{
+    let count = os::arg_count();
+    if count < 2 {
+        return 4096;
+    }
+    if count > 2 {
+        return 0;
+    }
+    let mut text = [0u8; 8];
+    let n = os::arg(1, &mut text);
+    tape::start::memory_length(&text[..n])
+}
+
+// The longest memory, all zeros.
+fn zeros() -> [u8; 1048576]
+    ensures { λ r. ⌜ 1048576 ≡ ListN·length r ⌝ }
+{
+    [0; 1048576]
+}
+
+// Runs the tape over the first bytes of the memory.
+fn run_in(state: &mut [u8], memory: &mut [u8], length: usize)
+    requires { ⌜ length ≤ ListN·length (now memory) ⌝ }
+{
+    let mut window = io::large_buffer();
+    run(state, &mut memory[..length], &mut window);
+}
+
 fn main() {
-    let mut state = [0u8; 6072];
-    let mut memory = [0u8; 4096];
-    tape::start(&mut state);
-    run(&mut state, &mut memory);
+    let mut state = [0u8; tape::STATE];
+    let mut memory = zeros();
+    let length = length_asked();
+    if tape::start::start(&mut state, length) {
+        run_in(&mut state, &mut memory, length as usize);
+    } else {
+        io::write_all(
+            STDERR_FILENO,
+            b"usage: replay [LENGTH] <CALLS >ANSWERS   LENGTH is the memory's, 1 to 1048576\n",
+        );
+    }
 }

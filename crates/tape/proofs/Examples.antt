@@ -1,7 +1,7 @@
 -- Document 01's whole case, the ends of a tape, and the edges of a header, computed. Assumes nothing.
-use mathlib.Core.Path.{_≡_, refl, ap₂, _∙_}
+use mathlib.Core.Path.{_≡_, refl, ap}
 use mathlib.Core.Bool.{true}
-use mathlib.Core.List.{List, [], _∷_, _++_}
+use mathlib.Core.List.{List, [], _∷_, _++_, flatten}
 use Prim.Native.Nat.{ℕ}
 use native.Mathlib.Omega.{arith}
 use Rattle.wire.specs.Codec.{putFields}
@@ -19,8 +19,7 @@ use Rattle.rules.specs.Call.{Call}
 use Rattle.rules.specs.Calls.{checks, controlChecks, statusOf, bufferAfter}
 use Rattle.rules.specs.Control.{commandChecks, commandAck}
 use Rattle.tape.specs.declared.Header.the-variants.{Record, Bad, Cut}
-use Rattle.tape.specs.Tape.{headerOf, answerRecord, answerTo, play, tapeAck, tapeMemory, output}
-use Rattle.tape.specs.Turns.{turn-record, turn-end}
+use Rattle.tape.specs.Tape.{headerOf, stepOf, answerRecord, answerTo, play, records, tapeAck, tapeMemory, output}
 
 -- 52 4B 01 00 02 00 06 04
 abbrev wholeCase : List ℕ
@@ -36,10 +35,8 @@ first-domain =
 
 -- "Whole case: 52 4B 01 00 02 00 06 04 gives 72 6B 00 00 05 00 00 00 00 00 00."
 pub whole-case : output wholeCase ≡ 114 ∷ 107 ∷ 0 ∷ 0 ∷ 5 ∷ 0 ∷ 0 ∷ 0 ∷ 0 ∷ 0 ∷ 0 ∷ []
-unfolding output headerOf leAt
-whole-case =
-    turn-record (resetBytes tapeMemory) (zeros tapeMemory) wholeCase {k = 1} {n = 0} {s = 2} refl (omega arith)
-    ∙ ap₂ (λ (a b : List ℕ). a ++ b) first-domain (turn-end _ _)
+unfolding output records play stepOf headerOf leAt flatten
+whole-case = ap (λ (a : List ℕ). a ++ []) first-domain
 
 pub header-edges : (headerOf (82 ∷ 75 ∷ 1 ∷ 0 ∷ 128 ∷ 2 ∷ []) ≡ Record 1 0 640) × (headerOf (82 ∷ 75 ∷ 1 ∷ 0 ∷ 129 ∷ 2 ∷ []) ≡ Bad)
     × (headerOf (82 ∷ 75 ∷ 4 ∷ 255 ∷ 0 ∷ 0 ∷ []) ≡ Record 4 255 0) × (headerOf (82 ∷ 75 ∷ 5 ∷ 0 ∷ 1 ∷ 0 ∷ []) ≡ Bad)
@@ -50,5 +47,5 @@ header-edges = (refl, refl, refl, refl, refl, refl, refl, refl)
 
 -- "Clean end adds nothing."
 pub empty-tape : output [] ≡ []
-unfolding output play
+unfolding output records play flatten
 empty-tape = refl

@@ -1,2 +1,10 @@
+pub mod HeadLaws
+pub mod WrittenLaws
+pub mod BoundLaws
+pub mod StepLaws
 pub mod Examples
 pub mod Buffers
+pub mod TurnLaws
+pub mod PieceLaws
+pub mod InputLaws
+pub mod LengthLaws

@@ -1,4 +1,3 @@
 pub mod Tape
-pub mod Heads
-pub mod Written
-pub mod Turns
+pub mod Pieces
+pub mod Length

@@ -1,14 +1,15 @@
 -- Document 01, "Replay tape (house)": the records of a tape, the answer to each, and the whole output. Assumes nothing.
 use mathlib.Core.Path.{_≡_}
-use mathlib.Core.Bool.{Bool, cond, _&&_, _||_}
-use mathlib.Core.List.{List, [], _∷_, _++_}
+use mathlib.Core.Bool.{Bool, true, cond, _&&_, _||_}
+use mathlib.Core.List.{List, [], _∷_, _++_, flatten}
 use Prim.Native.Nat.{ℕ, zero, suc, _+_, _*_, _/_, _%_}
 use lib.Dec.{eqb, ltb, leb}
 use lib.ListN.{length, take, drop}
 use Rattle.wire.specs.Le.{leAt}
-use Rattle.validate.specs.Accept.{accepts}
+use Rattle.validate.specs.Accept.{accepts, memoryOk}
 use Rattle.tables.specs.Card.{Card}
 use Rattle.tables.specs.State.{card}
+use Rattle.tables.specs.Layout.{stateSize}
 use Rattle.tables.specs.Commands.{ackSize, commandOf}
 use Rattle.tables.specs.Reset.{zeros, resetBytes}
 use Rattle.rules.specs.Answer.{number, status, isDone}
@@ -21,6 +22,7 @@ use Rattle.rules.specs.declared.Answer.the-variants.{Done, Held, Refused}
 use Rattle.rules.specs.Contract.{bytesAfter}
 use Rattle.tape.specs.declared.Header.{Header}
 use Rattle.tape.specs.declared.Header.the-variants.{Record, Bad, Cut}
+use Rattle.tape.specs.declared.Step.{Step}
 
 -- ---- a record: "mark 52 4B, kind .., QP or CQ number byte .., length 16 bits up to 640, body"
 
@@ -45,6 +47,22 @@ isGood i = isMark i && isKind (leAt 1 i 2) && isLength (leAt 1 i 2) (leAt 2 i 4)
 -- what the first bytes of the input hold
 unfoldable pub headerOf : List ℕ → Header
 headerOf i = cond (ltb (length i) headerSize) Cut (cond (isGood i) (Record (leAt 1 i 2) (leAt 1 i 3) (leAt 2 i 4)) Bad)
+
+-- ---- what stands at the front of the input, of which the first bytes are held
+
+-- bytes of a record are missing: it is cut where the input has ended, else more bytes are wanted
+abbrev pub lacking : (ended : Bool) → Step
+lacking ended = cond ended Step.Fault Step.More
+
+-- a header with `held` bytes from its first on
+abbrev pub stepBy : Header → (held : ℕ) → (ended : Bool) → Step
+stepBy (Record k n s) held ended = cond (ltb held (headerSize + s)) (lacking ended) (Step.Whole k n s)
+stepBy Bad held ended = Step.Fault
+stepBy Cut held ended = lacking ended
+
+-- a whole record, a fault, a clean end, or too few bytes to tell
+unfoldable pub stepOf : (held : List ℕ) → (ended : Bool) → Step
+stepOf held ended = cond (eqb (length held) 0) (cond ended Step.End Step.More) (stepBy (headerOf held) (length held) ended)
 
 -- ---- the call that a record makes
 
@@ -116,24 +134,40 @@ pub record Answers (k : Call) (l out : List ℕ) (n : ℕ) (l′ out′ : List �
 
 -- ---- the whole output
 
--- The output from a header on, where `more` is the output of what comes after its record: "A bad mark, kind or length .. or a cut
--- record gives 72 6B 0E 00 00 00 and ends."
-abbrev pub playBy : (more : (l m input : List ℕ) → List ℕ) → Header → (l m rest : List ℕ) → List ℕ
-playBy more (Record k n s) l m rest =
-    let call : Call = callOf k n (take s rest) m in
-    cond (ltb (length rest) s) badRecord (answerTo l call ++ more (bytesAfter l call) (memoryLeft l m call) (drop s rest))
-playBy more Bad l m rest = badRecord
-playBy more Cut l m rest = badRecord
+-- the call of a whole record at the front of the input
+abbrev pub callAt : (kind number size : ℕ) → (m input : List ℕ) → Call
+callAt k n s m i = callOf k n (take s (drop headerSize i)) m
 
--- of at most `records` records; "Clean end adds nothing."
-unfoldable pub play : (records : ℕ) → (l m input : List ℕ) → List ℕ
+-- The answer records from a step on, where `more` gives those of what comes after its record: "A bad mark, kind or length .. or a cut
+-- record gives 72 6B 0E 00 00 00 and ends. Clean end adds nothing." An input that has ended wants no more bytes.
+abbrev pub playBy : (more : (l m input : List ℕ) → List (List ℕ)) → Step → (l m input : List ℕ) → List (List ℕ)
+playBy more (Step.Whole k n s) l m i =
+    let call : Call = callAt k n s m i in
+    answerTo l call ∷ more (bytesAfter l call) (memoryLeft l m call) (drop (headerSize + s) i)
+playBy more Step.Fault l m i = badRecord ∷ []
+playBy more Step.End l m i = []
+playBy more Step.More l m i = []
+
+-- at most `records` of them
+unfoldable pub play : (records : ℕ) → (l m input : List ℕ) → List (List ℕ)
 play zero l m i = []
-play (suc n) l m [] = []
-play (suc n) l m (b ∷ i) = playBy (play n) (headerOf (b ∷ i)) l m (drop headerSize (b ∷ i))
+play (suc n) l m i = playBy (play n) (stepOf i true) l m i
+
+-- a tape has fewer records than bytes
+abbrev pub played : (l m input : List ℕ) → List (List ℕ)
+played l m i = play (length i) l m i
+
+-- the answer records of a tape on a card that is reset to a memory of that many zero bytes
+unfoldable pub records : (memory : ℕ) → (input : List ℕ) → List (List ℕ)
+records memory i = played (resetBytes memory) (zeros memory) i
+
+-- a reset of the state l to a memory of so many bytes is answered 0
+abbrev pub resets : (l : List ℕ) → (memory : ℕ) → Bool
+resets l memory = eqb (length l) stateSize && memoryOk memory
 
 abbrev pub tapeMemory : ℕ
 tapeMemory = 4096
 
--- "starts from a reset with 4,096 zero bytes of memory"; a tape has fewer records than bytes
+-- "starts from a reset with 4,096 zero bytes of memory"
 unfoldable pub output : (input : List ℕ) → List ℕ
-output i = play (length i) (resetBytes tapeMemory) (zeros tapeMemory) i
+output i = flatten (records tapeMemory i)

@@ -1,4 +1,8 @@
 // The replay tape: reading a record's header, making its call, writing its answer. What a tape means: specs/Tape.antt.
+pub mod input;
+pub mod start;
+pub mod steps;
+
 use rules::Answer;
 ghost use mathlib.Core.Path.{_≡_};
 ghost use mathlib.Core.Bool.{true, cond};
@@ -17,13 +21,35 @@ ghost use Rattle.tape.specs.Tape.{isMark, isKind, isLength, headerOf, ac
 
 const HEADER: usize = 6;
 
-const MEMORY: u64 = 4096;
+// The length of a card's state.
+pub const STATE: usize = tables::rows::STATE_SIZE;
+
+// The length of an answer record at most.
+pub const MOST_ANSWER: usize = 135;
 
 // What the first bytes of the input hold: a header with its kind, number and body length, a bad one, or less than a header.
 pub enum Header {
     Record { kind: u8, number: u8, length: u16 },
     Bad,
     Cut,
+}
+
+// What stands at the front of the input: a whole record with its kind, number and body length, a bad or a cut record, a clean end, or
+// too few bytes to tell.
+pub enum Step {
+    Whole { kind: u8, number: u8, length: u16 },
+    Fault,
+    End,
+    More,
+}
+
+// What a turn did: it answered a record, of `used` bytes of the input, by `written` bytes; it answered a fault by six, and the tape ends
+// there; it found the clean end; or more bytes are wanted.
+pub enum Turn {
+    Answered { used: usize, written: usize },
+    Fault,
+    End,
+    More,
 }
 
 fn is_mark(input: &[u8]) -> bool
@@ -45,7 +71,7 @@ fn is_length(kind: u8, length: u16) -> bool
     (length <= 640) & ((kind < 4) | (length == 0))
 }
 
-pub fn read_header(input: &[u8]) -> Header
+fn read_header(input: &[u8]) -> Header
     ensures { λ r. ⌜ r ≡ headerOf (now (input .entry)) ⌝ }
 {
     if input.len() < HEADER {
@@ -195,7 +221,7 @@ fn answer_flush(state: &mut [u8], number: u8, out: &mut [u8]) -> usize
 }
 
 // Makes the call of a record of the given kind, number and body, writes its answer record and returns its length.
-pub fn answer_record(
+fn answer_record(
     state: &mut [u8],
     memory: &mut [u8],
     kind: u8,
@@ -216,16 +242,8 @@ pub fn answer_record(
     }
 }
 
-// Resets the card for a tape: a memory of 4,096 bytes.
-pub fn start(state: &mut [u8])
-    requires { ⌜ length (now state) ≡ stateSize ⌝ }
-    ensures { λ _. ⌜ now (state .exit) ≡ resetBytes tapeMemory ⌝ }
-{
-    queues::reset(state, MEMORY);
-}
-
 // Writes the answer record of a fault, which ends the tape.
-pub fn bad_record(out: &mut [u8])
+fn bad_record(out: &mut [u8])
     requires { ⌜ 6 ≤ length (now out) ⌝ }
     ensures { λ _. ⌜ now (out .exit) ≡ badRecord ++ drop 6 (now (out .entry)) ⌝ }
 {

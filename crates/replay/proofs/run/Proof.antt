@@ -1,20 +1,39 @@
 use mathlib.Core.Path.{_≡_}
 use lib.ListN.{length}
+use Rattle.tape.specs.Pieces.{Lies}
 use borrow.Author.Needs.{needs}
 use Rattle.replay.proofs.run.Statement.{statement}
 use Rattle.replay.proofs.run.Tie as tie
 
 abbrev Inv-loop : tie.InvT-loop
-Inv-loop state₀ memory₀ turns₀ state memory turns = (length state ≡ length state₀) × (length memory ≡ length memory₀)
+Inv-loop state₀ memory₀ window₀ held₀ turns₀ state memory window held turns = (length state ≡ length state₀) × (length memory ≡ length memory₀) × (length window ≡ length window₀) × Lies held window
 
 abbrev μ-loop : tie.MeasureT-loop
-μ-loop state₀ memory₀ turns₀ state memory turns = turns
+μ-loop state₀ memory₀ window₀ held₀ turns₀ state memory window held turns = turns
 
 loop-holds : tie.Need-loop-holds Inv-loop μ-loop
 loop-holds c = search needs
 
 turn-requires : tie.Need-turn-requires Inv-loop μ-loop
 turn-requires c κs = search needs
+
+enum-known-next : tie.Need-enum-known-next Inv-loop μ-loop
+enum-known-next c = search needs
+
+enum-told : tie.Need-enum-told Inv-loop μ-loop
+enum-told c = search needs
+
+same-length : tie.Need-same-length Inv-loop μ-loop
+same-length c = search needs
+
+same-length-2 : tie.Need-same-length-2 Inv-loop μ-loop
+same-length-2 c = search needs
+
+same-length-3 : tie.Need-same-length-3 Inv-loop μ-loop
+same-length-3 c = search needs
+
+returns : tie.Need-returns Inv-loop μ-loop
+returns c = search needs
 
 sub-turns : tie.Need-sub-turns Inv-loop μ-loop
 sub-turns c = search needs
@@ -23,22 +42,16 @@ loop-less : tie.Need-loop-less Inv-loop μ-loop
 loop-less c = search needs
 
 loop-again : tie.Need-loop-again Inv-loop μ-loop
-loop-again c = search needs
-
-same-length : tie.Need-same-length Inv-loop μ-loop
-same-length c = search needs
-
-same-length-2 : tie.Need-same-length-2 Inv-loop μ-loop
-same-length-2 c = search needs
-
-returns : tie.Need-returns Inv-loop μ-loop
-returns c = search needs
-
-same-length-3 : tie.Need-same-length-3 Inv-loop μ-loop
-same-length-3 c = search needs
+loop-again c = (search needs, search needs, search needs, rw (c .before .next .given .1) at (c .before .before .before .before .before .before .before .before .before .turn .ensures))
 
 same-length-4 : tie.Need-same-length-4 Inv-loop μ-loop
 same-length-4 c = search needs
+
+same-length-5 : tie.Need-same-length-5 Inv-loop μ-loop
+same-length-5 c = search needs
+
+same-length-6 : tie.Need-same-length-6 Inv-loop μ-loop
+same-length-6 c = search needs
 
 returns-2 : tie.Need-returns-2 Inv-loop μ-loop
 returns-2 c = search needs
@@ -51,12 +64,16 @@ run-spec =
     μ-loop
     loop-holds
     turn-requires
+    enum-known-next
+    enum-told
+    same-length
+    same-length-2
+    same-length-3
+    returns
     sub-turns
     loop-less
     loop-again
-    same-length
-    same-length-2
-    returns
-    same-length-3
     same-length-4
+    same-length-5
+    same-length-6
     returns-2)

@@ -1,47 +1,44 @@
-use mathlib.Core.Path.{sym, _∙_}
-use Rattle.tape.specs.Turns.{body-most}
+use Prim.Native.Nat.{_+_, _≤_}
+use native.Mathlib.Omega.{arith}
+use lib.ListN.{length-take, length-drop}
 use borrow.Author.Needs.{needs}
 use Rattle.replay.proofs.turn.Statement.{statement}
 use Rattle.replay.proofs.turn.Tie as tie
 
-slice-aggregate-read-full : tie.Need-slice-aggregate-read-full
-slice-aggregate-read-full c = search needs
+-- the bytes used are among those held
+used : (c : tie.After-n) → c .before .before .before .before .before .before .before .before .before .before .before .before .before .before .args .held .from + c .n .given .0 .0 ≤ c .before .before .before .before .before .before .before .before .before .before .before .before .before .before .args .held .to
+used c =
+    let a = c .before .before .before .before .before .before .before .before .before .before .before .before .before .before in
+    let u = rw (c .n .given .1) at (c .before .before .before .before .before .before .answer .ensures) in
+    let w = simp (length-take, length-drop) at u in
+    omega arith
 
-read-full-requires : tie.Need-read-full-requires
-read-full-requires c κs = search needs
+sub-answer : tie.Need-sub-answer
+sub-answer c = search needs
 
-returns : tie.Need-returns
-returns c = search needs
+part-answer-start : tie.Need-part-answer-start
+part-answer-start c = search needs
 
-array-share-prefix-bytes : tie.Need-array-share-prefix-bytes
-array-share-prefix-bytes c = search needs
+part-answer-end : tie.Need-part-answer-end
+part-answer-end c = search needs
 
-slice-aggregate-read-header : tie.Need-slice-aggregate-read-header
-slice-aggregate-read-header c = search needs
+answer-requires : tie.Need-answer-requires
+answer-requires c κs = search needs
 
-read-header-requires : tie.Need-read-header-requires
-read-header-requires c κs = search needs
+enum-known-n : tie.Need-enum-known-n
+enum-known-n c = search needs
 
-enum-known-header : tie.Need-enum-known-header
-enum-known-header c = search needs
-
-cast-answer-sized : tie.Need-cast-answer-sized
-cast-answer-sized c = search needs
-
-answer-sized-requires : tie.Need-answer-sized-requires
-answer-sized-requires c κs = body-most _ (sym (c .before .before .before .before .before .read-header .ensures) ∙ c .before .before .before .header .given .1)
+add-t19 : tie.Need-add-t19
+add-t19 c = let u = used (c .before) in omega arith
 
 enum-told : tie.Need-enum-told
 enum-told c = search needs
 
-end-with-fault-requires : tie.Need-end-with-fault-requires
-end-with-fault-requires c κs = search needs
+more-requires : tie.Need-more-requires
+more-requires c κs = search needs
 
 enum-told-2 : tie.Need-enum-told-2
 enum-told-2 c = search needs
-
-end-with-fault-requires-2 : tie.Need-end-with-fault-requires-2
-end-with-fault-requires-2 c κs = search needs
 
 same-length : tie.Need-same-length
 same-length c = search needs
@@ -49,34 +46,58 @@ same-length c = search needs
 same-length-2 : tie.Need-same-length-2
 same-length-2 c = search needs
 
+same-length-3 : tie.Need-same-length-3
+same-length-3 c = search needs
+
+returns : tie.Need-returns
+returns c = (used (c .before), c .before .before .before .before .before .before .before .before .before .before .before .before .before .before .before .pre .1)
+
+same-length-4 : tie.Need-same-length-4
+same-length-4 c = search needs
+
+same-length-5 : tie.Need-same-length-5
+same-length-5 c = search needs
+
+same-length-6 : tie.Need-same-length-6
+same-length-6 c = search needs
+
 returns-2 : tie.Need-returns-2
 returns-2 c = search needs
 
+same-length-7 : tie.Need-same-length-7
+same-length-7 c = search needs
+
+same-length-8 : tie.Need-same-length-8
+same-length-8 c = search needs
+
+same-length-9 : tie.Need-same-length-9
+same-length-9 c = search needs
+
 returns-3 : tie.Need-returns-3
 returns-3 c = search needs
-
-returns-4 : tie.Need-returns-4
-returns-4 c = search needs
 
 pub turn-spec : {M : Type 1} → statement M
 turn-spec =
     tie.close
     (tie.spec
-    slice-aggregate-read-full
-    read-full-requires
-    returns
-    array-share-prefix-bytes
-    slice-aggregate-read-header
-    read-header-requires
-    enum-known-header
-    cast-answer-sized
-    answer-sized-requires
+    sub-answer
+    part-answer-start
+    part-answer-end
+    answer-requires
+    enum-known-n
+    add-t19
     enum-told
-    end-with-fault-requires
+    more-requires
     enum-told-2
-    end-with-fault-requires-2
     same-length
     same-length-2
+    same-length-3
+    returns
+    same-length-4
+    same-length-5
+    same-length-6
     returns-2
-    returns-3
-    returns-4)
+    same-length-7
+    same-length-8
+    same-length-9
+    returns-3)

@@ -1,6 +1,6 @@
 use native.Mathlib.Omega.{arith}
 use denote.Ref.{now}
-use Rattle.tape.specs.Written.{ack-device, ack-port, ack-keys, ack-bare, ack-number}
+use Rattle.tape.proofs.WrittenLaws.{ack-device, ack-port, ack-keys, ack-bare, ack-number}
 use borrow.Author.Needs.{needs}
 use Rattle.tape.proofs.ack_size.Statement.{statement}
 use Rattle.tape.proofs.ack_size.Tie as tie

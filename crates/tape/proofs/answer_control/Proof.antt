@@ -1,4 +1,4 @@
-use Rattle.tape.specs.Written.{answers, done-two}
+use Rattle.tape.proofs.WrittenLaws.{answers, done-two}
 use Rattle.tables.specs.State.{card}
 use denote.Ref.{now}
 use borrow.Author.Needs.{needs}

@@ -1,4 +1,4 @@
-use Rattle.tape.specs.Written.{answers}
+use Rattle.tape.proofs.WrittenLaws.{answers}
 use borrow.Author.Needs.{needs}
 use Rattle.tape.proofs.answer_poll.Statement.{statement}
 use Rattle.tape.proofs.answer_poll.Tie as tie

@@ -1,4 +1,4 @@
-use Rattle.tape.specs.Written.{answers}
+use Rattle.tape.proofs.WrittenLaws.{answers}
 use mathlib.Core.Path.{refl}
 use borrow.Author.Needs.{needs}
 use Rattle.tape.proofs.answer_receive.Statement.{statement}

@@ -1,5 +1,5 @@
 use denote.Ref.{now}
-use Rattle.tape.specs.Written.{call-control, call-send, call-receive, call-poll, call-flush}
+use Rattle.tape.proofs.WrittenLaws.{call-control, call-send, call-receive, call-poll, call-flush}
 use borrow.Author.Needs.{needs}
 use Rattle.tape.proofs.answer_record.Statement.{statement}
 use Rattle.tape.proofs.answer_record.Tie as tie

@@ -1,7 +1,7 @@
 use Prim.Native.Nat.{_≤_}
 use lib.ListN.{length}
 use denote.Ref.{now}
-use Rattle.tape.specs.Written.{record-size, record-placed}
+use Rattle.tape.proofs.WrittenLaws.{record-size, record-placed}
 use borrow.Author.Needs.{needs}
 use Rattle.tape.proofs.put_answer.Statement.{statement}
 use Rattle.tape.proofs.put_answer.Tie as tie

@@ -1,7 +1,7 @@
 use native.Mathlib.Omega.{arith}
 use lib.ListN.{length-set}
 use denote.Ref.{now}
-use Rattle.tape.specs.Heads.{head-stored}
+use Rattle.tape.proofs.HeadLaws.{head-stored}
 use borrow.Author.Needs.{needs}
 use Rattle.tape.proofs.put_head.Statement.{statement}
 use Rattle.tape.proofs.put_head.Tie as tie

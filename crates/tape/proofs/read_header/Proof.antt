@@ -1,7 +1,7 @@
 use mathlib.Core.Path.{_≡_}
 use mathlib.Core.Bool.{true, false}
 use denote.Ref.{now}
-use Rattle.tape.specs.Heads.{header-cut, header-record, header-bad}
+use Rattle.tape.proofs.HeadLaws.{header-cut, header-record, header-bad}
 use Rattle.tape.specs.Tape.{isGood}
 use borrow.Author.Needs.{needs}
 use Rattle.tape.proofs.read_header.Statement.{statement}

@@ -1,4 +1,4 @@
--- A tape record by record: the output from each record on, which reads no further than the record. Assumes nothing.
+-- The bounds of a record: a header is in its first six bytes, a body has at most 640, an answer record at most 135. Assumes nothing.
 use mathlib.Core.Path.{_≡_, refl, sym, ap, _∙_}
 use mathlib.Core.Bool.{Bool, true, false, cond, _&&_, _||_}
 use mathlib.Core.List.{List, [], _∷_, _++_}
@@ -110,63 +110,3 @@ answer-most l k =
 
 pub answers-most : {k : Call} {l out : List ℕ} {n : ℕ} {l′ out′ : List ℕ} → Answers k l out n l′ out′ → n ≤ 135
 answers-most {k} {l} a = let h = answer-most l k in let e = a .count in omega arith
-
--- ---- the output does not depend on the bound on the records, where it is at least the input's length
-
-by-same : (f g : (l m i : List ℕ) → List ℕ) (h : Header) (l m r : List ℕ)
-    → ((l m : List ℕ) (s : ℕ) → f l m (drop s r) ≡ g l m (drop s r)) → playBy f h l m r ≡ playBy g h l m r
-by-same f g (Record k n s) l m r e =
-    let call : Call = callOf k n (take s r) m in
-    ap (λ (x : List ℕ). cond (ltb (length r) s) badRecord (answerTo l call ++ x)) (e (bytesAfter l call) (memoryLeft l m call) s)
-by-same f g Bad l m r e = refl
-by-same f g Cut l m r e = refl
-
-enough : (n n′ : ℕ) (l m i : List ℕ) → length i ≤ n → length i ≤ n′ → play n l m i ≡ play n′ l m i
-unfolding play
-enough zero zero l m i h h′ = refl
-enough zero (suc n′) l m [] h h′ = refl
-enough zero (suc n′) l m (b ∷ i) h h′ = absurd (omega arith)
-enough (suc n) zero l m [] h h′ = refl
-enough (suc n) zero l m (b ∷ i) h h′ = absurd (omega arith)
-enough (suc n) (suc n′) l m [] h h′ = refl
-enough (suc n) (suc n′) l m (b ∷ i) h h′ =
-    by-same (play n) (play n′) (headerOf (b ∷ i)) l m (drop 5 i)
-    (λ l m s. enough n n′ l m (drop s (drop 5 i)) (simp length-drop (omega arith)) (simp length-drop (omega arith)))
-
--- ---- each turn of the program
-
-abbrev pub played : (l m input : List ℕ) → List ℕ
-played l m i = play (length i) l m i
-
--- "Clean end adds nothing."
-pub turn-end : (l m : List ℕ) → played l m [] ≡ []
-unfolding play
-turn-end l m = refl
-
-module _ (l m : List ℕ) where
-  pub turn-bad : (i : List ℕ) → headerOf i ≡ Bad → played l m i ≡ badRecord
-  unfolding play headerOf
-  turn-bad [] e = absurd (let z : _≡_ {A = ℕ} 0 1 = cc in omega arith)
-  turn-bad (b ∷ i) e = rw e
-
-  pub turn-cut : (i : List ℕ) → 0 < length i → headerOf i ≡ Cut → played l m i ≡ badRecord
-  unfolding play
-  turn-cut [] h e = absurd (omega arith)
-  turn-cut (b ∷ i) h e = rw e
-
-  pub turn-short : (i : List ℕ) {k n s : ℕ} → headerOf i ≡ Record k n s → length (drop 6 i) < s → played l m i ≡ badRecord
-  unfolding play headerOf
-  turn-short [] e h = absurd (let z : _≡_ {A = ℕ} 0 1 = cc in omega arith)
-  turn-short (b ∷ i) {k} {n} {s} e h = rw (e, lt-ltb (length (drop 5 i)) s h)
-
-  pub turn-record : (i : List ℕ) {k n s : ℕ} → headerOf i ≡ Record k n s → s ≤ length (drop 6 i)
-      → let call = callOf k n (take s (drop 6 i)) m in
-      played l m i ≡ answerTo l call ++ played (bytesAfter l call) (memoryLeft l m call) (drop s (drop 6 i))
-  unfolding play headerOf
-  turn-record [] e h = absurd (let z : _≡_ {A = ℕ} 0 1 = cc in omega arith)
-  turn-record (b ∷ i) {k} {n} {s} e h =
-      let r = drop 5 i in
-      let call : Call = callOf k n (take s r) m in
-      rw (e, le-ltb (length r) s h)
-      (ap (λ (x : List ℕ). answerTo l call ++ x)
-      (enough (length i) (length (drop s r)) (bytesAfter l call) (memoryLeft l m call) (drop s r) (simp length-drop (omega arith)) (omega arith)))

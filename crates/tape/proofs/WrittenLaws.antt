@@ -1,7 +1,7 @@
 -- Answer records written: what stands in the buffer, and how many bytes a call wrote. Assumes nothing.
 use mathlib.Core.Path.{_≡_, refl, sym, ap, ap₂, _∙_}
 use mathlib.Core.Logic.{⊎-elim, inl, inr}
-use mathlib.Core.Bool.{Bool, true, false, cond, true≢false}
+use mathlib.Core.Bool.{Bool, true, false, cond, not, _&&_, true≢false}
 use mathlib.Core.List.{List, [], _∷_, _++_}
 use mathlib.Core.Option.{Option, none, some}
 use Prim.Native.Nat.{ℕ, _+_, _*_, _≤_}
@@ -15,7 +15,7 @@ use Rattle.wire.specs.Checks.{Check, refusal}
 use Rattle.wire.proofs.CheckLaws.{passed}
 use Rattle.wire.specs.Codec.{decode}
 use Rattle.wire.specs.Le.{leAt}
-use Rattle.validate.specs.Accept.{accepts}
+use Rattle.validate.specs.Accept.{accepts, memoryOk}
 use Rattle.tables.specs.Card.{Card}
 use Rattle.tables.specs.State.{card}
 use Rattle.tables.specs.declared.CreateQp.{CreateQp}
@@ -33,8 +33,8 @@ use Rattle.rules.specs.declared.Answer.{Answer}
 use Rattle.rules.proofs.Answers.{answered-not-done}
 use Rattle.rules.proofs.Tests.{passed-before}
 use Rattle.rules.specs.Bytes.{effectBytes}
-use Rattle.rules.specs.Contract.{Owes, bytesAfter}
-use Rattle.tape.specs.Tape.{answerHead, answerRecord, answerTo, writtenBy, placed, Answers, completionSize, callOf, tapeAck, tapeMemory}
+use Rattle.rules.specs.Contract.{Owes, bytesBy}
+use Rattle.tape.specs.Tape.{answerHead, answerRecord, answerTo, writtenBy, placed, Answers, completionSize, callOf, tapeAck, resets}
 
 -- the head, then the first n of the bytes behind it
 module _ (r : Answer) (b : List ℕ) (n : ℕ) (within : n ≤ length b) where
@@ -151,10 +151,28 @@ answers {l} {l′} {m′} {b′} {out} {out′} {k} {r} o n w size bytes =
     let e : answerRecord r (take n b′) ≡ answerTo l k = rw (w, o .meets .answer, o .meets .buffer) in
     record { count = size ∙ ap length e; bytes = bytes ∙ ap (λ (x : List ℕ). placed x out) e; state = o .bytes }
 
--- the reset of a tape
-pub started : (l : List ℕ) {r : Answer} {l′ : List ℕ} → length l ≡ stateSize → Owes l (Call.reset tapeMemory) r l′ [] [] → l′ ≡ resetBytes tapeMemory
-unfolding checks resetChecks effectBytes
-started l {r} {l′} h o = let e : l′ ≡ bytesAfter l (Call.reset tapeMemory) = o .bytes in rw (eq-eqb (length l) stateSize h) at e
+-- ---- the reset of a tape
+
+module _ (l : List ℕ) (n : ℕ) where
+  bytes-by : (sized fits : Bool) → bytesBy (cond (not sized) (some 15) (cond (not fits) (some 11) none)) l (Call.reset n) ≡ cond (sized && fits) (resetBytes n) l
+  unfolding effectBytes
+  bytes-by true true = refl
+  bytes-by true false = refl
+  bytes-by false fits = refl
+
+  done-by : (sized fits : Bool) → isDone (settled (cond (not sized) (some 15) (cond (not fits) (some 11) none)) (card l) (Call.reset n) .answer) ≡ (sized && fits)
+  done-by true true = refl
+  done-by true false = refl
+  done-by false fits = refl
+
+  module _ {r : Answer} {l′ : List ℕ} (o : Owes l (Call.reset n) r l′ [] []) where
+    pub started-answer : isDone r ≡ resets l n
+    unfolding checks resetChecks
+    started-answer = ap isDone (o .meets .answer) ∙ done-by (eqb (length l) stateSize) (memoryOk n)
+
+    pub started-bytes : l′ ≡ cond (resets l n) (resetBytes n) l
+    unfolding checks resetChecks
+    started-bytes = o .bytes ∙ bytes-by (eqb (length l) stateSize) (memoryOk n)
 
 -- ---- the call of each kind
 
