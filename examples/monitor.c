@@ -25,7 +25,7 @@ struct account {
 static uint8_t state[LESUNGKAP_STATE_BYTES];
 static uint8_t memory[MEMORY_BYTES];
 static uint8_t command[LESUNGKAP_COMMAND_MOST_BYTES];
-static uint8_t ack[LESUNGKAP_ACK_BYTES];
+static uint8_t ack[LESUNGKAP_ACK_MOST_BYTES];
 static struct lesungkap_recorder recorder;
 static uint64_t last_request = 0;
 
@@ -65,6 +65,22 @@ static void control(size_t length)
 {
     const uint32_t result = lesungkap_recorded_control(&recorder, state, sizeof state, command, length, ack, sizeof ack);
     expect(result == LESUNGKAP_DONE, lesungkap_answer_text(lesungkap_answer(result)));
+}
+
+/* A guest's driver asks what the card is before it creates anything. */
+static void query(void)
+{
+    struct lesungkap_query_device_ack device;
+    struct lesungkap_query_port_ack port;
+    control(lesungkap_put_query_device(command, sizeof command));
+    expect(lesungkap_get_query_device_ack(ack, sizeof ack, &device) == LESUNGKAP_DONE, "the ack of query device");
+    printf("  control       query device: answer 0, done: version %" PRIu32 "; %" PRIu32 " PDs, CQs of %" PRIu32 " places, %" PRIu32
+           " MRs of up to %" PRIu64 " bytes, %" PRIu32 " entries to a send\n",
+           device.hw_ver, device.max_pd, device.max_cqe, device.max_mr, device.max_mr_size, device.max_send_sge);
+    control(lesungkap_put_query_port(command, sizeof command));
+    expect(lesungkap_get_query_port_ack(ack, sizeof ack, &port) == LESUNGKAP_DONE, "the ack of query port");
+    printf("  control       query port: answer 0, done: messages of up to %" PRIu32 " bytes\n", port.max_msg_sz);
+    expect(device.max_mr_size == sizeof memory && port.max_msg_sz >= TEXT_BYTES, "a card for this memory and these messages");
 }
 
 static void modify(const struct account *who, uint32_t mask, uint8_t to, uint32_t destination)
@@ -301,6 +317,7 @@ static void play(void)
     expect(lesungkap_reset(state, sizeof state, sizeof memory) == LESUNGKAP_DONE, "a reset");
     printf("Three operators share one card over %d bytes of memory. Each line names its call.\n\n", MEMORY_BYTES);
     printf("  reset         answer 0, done\n");
+    query();
     open_account(&north);
     open_account(&coast);
     open_account(&ridge);

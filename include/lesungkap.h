@@ -26,7 +26,7 @@
  * LESUNGKAP_DONE leaves state, memory and buffers as they were, except that a refused control command writes 1 as the first ack byte
  * (but not with LESUNGKAP_BUFFER_TOO_SHORT and LESUNGKAP_BAD_STATE).
  *
- *     uint8_t command[LESUNGKAP_COMMAND_MOST_BYTES], ack[LESUNGKAP_ACK_BYTES];
+ *     uint8_t command[LESUNGKAP_COMMAND_MOST_BYTES], ack[LESUNGKAP_ACK_MOST_BYTES];
  *     struct lesungkap_create_cq wanted = {8};
  *     struct lesungkap_create_cq_ack made;
  *     size_t length = lesungkap_put_create_cq(command, sizeof command, &wanted);
@@ -58,12 +58,13 @@ uint32_t lesungkap_reset(uint8_t *state, size_t state_len, uint64_t memory_len);
 
 /* Runs a control command.
  *   BAD_STATE         the state is not acceptable
- *   BUFFER_TOO_SHORT  ack_len is under LESUNGKAP_ACK_BYTES, whatever the command
+ *   BUFFER_TOO_SHORT  ack_len is under LESUNGKAP_ACK_BYTES; where the command's first two bytes name a query, under
+ *                     LESUNGKAP_DEVICE_ACK_BYTES or LESUNGKAP_PORT_ACK_BYTES. LESUNGKAP_ACK_MOST_BYTES are enough for all
  *   RECORD_LENGTH     the command has fewer than two bytes
  *   UNKNOWN           class or command
  *   RECORD_LENGTH     it hasn't the command's length
  *   BAD_FIELD, NOT_LIVE, RANGE, WRONG_STATE, IN_USE, FULL, as lesungkap_commands.h says of each command
- *   DONE              the one object that it names or makes has changed; the ack has 0 and its data */
+ *   DONE              the one object that it names or makes has changed, by a query nothing; the ack has 0 and its data */
 uint32_t lesungkap_control(uint8_t *state, size_t state_len, const uint8_t *command, size_t command_len, uint8_t *ack,
                            size_t ack_len);
 

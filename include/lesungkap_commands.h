@@ -24,6 +24,8 @@ enum {
     LESUNGKAP_COMMAND_NUMBER_AT = 1,
     LESUNGKAP_COMMAND_DATA_AT = 2, /* first number of every command that has data */
 
+    LESUNGKAP_QUERY_DEVICE_BYTES = LESUNGKAP_COMMAND_DATA_AT,
+    LESUNGKAP_QUERY_PORT_BYTES = LESUNGKAP_COMMAND_DATA_AT,
     LESUNGKAP_CREATE_PD_BYTES = LESUNGKAP_COMMAND_DATA_AT,
     LESUNGKAP_NUMBER_COMMAND_BYTES = LESUNGKAP_COMMAND_DATA_AT + 4, /* of each command that has one number */
 
@@ -58,10 +60,60 @@ enum {
     LESUNGKAP_EMPTY_ACK_BYTES = 1,  /* written by destroy, deregister, modify, and by each refusal */
     LESUNGKAP_NUMBER_ACK_BYTES = 5, /* by create */
     LESUNGKAP_KEYS_ACK_BYTES = 13,  /* by register */
-    LESUNGKAP_ACK_BYTES = 13        /* least length of an ack buffer, for every command */
+    LESUNGKAP_ACK_BYTES = 13,       /* least length of an ack buffer, but for a query */
+
+    LESUNGKAP_DEVICE_FLAGS_AT = 1,
+    LESUNGKAP_DEVICE_MR_SIZE_AT = 9,
+    LESUNGKAP_DEVICE_PAGE_SIZE_AT = 17,
+    LESUNGKAP_DEVICE_HW_VER_AT = 25,
+    LESUNGKAP_DEVICE_QP_WR_AT = 29,
+    LESUNGKAP_DEVICE_SEND_SGE_AT = 33,
+    LESUNGKAP_DEVICE_RECV_SGE_AT = 37,
+    LESUNGKAP_DEVICE_SGE_RD_AT = 41,
+    LESUNGKAP_DEVICE_CQE_AT = 45,
+    LESUNGKAP_DEVICE_MR_AT = 49,
+    LESUNGKAP_DEVICE_PD_AT = 53,
+    LESUNGKAP_DEVICE_QP_RD_ATOM_AT = 57,
+    LESUNGKAP_DEVICE_QP_INIT_RD_ATOM_AT = 61,
+    LESUNGKAP_DEVICE_AH_AT = 65,
+    LESUNGKAP_DEVICE_ACK_DELAY_AT = 69,
+    LESUNGKAP_DEVICE_ACK_BYTES = 129, /* written by query device, and least length of its ack buffer */
+
+    LESUNGKAP_PORT_GID_TABLE_AT = 1,
+    LESUNGKAP_PORT_MESSAGE_SIZE_AT = 5,
+    LESUNGKAP_PORT_ACK_BYTES = 33, /* written by query port, and least length of its ack buffer */
+
+    LESUNGKAP_ACK_MOST_BYTES = LESUNGKAP_DEVICE_ACK_BYTES /* an ack buffer for any command */
 };
 
 /* ---- commands and what their acks carry; the others' acks carry nothing */
+
+/* Query device has no data. What the card is, by 001's names, which are those of ibv_device_attr; its reserved bytes are written as 0 and not
+ * read. The card says of itself: no flags; max_mr_size the memory's length; page_size_cap 4096; hw_ver 1; max_qp_wr 4, max_send_sge 4,
+ * max_recv_sge 2, max_sge_rd 4, max_cqe 16, max_mr 32, max_pd 8, max_qp_rd_atom 1, max_qp_init_rd_atom 1, max_ah 0; no delay. */
+struct lesungkap_query_device_ack {
+    uint64_t device_cap_flags;
+    uint64_t max_mr_size;
+    uint64_t page_size_cap; /* a mask of sizes, not a shift */
+    uint32_t hw_ver;
+    uint32_t max_qp_wr;
+    uint32_t max_send_sge;
+    uint32_t max_recv_sge;
+    uint32_t max_sge_rd;
+    uint32_t max_cqe;
+    uint32_t max_mr;
+    uint32_t max_pd;
+    uint32_t max_qp_rd_atom;
+    uint32_t max_qp_init_rd_atom;
+    uint32_t max_ah;
+    uint8_t local_ca_ack_delay;
+};
+
+/* Query port has no data. No GIDs; max_msg_sz is LESUNGKAP_MOST_MESSAGE. */
+struct lesungkap_query_port_ack {
+    uint32_t gid_tbl_len;
+    uint32_t max_msg_sz;
+};
 
 /* BAD_FIELD: places outside 1 to LESUNGKAP_CQ_MOST_PLACES. FULL. */
 struct lesungkap_create_cq {
@@ -180,6 +232,26 @@ static inline unsigned lesungkap_get_number_(const uint8_t *bytes, size_t length
         *number = lesungkap_get_32_(bytes + LESUNGKAP_COMMAND_DATA_AT);
     }
     return answer;
+}
+
+static inline size_t lesungkap_put_query_device(uint8_t *bytes, size_t length)
+{
+    return lesungkap_put_command_(bytes, length, LESUNGKAP_QUERY_DEVICE, LESUNGKAP_QUERY_DEVICE_BYTES);
+}
+
+static inline unsigned lesungkap_get_query_device(const uint8_t *bytes, size_t length)
+{
+    return lesungkap_test_command_(bytes, length, LESUNGKAP_QUERY_DEVICE, LESUNGKAP_QUERY_DEVICE_BYTES);
+}
+
+static inline size_t lesungkap_put_query_port(uint8_t *bytes, size_t length)
+{
+    return lesungkap_put_command_(bytes, length, LESUNGKAP_QUERY_PORT, LESUNGKAP_QUERY_PORT_BYTES);
+}
+
+static inline unsigned lesungkap_get_query_port(const uint8_t *bytes, size_t length)
+{
+    return lesungkap_test_command_(bytes, length, LESUNGKAP_QUERY_PORT, LESUNGKAP_QUERY_PORT_BYTES);
 }
 
 static inline size_t lesungkap_put_create_cq(uint8_t *bytes, size_t length, const struct lesungkap_create_cq *data)
@@ -322,6 +394,19 @@ static inline unsigned lesungkap_get_destroy_qp(const uint8_t *bytes, size_t len
 
 /* ---- put and get: acks */
 
+/* The least length of an ack buffer for this command, whatever its bytes: the first two tell. */
+static inline size_t lesungkap_ack_need(const uint8_t *command, size_t length)
+{
+    if (length < LESUNGKAP_COMMAND_DATA_AT || command[LESUNGKAP_COMMAND_CLASS_AT] != LESUNGKAP_CONTROL_CLASS) {
+        return LESUNGKAP_ACK_BYTES;
+    }
+    switch (command[LESUNGKAP_COMMAND_NUMBER_AT]) {
+    case LESUNGKAP_QUERY_DEVICE: return LESUNGKAP_DEVICE_ACK_BYTES;
+    case LESUNGKAP_QUERY_PORT: return LESUNGKAP_PORT_ACK_BYTES;
+    default: return LESUNGKAP_ACK_BYTES;
+    }
+}
+
 /* An ack that carries nothing, and the first byte of every ack: LESUNGKAP_ACK_OK or LESUNGKAP_ACK_ERROR. */
 static inline size_t lesungkap_put_ack(uint8_t *bytes, size_t length, uint8_t ack)
 {
@@ -413,6 +498,74 @@ static inline unsigned lesungkap_get_register_mr_ack(const uint8_t *bytes, size_
         ack->mrn = lesungkap_get_32_(bytes + LESUNGKAP_ACK_NUMBER_AT);
         ack->lkey = lesungkap_get_32_(bytes + LESUNGKAP_ACK_LKEY_AT);
         ack->rkey = lesungkap_get_32_(bytes + LESUNGKAP_ACK_RKEY_AT);
+    }
+    return answer;
+}
+
+static inline size_t lesungkap_put_query_device_ack(uint8_t *bytes, size_t length, const struct lesungkap_query_device_ack *ack)
+{
+    if (length < LESUNGKAP_DEVICE_ACK_BYTES) {
+        return 0;
+    }
+    memset(bytes, 0, LESUNGKAP_DEVICE_ACK_BYTES);
+    lesungkap_put_le_(bytes + LESUNGKAP_DEVICE_FLAGS_AT, 8, ack->device_cap_flags);
+    lesungkap_put_le_(bytes + LESUNGKAP_DEVICE_MR_SIZE_AT, 8, ack->max_mr_size);
+    lesungkap_put_le_(bytes + LESUNGKAP_DEVICE_PAGE_SIZE_AT, 8, ack->page_size_cap);
+    lesungkap_put_le_(bytes + LESUNGKAP_DEVICE_HW_VER_AT, 4, ack->hw_ver);
+    lesungkap_put_le_(bytes + LESUNGKAP_DEVICE_QP_WR_AT, 4, ack->max_qp_wr);
+    lesungkap_put_le_(bytes + LESUNGKAP_DEVICE_SEND_SGE_AT, 4, ack->max_send_sge);
+    lesungkap_put_le_(bytes + LESUNGKAP_DEVICE_RECV_SGE_AT, 4, ack->max_recv_sge);
+    lesungkap_put_le_(bytes + LESUNGKAP_DEVICE_SGE_RD_AT, 4, ack->max_sge_rd);
+    lesungkap_put_le_(bytes + LESUNGKAP_DEVICE_CQE_AT, 4, ack->max_cqe);
+    lesungkap_put_le_(bytes + LESUNGKAP_DEVICE_MR_AT, 4, ack->max_mr);
+    lesungkap_put_le_(bytes + LESUNGKAP_DEVICE_PD_AT, 4, ack->max_pd);
+    lesungkap_put_le_(bytes + LESUNGKAP_DEVICE_QP_RD_ATOM_AT, 4, ack->max_qp_rd_atom);
+    lesungkap_put_le_(bytes + LESUNGKAP_DEVICE_QP_INIT_RD_ATOM_AT, 4, ack->max_qp_init_rd_atom);
+    lesungkap_put_le_(bytes + LESUNGKAP_DEVICE_AH_AT, 4, ack->max_ah);
+    bytes[LESUNGKAP_DEVICE_ACK_DELAY_AT] = ack->local_ca_ack_delay;
+    return LESUNGKAP_DEVICE_ACK_BYTES;
+}
+
+static inline unsigned lesungkap_get_query_device_ack(const uint8_t *bytes, size_t length, struct lesungkap_query_device_ack *ack)
+{
+    const unsigned answer = lesungkap_get_ack_(bytes, length, LESUNGKAP_DEVICE_ACK_BYTES);
+    if (answer == LESUNGKAP_DONE) {
+        ack->device_cap_flags = lesungkap_get_le_(bytes + LESUNGKAP_DEVICE_FLAGS_AT, 8);
+        ack->max_mr_size = lesungkap_get_le_(bytes + LESUNGKAP_DEVICE_MR_SIZE_AT, 8);
+        ack->page_size_cap = lesungkap_get_le_(bytes + LESUNGKAP_DEVICE_PAGE_SIZE_AT, 8);
+        ack->hw_ver = lesungkap_get_32_(bytes + LESUNGKAP_DEVICE_HW_VER_AT);
+        ack->max_qp_wr = lesungkap_get_32_(bytes + LESUNGKAP_DEVICE_QP_WR_AT);
+        ack->max_send_sge = lesungkap_get_32_(bytes + LESUNGKAP_DEVICE_SEND_SGE_AT);
+        ack->max_recv_sge = lesungkap_get_32_(bytes + LESUNGKAP_DEVICE_RECV_SGE_AT);
+        ack->max_sge_rd = lesungkap_get_32_(bytes + LESUNGKAP_DEVICE_SGE_RD_AT);
+        ack->max_cqe = lesungkap_get_32_(bytes + LESUNGKAP_DEVICE_CQE_AT);
+        ack->max_mr = lesungkap_get_32_(bytes + LESUNGKAP_DEVICE_MR_AT);
+        ack->max_pd = lesungkap_get_32_(bytes + LESUNGKAP_DEVICE_PD_AT);
+        ack->max_qp_rd_atom = lesungkap_get_32_(bytes + LESUNGKAP_DEVICE_QP_RD_ATOM_AT);
+        ack->max_qp_init_rd_atom = lesungkap_get_32_(bytes + LESUNGKAP_DEVICE_QP_INIT_RD_ATOM_AT);
+        ack->max_ah = lesungkap_get_32_(bytes + LESUNGKAP_DEVICE_AH_AT);
+        ack->local_ca_ack_delay = bytes[LESUNGKAP_DEVICE_ACK_DELAY_AT];
+    }
+    return answer;
+}
+
+static inline size_t lesungkap_put_query_port_ack(uint8_t *bytes, size_t length, const struct lesungkap_query_port_ack *ack)
+{
+    if (length < LESUNGKAP_PORT_ACK_BYTES) {
+        return 0;
+    }
+    memset(bytes, 0, LESUNGKAP_PORT_ACK_BYTES);
+    lesungkap_put_le_(bytes + LESUNGKAP_PORT_GID_TABLE_AT, 4, ack->gid_tbl_len);
+    lesungkap_put_le_(bytes + LESUNGKAP_PORT_MESSAGE_SIZE_AT, 4, ack->max_msg_sz);
+    return LESUNGKAP_PORT_ACK_BYTES;
+}
+
+static inline unsigned lesungkap_get_query_port_ack(const uint8_t *bytes, size_t length, struct lesungkap_query_port_ack *ack)
+{
+    const unsigned answer = lesungkap_get_ack_(bytes, length, LESUNGKAP_PORT_ACK_BYTES);
+    if (answer == LESUNGKAP_DONE) {
+        ack->gid_tbl_len = lesungkap_get_32_(bytes + LESUNGKAP_PORT_GID_TABLE_AT);
+        ack->max_msg_sz = lesungkap_get_32_(bytes + LESUNGKAP_PORT_MESSAGE_SIZE_AT);
     }
     return answer;
 }

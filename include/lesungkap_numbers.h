@@ -10,9 +10,9 @@
 
 /* The minor number grows with each change of a call, a record or the state's layout; a state and a tape belong to one minor number. */
 #define LESUNGKAP_VERSION_MAJOR 0
-#define LESUNGKAP_VERSION_MINOR 2
+#define LESUNGKAP_VERSION_MINOR 3
 #define LESUNGKAP_VERSION_PATCH 0
-#define LESUNGKAP_VERSION "0.2.0"
+#define LESUNGKAP_VERSION "0.3.0"
 
 #ifdef __cplusplus
 extern "C" {
@@ -65,6 +65,8 @@ enum {
 
 /* Control commands. */
 enum {
+    LESUNGKAP_QUERY_DEVICE = 0,
+    LESUNGKAP_QUERY_PORT = 1,
     LESUNGKAP_CREATE_CQ = 2,
     LESUNGKAP_DESTROY_CQ = 3,
     LESUNGKAP_CREATE_PD = 4,

@@ -80,6 +80,8 @@ static inline size_t lesungkap_ack_written(uint32_t result, const uint8_t *comma
     default: return LESUNGKAP_EMPTY_ACK_BYTES;
     }
     switch (command[LESUNGKAP_COMMAND_NUMBER_AT]) {
+    case LESUNGKAP_QUERY_DEVICE: return LESUNGKAP_DEVICE_ACK_BYTES;
+    case LESUNGKAP_QUERY_PORT: return LESUNGKAP_PORT_ACK_BYTES;
     case LESUNGKAP_CREATE_CQ:
     case LESUNGKAP_CREATE_PD:
     case LESUNGKAP_CREATE_QP: return LESUNGKAP_NUMBER_ACK_BYTES;

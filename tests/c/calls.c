@@ -113,6 +113,35 @@ static void resets(void)
     expect(state[LESUNGKAP_STATE_BYTES] == 0xa5, "a reset that writes past the state");
 }
 
+/* The queries, before anything is created: 12 one byte short, and then what the card is. */
+static void queries(void)
+{
+    const uint8_t device[] = {LESUNGKAP_CONTROL_CLASS, LESUNGKAP_QUERY_DEVICE}, port[] = {LESUNGKAP_CONTROL_CLASS, LESUNGKAP_QUERY_PORT};
+    uint8_t ack[LESUNGKAP_ACK_MOST_BYTES + 1];
+    struct lesungkap_query_device_ack card = {0};
+    struct lesungkap_query_port_ack link = {0};
+    memset(ack, 0xa5, sizeof ack);
+    expect(lesungkap_control(state, LESUNGKAP_STATE_BYTES, device, sizeof device, ack, LESUNGKAP_DEVICE_ACK_BYTES - 1) ==
+               LESUNGKAP_BUFFER_TOO_SHORT, "a query device with 128 ack bytes");
+    expect(lesungkap_control(state, LESUNGKAP_STATE_BYTES, port, sizeof port, ack, LESUNGKAP_PORT_ACK_BYTES - 1) ==
+               LESUNGKAP_BUFFER_TOO_SHORT, "a query port with 32 ack bytes");
+    expect(ack[0] == 0xa5, "an ack byte of a query that is answered 12");
+    expect(lesungkap_control(state, LESUNGKAP_STATE_BYTES, device, sizeof device, ack, sizeof ack) == LESUNGKAP_DONE, "a query device");
+    expect(ack[LESUNGKAP_DEVICE_ACK_BYTES] == 0xa5, "a byte past the ack of query device");
+    expect(lesungkap_get_query_device_ack(ack, LESUNGKAP_DEVICE_ACK_BYTES - 1, &card) == LESUNGKAP_RECORD_LENGTH, "a short ack, read");
+    expect(lesungkap_get_query_device_ack(ack, sizeof ack, &card) == LESUNGKAP_DONE, "the ack of query device");
+    expect(card.max_mr_size == MEMORY_BYTES && card.page_size_cap == 4096 && card.hw_ver == 1, "the device");
+    expect(card.max_mr == LESUNGKAP_MR_COUNT && card.max_pd == LESUNGKAP_PD_COUNT && card.max_cqe == LESUNGKAP_CQ_MOST_PLACES &&
+               card.max_send_sge == LESUNGKAP_SEND_MOST_SGES && card.max_recv_sge == LESUNGKAP_RECEIVE_MOST_SGES, "the device's limits");
+    memset(ack, 0xa5, sizeof ack);
+    expect(lesungkap_control(state, LESUNGKAP_STATE_BYTES, port, sizeof port, ack, sizeof ack) == LESUNGKAP_DONE, "a query port");
+    expect(ack[LESUNGKAP_PORT_ACK_BYTES] == 0xa5, "a byte past the ack of query port");
+    expect(lesungkap_get_query_port_ack(ack, sizeof ack, &link) == LESUNGKAP_DONE, "the ack of query port");
+    expect(link.gid_tbl_len == 0 && link.max_msg_sz == LESUNGKAP_MOST_MESSAGE, "the port");
+    ack[LESUNGKAP_ACK_BYTE_AT] = LESUNGKAP_ACK_ERROR;
+    expect(lesungkap_get_query_port_ack(ack, sizeof ack, &link) == LESUNGKAP_BAD_FIELD, "an ack of a refused query, read");
+}
+
 static void flushes(void)
 {
     refused_flush(PAIR, LESUNGKAP_NOT_LIVE, "a flush of a queue pair that isn't live");
@@ -135,6 +164,7 @@ static void flushes(void)
 int main(void)
 {
     resets();
+    queries();
     flushes();
     return faults != 0;
 }

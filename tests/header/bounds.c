@@ -90,6 +90,8 @@ RECORD(create_cq_ack, LESUNGKAP_NUMBER_ACK_BYTES, shape_ack(bytes, length))
 RECORD(create_pd_ack, LESUNGKAP_NUMBER_ACK_BYTES, shape_ack(bytes, length))
 RECORD(create_qp_ack, LESUNGKAP_NUMBER_ACK_BYTES, shape_ack(bytes, length))
 RECORD(register_mr_ack, LESUNGKAP_KEYS_ACK_BYTES, shape_ack(bytes, length))
+RECORD(query_device_ack, LESUNGKAP_DEVICE_ACK_BYTES, shape_ack(bytes, length))
+RECORD(query_port_ack, LESUNGKAP_PORT_ACK_BYTES, shape_ack(bytes, length))
 
 static void try_state(void)
 {
@@ -117,7 +119,7 @@ static void try_state(void)
 
 #define EACH(F) \
     F(sge) F(send) F(receive) F(completion) F(create_cq) F(destroy_cq) F(destroy_pd) F(deregister_mr) F(destroy_qp) F(register_mr) \
-    F(create_qp) F(modify_qp) F(create_cq_ack) F(create_pd_ack) F(create_qp_ack) F(register_mr_ack)
+    F(create_qp) F(modify_qp) F(create_cq_ack) F(create_pd_ack) F(create_qp_ack) F(register_mr_ack) F(query_device_ack) F(query_port_ack)
 #define RUN(X) try_##X();
 #define SHOW(X) printf("%6u  %s\n", read_##X, #X); few |= read_##X < 1000;
 

@@ -34,6 +34,8 @@ RECORD(create_cq_ack)
 RECORD(create_pd_ack)
 RECORD(create_qp_ack)
 RECORD(register_mr_ack)
+RECORD(query_device_ack)
+RECORD(query_port_ack)
 
 OBJECT(cq)
 OBJECT(mr)
@@ -41,6 +43,11 @@ OBJECT(qp)
 RING(completion)
 RING(receive)
 
+size_t wrap_put_query_device(uint8_t *bytes, size_t length) { return lesungkap_put_query_device(bytes, length); }
+unsigned wrap_get_query_device(const uint8_t *bytes, size_t length) { return lesungkap_get_query_device(bytes, length); }
+size_t wrap_put_query_port(uint8_t *bytes, size_t length) { return lesungkap_put_query_port(bytes, length); }
+unsigned wrap_get_query_port(const uint8_t *bytes, size_t length) { return lesungkap_get_query_port(bytes, length); }
+size_t wrap_ack_need(const uint8_t *command, size_t length) { return lesungkap_ack_need(command, length); }
 size_t wrap_put_create_pd(uint8_t *bytes, size_t length) { return lesungkap_put_create_pd(bytes, length); }
 unsigned wrap_get_create_pd(const uint8_t *bytes, size_t length) { return lesungkap_get_create_pd(bytes, length); }
 size_t wrap_put_ack(uint8_t *bytes, size_t length, uint8_t ack) { return lesungkap_put_ack(bytes, length, ack); }

@@ -14,7 +14,7 @@ enum { MEMORY_BYTES = 4096, COUNT = 20000, TAPE_BYTES = 16 << 20, SMALL_BYTES = 
 static uint8_t state[LESUNGKAP_STATE_BYTES];
 static uint8_t memory[MEMORY_BYTES];
 static uint8_t record[2 * LESUNGKAP_TAPE_MOST_BODY];
-static uint8_t ack[LESUNGKAP_ACK_BYTES];
+static uint8_t ack[LESUNGKAP_ACK_MOST_BYTES];
 static struct lesungkap_recorder files, buffers, small;
 static uint64_t odd; /* calls that no tape can hold */
 static uint64_t seed = 7;
@@ -51,7 +51,7 @@ static void run_control(size_t length)
     const uint32_t result = lesungkap_recorded_control(&files, state, sizeof state, record, length, ack, lent);
     struct lesungkap_register_mr_ack made;
     again(LESUNGKAP_TAPE_CONTROL, 0, record, length, result, ack, lesungkap_ack_written(result, record));
-    odd += lent < sizeof ack || length > LESUNGKAP_TAPE_MOST_BODY;
+    odd += lent < lesungkap_ack_need(record, length) || length > LESUNGKAP_TAPE_MOST_BODY;
     if (result == LESUNGKAP_DONE && record[LESUNGKAP_COMMAND_NUMBER_AT] == LESUNGKAP_REGISTER_MR) {
         expect(lesungkap_get_register_mr_ack(ack, sizeof ack, &made) == LESUNGKAP_DONE, "the ack of register MR");
         keys[below(16)] = made.rkey;
@@ -65,7 +65,9 @@ static size_t put_random_command(void)
     const struct lesungkap_create_qp qp = {below(3), LESUNGKAP_QP_TYPE_RC, (uint8_t)below(2), below(3), below(3)};
     const struct lesungkap_deregister_mr old_mr = {below(LESUNGKAP_MR_COUNT)};
     const struct lesungkap_destroy_qp old_qp = {below(LESUNGKAP_QP_COUNT)};
-    switch (below(40)) {
+    switch (below(42)) {
+    case 40: return lesungkap_put_query_device(record, sizeof record) + (below(4) ? 0 : 1);
+    case 41: return lesungkap_put_query_port(record, sizeof record) + (below(4) ? 0 : 1);
     case 0: return lesungkap_put_create_pd(record, sizeof record);
     case 1: return lesungkap_put_create_cq(record, sizeof record, &cq);
     case 2: return lesungkap_put_create_qp(record, sizeof record, &qp);

@@ -10,6 +10,14 @@ pub fn number_command(command: u8, number: u32) -> Vec<u8> {
     [&[CONTROL_CLASS, command][..], &number.to_le_bytes()].concat()
 }
 
+pub fn query_device() -> Vec<u8> {
+    vec![CONTROL_CLASS, 0]
+}
+
+pub fn query_port() -> Vec<u8> {
+    vec![CONTROL_CLASS, 1]
+}
+
 pub fn create_queue(places: u32) -> Vec<u8> {
     number_command(2, places)
 }

@@ -3,7 +3,7 @@
 use crate::Card;
 use reference::layout::COMPLETION_BYTES;
 use reference::replay::{Kind, MARK, MEMORY, MOST_BODY};
-use reference::{Outcome, ACK_BYTES};
+use reference::{ack_need, Outcome};
 use std::fmt;
 
 /// A call with all that is lent to it but the state and the memory's content; of buffers the lengths.
@@ -65,7 +65,7 @@ impl Call {
     /// The record of a replay tape, if a tape can hold the call.
     pub fn tape_record(&self) -> Option<Vec<u8>> {
         let (kind, number, body): (Kind, u32, &[u8]) = match self {
-            Call::Control { command, ack } if *ack >= ACK_BYTES => (Kind::Control, 0, command),
+            Call::Control { command, ack } if *ack >= ack_need(command) => (Kind::Control, 0, command),
             Call::Send { qpn, record, memory: MEMORY } => (Kind::Send, *qpn, record),
             Call::Receive { qpn, record } => (Kind::Receive, *qpn, record),
             Call::Poll { cqn, buffer } if *buffer >= COMPLETION_BYTES => (Kind::Poll, *cqn, &[]),

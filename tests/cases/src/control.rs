@@ -38,13 +38,18 @@ fn records() -> Vec<Case> {
         one("command-one-byte-other-class", vec![5], 1),
         one("command-class-5", vec![5, 4], 13),
         one("command-class-7", vec![7, 4], 13),
+        one("query-of-class-5", vec![5, 0], 13),
+        one("query-of-class-0", vec![0, 1], 13),
+        queries(),
     ];
     let mut unknown = Script::joined();
-    for number in (0..=255).filter(|number| !matches!(number, 2..=5 | 7..=10 | 12)) {
+    for number in (0..=255).filter(|number| !matches!(number, 0..=5 | 7..=10 | 12)) {
         unknown.refused(vec![6, number], 13).refused(vec![6, number, 0, 0, 0, 0], 13);
     }
     cases.push(unknown.named("command-unknown"));
     let known = [
+        ("query-device", query_device()),
+        ("query-port", query_port()),
         ("create-cq", create_queue(1)),
         ("destroy-cq", destroy_queue(0)),
         ("create-pd", create_domain()),
@@ -65,6 +70,18 @@ fn records() -> Vec<Case> {
         cases.push(script.named(format!("{name}-other-lengths")));
     }
     cases
+}
+
+/// The queries report the same before anything is created, between other calls and with full tables; a refused one changes nothing.
+fn queries() -> Case {
+    let mut script = Script::new();
+    script.queries().create(create_domain(), 0).queries();
+    for n in 0..32 {
+        script.register(0, 7, 0, 1, 0, 256 * n + 1);
+    }
+    script.queries().refused(vec![6, 0, 0], 1).refused(vec![6, 1, 0], 1).queries();
+    script.done(deregister(0)).queries().register(0, 7, 0, 1, 0, 2);
+    script.named("queries")
 }
 
 fn queues_and_domains() -> Vec<Case> {

@@ -1,6 +1,6 @@
 //! Lent lengths and lent states: what no tape can show. Each check panics on a card that does anything else than document 01 says.
 
-use crate::script::ACCESSES;
+use crate::script::{device_ack, port_ack, ACCESSES};
 use cards::build::*;
 use cards::{Call, Card};
 use reference::layout::*;
@@ -11,9 +11,11 @@ const LEFT: u8 = 0xa5;
 type Check = (&'static str, fn(&dyn Card));
 
 /// Every check by its name.
-pub const CHECKS: [Check; 11] = [
+pub const CHECKS: [Check; 13] = [
     ("reset_takes_1_to_1048576", reset_takes_1_to_1048576),
     ("ack_needs_13_bytes", ack_needs_13_bytes),
+    ("queries_need_129_or_33_bytes", queries_need_129_or_33_bytes),
+    ("queries_report_the_card", queries_report_the_card),
     ("poll_needs_24_bytes", poll_needs_24_bytes),
     ("memory_has_the_reset_length", memory_has_the_reset_length),
     ("numbers_past_the_tables_are_not_live", numbers_past_the_tables_are_not_live),
@@ -87,6 +89,60 @@ pub fn ack_needs_13_bytes(card: &dyn Card) {
     }
 }
 
+/// Where the record's first two bytes are 06 00 or 06 01, whatever follows them.
+pub fn queries_need_129_or_33_bytes(card: &dyn Card) {
+    let good = sample(card);
+    let records: [(&[u8], usize, u8); 13] = [
+        (&[6, 0], 129, 0),
+        (&[6, 1], 33, 0),
+        (&[6, 0, 0], 129, 1),
+        (&[6, 1, 0], 33, 1),
+        (&[6, 0, 1, 2, 3, 4], 129, 1),
+        (&[6, 1, 255, 255, 255, 255], 33, 1),
+        (&[6], 13, 1),
+        (&[5, 0], 13, 13),
+        (&[7, 1], 13, 13),
+        (&[0, 0, 0], 13, 13),
+        (&[0], 13, 1),
+        (&[6, 6], 13, 13),
+        (&[6, 11], 13, 13),
+    ];
+    for (command, need, wanted) in records {
+        for length in 0..=140 {
+            let (mut state, mut ack) = (good.clone(), vec![LEFT; length]);
+            let outcome = card.control(&mut state, command, &mut ack);
+            assert_eq!(outcome, answer(if length < need { 12 } else { wanted }), "{command:?}, ack of {length} bytes");
+            let written = match (length < need, wanted) {
+                (true, _) => vec![],
+                (false, 0) if need == 129 => device_ack(4096),
+                (false, 0) => port_ack(),
+                _ => vec![1],
+            };
+            assert_eq!(ack[..written.len()], written, "{command:?}, ack of {length} bytes");
+            assert!(ack[written.len()..].iter().all(|&byte| byte == LEFT), "{command:?}, ack of {length} bytes");
+            assert!(state == good);
+        }
+    }
+}
+
+/// The largest region is the memory length of the reset, whatever the tables hold; they stay as they are.
+pub fn queries_report_the_card(card: &dyn Card) {
+    for memory_length in [1, 2, 100, 4095, 4096, 65_537, MOST_MEMORY - 1, MOST_MEMORY] {
+        let mut state = vec![LEFT; STATE_BYTES];
+        assert_eq!(card.reset(&mut state, memory_length), answer(0));
+        for command in [create_domain(), create_queue(1), register(0, 7, 0, 1, 0), create_pair(0, 2, 0, 0, 0)] {
+            let before = state.clone();
+            let (mut device, mut port) = ([LEFT; 130], [LEFT; 34]);
+            assert_eq!(card.control(&mut state, &query_device(), &mut device), answer(0));
+            assert_eq!(card.control(&mut state, &query_port(), &mut port), answer(0));
+            assert_eq!(device[..], [device_ack(memory_length), vec![LEFT]].concat());
+            assert_eq!(port[..], [port_ack(), vec![LEFT]].concat());
+            assert!(state == before);
+            assert_eq!(card.control(&mut state, &command, &mut [LEFT; 13]), answer(0));
+        }
+    }
+}
+
 pub fn poll_needs_24_bytes(card: &dyn Card) {
     let good = sample(card);
     for (cqn, wanted) in [(0, 0), (1, 9), (2, 2), (8, 2), (256, 2), (u32::MAX, 2)] {
@@ -134,6 +190,8 @@ pub fn a_bad_state_comes_before_all_else(card: &dyn Card) {
         let (mut state, mut ack, mut memory) = (lent.clone(), [LEFT; 12], [LEFT; 5]);
         assert_eq!(card.control(&mut state, &[5], &mut ack), answer(15));
         assert_eq!(card.control(&mut state, &[5], &mut [LEFT; 13]), answer(15));
+        assert_eq!(card.control(&mut state, &query_device(), &mut ack), answer(15));
+        assert_eq!(card.control(&mut state, &query_port(), &mut [LEFT; 33]), answer(15));
         assert_eq!(card.post_send(&mut state, &mut memory, 99, &[]), answer(15));
         assert_eq!(card.post_receive(&mut state, 99, &[]), answer(15));
         assert_eq!(card.flush(&mut state, 99), answer(15));

@@ -5,7 +5,7 @@ use cards::{Call, Outcome};
 use reference::layout::COMPLETION_BYTES;
 use reference::record::{Completion, Piece};
 use reference::replay::MEMORY;
-use reference::ACK_BYTES;
+use reference::ack_need;
 
 pub struct Case {
     pub name: String,
@@ -107,8 +107,15 @@ impl Script {
 
     // ---- control
 
+    /// A command with one ack byte more than it needs, which stays.
     fn control(&mut self, command: Vec<u8>, answer: u8, ack: Vec<u8>) -> &mut Script {
-        self.call(Call::Control { command, ack: ACK_BYTES + 1 }, answer, 0, ack)
+        let lent = ack_need(&command) + 1;
+        self.call(Call::Control { command, ack: lent }, answer, 0, ack)
+    }
+
+    /// Both queries of a card over a tape's memory.
+    pub fn queries(&mut self) -> &mut Script {
+        self.control(build::query_device(), 0, device_ack(MEMORY as u64)).control(build::query_port(), 0, port_ack())
     }
 
     /// A command answered 0 whose ack has no data.
@@ -224,4 +231,27 @@ impl Script {
     pub fn raw(&mut self, bytes: &[u8]) -> &mut Script {
         self.step(Step::Raw(bytes.to_vec()))
     }
+}
+
+/// The ack of query device: 0, then 8 + 8 + 8 + 4 bytes, ten numbers of 4 bytes, and zeros, 128 bytes in all.
+pub fn device_ack(memory_length: u64) -> Vec<u8> {
+    let mut ack = vec![0];
+    for number in [0, memory_length, 4096] {
+        ack.extend(number.to_le_bytes());
+    }
+    for number in [1u32, 4, 4, 2, 4, 16, 32, 8, 1, 1, 0] {
+        ack.extend(number.to_le_bytes());
+    }
+    ack.resize(129, 0);
+    ack
+}
+
+/// The ack of query port: 0, then two numbers of 4 bytes and zeros, 32 bytes in all.
+pub fn port_ack() -> Vec<u8> {
+    let mut ack = vec![0];
+    for number in [0u32, 4096] {
+        ack.extend(number.to_le_bytes());
+    }
+    ack.resize(33, 0);
+    ack
 }

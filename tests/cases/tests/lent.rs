@@ -26,6 +26,8 @@ macro_rules! on_every_card {
 on_every_card! {
     reset_takes_1_to_1048576,
     ack_needs_13_bytes,
+    queries_need_129_or_33_bytes,
+    queries_report_the_card,
     poll_needs_24_bytes,
     memory_has_the_reset_length,
     numbers_past_the_tables_are_not_live,

@@ -4,7 +4,7 @@ use crate::side::Done;
 use cards::Call;
 use reference::layout::*;
 use reference::listing::{Listing, PairListing};
-use reference::record::{total, Command, Completion, Local, SendRecord, READ};
+use reference::record::{total, Command, Completion, Local, SendRecord, CONTROL_CLASS, READ};
 use std::collections::BTreeMap;
 
 #[derive(Default)]
@@ -23,7 +23,9 @@ const ANSWERS: [(&str, &[u8]); 6] = [
 ];
 
 /// Every answer that each command can give when the record, the buffers and the state pass.
-const COMMANDS: [(u8, &[u8]); 9] = [
+const COMMANDS: [(u8, &[u8]); 11] = [
+    (0, &[0, 1]),
+    (1, &[0, 1]),
     (2, &[0, 1, 4, 8]),
     (3, &[0, 1, 2, 10]),
     (4, &[0, 1, 8]),
@@ -33,6 +35,20 @@ const COMMANDS: [(u8, &[u8]); 9] = [
     (9, &[0, 1, 2, 4, 8]),
     (10, &[0, 1, 2, 3, 4]),
     (12, &[0, 1, 2]),
+];
+
+/// Both sides of what the ack of a query needs, and of what it does not need.
+const QUERIES: [&str; 10] = [
+    "device, ack of 128 bytes, answer 12",
+    "device, ack of 129 bytes, answer 0",
+    "device with data, ack of 13 to 128, answer 12",
+    "device with data, ack of 129 on, answer 1",
+    "port, ack of 32 bytes, answer 12",
+    "port, ack of 33 bytes, answer 0",
+    "port with data, ack of 13 to 32, answer 12",
+    "port with data, ack of 33 on, answer 1",
+    "one byte, ack of 13 to 128, answer 1",
+    "another class, ack of 13 to 32, answer 13",
 ];
 
 /// Whether a registration with this access can be done: remote write (2) needs local write (1).
@@ -74,12 +90,7 @@ impl Coverage {
         let answer = done.outcome.answer;
         self.add(format!("{} answer {answer}", call.name()));
         match call {
-            Call::Control { command, .. } if command.len() >= 2 && command[0] == 6 => {
-                self.add(format!("command {} answer {answer}", command[1]));
-                if let Ok(Command::Register { access, .. }) = Command::read(command) {
-                    self.add(format!("access {access} answer {answer}"));
-                }
-            }
+            Call::Control { command, ack } => self.count_command(command, *ack, answer),
             Call::Send { qpn, record, .. } => {
                 if answer == 0 {
                     self.add(format!("opcode {} status {}", record[8], done.outcome.status));
@@ -94,6 +105,29 @@ impl Coverage {
             }
             _ => {}
         }
+    }
+
+    fn count_command(&mut self, command: &[u8], ack: usize, answer: u8) {
+        if let [CONTROL_CLASS, number, ..] = command {
+            self.add(format!("command {number} answer {answer}"));
+        }
+        if let Ok(Command::Register { access, .. }) = Command::read(command) {
+            self.add(format!("access {access} answer {answer}"));
+        }
+        let query = match (command, ack, answer) {
+            ([CONTROL_CLASS, 0], 128, 12) => 0,
+            ([CONTROL_CLASS, 0], 129, 0) => 1,
+            ([CONTROL_CLASS, 0, _, ..], 13..=128, 12) => 2,
+            ([CONTROL_CLASS, 0, _, ..], 129.., 1) => 3,
+            ([CONTROL_CLASS, 1], 32, 12) => 4,
+            ([CONTROL_CLASS, 1], 33, 0) => 5,
+            ([CONTROL_CLASS, 1, _, ..], 13..=32, 12) => 6,
+            ([CONTROL_CLASS, 1, _, ..], 33.., 1) => 7,
+            ([CONTROL_CLASS], 13..=128, 1) => 8,
+            ([_, 0 | 1, ..], 13..=32, 13) => 9,
+            _ => return,
+        };
+        self.add(format!("query {}", QUERIES[query]));
     }
 
     fn add(&mut self, cell: String) {
@@ -151,7 +185,7 @@ impl Coverage {
             for cell in cells {
                 let count = self.cells.get(&cell).copied().unwrap_or(0);
                 missing += usize::from(count == 0);
-                println!("  {cell:<44}{count:>10}{}", if count == 0 { "  NEVER SEEN" } else { "" });
+                println!("  {cell:<52}{count:>10}{}", if count == 0 { "  NEVER SEEN" } else { "" });
             }
         }
         missing
@@ -166,6 +200,7 @@ fn groups() -> Vec<(&'static str, Vec<String>)> {
     vec![
         ("answers of each call", answers),
         ("answers of each command", cells("command", "answer", &COMMANDS)),
+        ("acks of queries", QUERIES.iter().map(|query| format!("query {query}")).collect()),
         ("registrations with each access", cells("access", "answer", &ACCESSES)),
         ("statuses of each opcode", cells("opcode", "status", &STATUSES)),
         ("completions polled", cells("completion", "status", &COMPLETIONS)),

@@ -92,16 +92,18 @@ impl Generator {
 
     /// Any command, sensible or not.
     pub(crate) fn any_command(&mut self, card: &Listing) -> Vec<u8> {
-        let command = match self.rng.below(20) {
-            0 => create_domain(),
-            1 => create_queue(1 + self.rng.below(16) as u32),
-            2 => destroy_domain(self.number(DOMAINS)),
-            3 => destroy_queue(self.number(QUEUES)),
-            4..=6 => deregister(self.number(REGIONS)),
-            7..=9 => self.registration(card),
-            10 => self.pair_creation(card),
-            11 => destroy_pair(self.number(PAIRS)),
-            12..=16 => self.any_move(card),
+        let command = match self.rng.below(24) {
+            0 | 1 => query_device(),
+            2 | 3 => query_port(),
+            4 => create_domain(),
+            5 => create_queue(1 + self.rng.below(16) as u32),
+            6 => destroy_domain(self.number(DOMAINS)),
+            7 => destroy_queue(self.number(QUEUES)),
+            8..=10 => deregister(self.number(REGIONS)),
+            11..=13 => self.registration(card),
+            14 => self.pair_creation(card),
+            15 => destroy_pair(self.number(PAIRS)),
+            16..=20 => self.any_move(card),
             _ => self.removal(card),
         };
         if self.rng.percent(self.changed + 10) {

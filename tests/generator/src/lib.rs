@@ -10,7 +10,7 @@ pub use damage::{damage, fields, forget_destination, region_slots, Field};
 use cards::{build, Call, Reference, Rng};
 use reference::layout::*;
 use reference::listing::{Listing, PairListing, QueueListing};
-use reference::Outcome;
+use reference::{ack_need, Outcome};
 
 pub struct Generator {
     rng: Rng,
@@ -155,8 +155,10 @@ impl Generator {
     }
 }
 
+/// A command with some ack bytes more than it needs.
 fn control(command: Vec<u8>) -> Call {
-    Call::Control { command, ack: 16 }
+    let ack = ack_need(&command) + 3;
+    Call::Control { command, ack }
 }
 
 /// The numbers of the live queues that fit.

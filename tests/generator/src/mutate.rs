@@ -4,6 +4,7 @@ use crate::work::{key_of, peer_of};
 use crate::Generator;
 use cards::build::{Modify, Send, MASK_DESTINATION};
 use cards::Call;
+use reference::ack_need;
 use reference::layout::*;
 use reference::listing::Listing;
 use reference::record::*;
@@ -154,6 +155,7 @@ impl Generator {
                 let at = 2 + self.rng.index(command.len() - 2);
                 command[at] = self.rng.pick(&[0, 1, 2, 4, 7, 8, 16, 17, 128, 255]);
             }
+            _ if matches!(command[..], [CONTROL_CLASS, 0 | 1]) => command.resize(3 + self.rng.index(40), 0),
             _ if command[1] == 7 && command.len() == 34 => self.change_registration(&mut command, card),
             _ if Modify::read(&command).is_some() => self.change_modification(&mut command),
             5 if command.len() > 2 => {
@@ -202,7 +204,10 @@ impl Generator {
             return call;
         }
         match call {
-            Call::Control { command, .. } => Call::Control { command, ack: self.rng.index(16) },
+            Call::Control { command, .. } => {
+                let ack = self.ack_length(ack_need(&command));
+                Call::Control { command, ack }
+            }
             Call::Poll { cqn, .. } => Call::Poll { cqn, buffer: self.rng.index(28) },
             Call::Send { record, memory, .. } if self.rng.percent(50) => {
                 Call::Send { qpn: self.number(PAIRS) | self.rng.pick(&[0, 8, 256]), record, memory }
@@ -214,6 +219,16 @@ impl Generator {
             Call::Receive { record, .. } => Call::Receive { qpn: self.number(PAIRS) | self.rng.pick(&[0, 8, 256]), record },
             Call::Flush { .. } => Call::Flush { qpn: self.rng.pick(&[8, 255, 256, u32::MAX]) },
             other => other,
+        }
+    }
+
+    /// At both sides of what this command's ack needs, and of what another's does.
+    fn ack_length(&mut self, need: usize) -> usize {
+        match self.rng.below(4) {
+            0 => self.rng.index(16),
+            1 => self.rng.index(141),
+            2 => self.rng.pick(&[12, 13, 32, 33, 128, 129]),
+            _ => need - self.rng.index(2),
         }
     }
 }

@@ -87,29 +87,54 @@ structs! {
     CreateQpAck { qpn: u32 } "ack of create QP" wrap_size_create_qp_ack wrap_put_create_qp_ack wrap_get_create_qp_ack;
     RegisterMrAck { mrn: u32, lkey: u32, rkey: u32 }
         "ack of register MR" wrap_size_register_mr_ack wrap_put_register_mr_ack wrap_get_register_mr_ack;
+    QueryDeviceAck { device_cap_flags: u64, max_mr_size: u64, page_size_cap: u64, hw_ver: u32, limits: [u32; 10], local_ca_ack_delay: u8 }
+        "ack of query device" wrap_size_query_device_ack wrap_put_query_device_ack wrap_get_query_device_ack;
+    QueryPortAck { gid_tbl_len: u32, max_msg_sz: u32 }
+        "ack of query port" wrap_size_query_port_ack wrap_put_query_port_ack wrap_get_query_port_ack;
 }
 
-/// Create PD has no data.
-#[derive(Clone, Copy, Debug, PartialEq, Eq)]
-pub struct CreatePd;
+/// Commands without data.
+macro_rules! bare {
+    ($($type:ident $name:literal $put:ident $get:ident;)*) => {
+        $(
+            #[derive(Clone, Copy, Debug, PartialEq, Eq)]
+            pub struct $type;
 
-impl Record for CreatePd {
-    const NAME: &'static str = "create PD";
+            impl Record for $type {
+                const NAME: &'static str = $name;
 
-    fn put(&self, bytes: &mut [u8]) -> usize {
-        unsafe { wrap_put_create_pd(bytes.as_mut_ptr(), bytes.len()) }
-    }
+                fn put(&self, bytes: &mut [u8]) -> usize {
+                    // SAFETY: pointer and length are those of one slice.
+                    unsafe { $put(bytes.as_mut_ptr(), bytes.len()) }
+                }
 
-    fn get(bytes: &[u8]) -> Result<CreatePd, u32> {
-        match unsafe { wrap_get_create_pd(bytes.as_ptr(), bytes.len()) } {
-            0 => Ok(CreatePd),
-            answer => Err(answer),
+                fn get(bytes: &[u8]) -> Result<$type, u32> {
+                    // SAFETY: pointer and length are those of one slice.
+                    match unsafe { $get(bytes.as_ptr(), bytes.len()) } {
+                        0 => Ok($type),
+                        answer => Err(answer),
+                    }
+                }
+
+                fn size_in_c() -> usize {
+                    0
+                }
+            }
+        )*
+
+        extern "C" {
+            $(
+                fn $put(bytes: *mut u8, length: usize) -> usize;
+                fn $get(bytes: *const u8, length: usize) -> c_uint;
+            )*
         }
-    }
+    };
+}
 
-    fn size_in_c() -> usize {
-        0
-    }
+bare! {
+    QueryDevice "query device" wrap_put_query_device wrap_get_query_device;
+    QueryPort "query port" wrap_put_query_port wrap_get_query_port;
+    CreatePd "create PD" wrap_put_create_pd wrap_get_create_pd;
 }
 
 /// An ack that carries nothing: put writes OK.
@@ -174,8 +199,7 @@ struct Number {
 }
 
 extern "C" {
-    fn wrap_put_create_pd(bytes: *mut u8, length: usize) -> usize;
-    fn wrap_get_create_pd(bytes: *const u8, length: usize) -> c_uint;
+    fn wrap_ack_need(command: *const u8, length: usize) -> usize;
     fn wrap_put_ack(bytes: *mut u8, length: usize, ack: u8) -> usize;
     fn wrap_get_ack(bytes: *const u8, length: usize) -> c_uint;
     fn wrap_size_cq() -> usize;
@@ -247,6 +271,11 @@ pub fn peek_completion(state: &[u8], cqn: u32, index: u32) -> Result<Completion,
 
 pub fn peek_receive(state: &[u8], qpn: u32, index: u32) -> Result<Receive, u32> {
     got(|receive| unsafe { wrap_peek_receive(state.as_ptr(), state.len(), qpn, index, receive) })
+}
+
+pub fn ack_need(command: &[u8]) -> usize {
+    // SAFETY: pointer and length are those of one slice.
+    unsafe { wrap_ack_need(command.as_ptr(), command.len()) }
 }
 
 /// Every number of the headers by name.

@@ -53,6 +53,8 @@ fn compare_records(seed: u64, values: u64) {
         records::create_qp(&mut rng);
         records::modify_qp(&mut rng);
         records::acks(&mut rng);
+        records::query_acks(&mut rng);
+        records::ack_needs(&mut rng);
     }
     println!("{values} values of each record: put, get and the reference agree");
 }

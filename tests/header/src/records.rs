@@ -3,6 +3,7 @@
 use crate::c::{self, Record};
 use cards::{build, Rng};
 use reference::layout::{MOST_INLINE, MOST_PIECES, MOST_RECEIVE_PIECES};
+use reference::query::{Device, Port, DEVICE_ACK_BYTES, PORT_ACK_BYTES};
 use reference::record::{self, Command, Local, Piece, ReceiveRecord, SendRecord, INLINE, PIECE_BYTES};
 
 const LEFT: u8 = 0xa5;
@@ -242,6 +243,14 @@ pub fn number_commands(rng: &mut Rng) {
         Command::DestroyQueue { number } => Some(c::DestroyCq { cqn: number }),
         _ => None,
     });
+    command(rng, c::QueryDevice, build::query_device(), &|read| match read {
+        Command::QueryDevice => Some(c::QueryDevice),
+        _ => None,
+    });
+    command(rng, c::QueryPort, build::query_port(), &|read| match read {
+        Command::QueryPort => Some(c::QueryPort),
+        _ => None,
+    });
     command(rng, c::CreatePd, build::create_domain(), &|read| match read {
         Command::CreateDomain => Some(c::CreatePd),
         _ => None,
@@ -326,6 +335,51 @@ pub fn acks(rng: &mut Rng) {
     ack(rng, keys, &[a, b, d], &|read| c::RegisterMrAck { mrn: read[0], lkey: read[1], rkey: read[2] });
 }
 
+/// The acks of the queries, on any values of their fields; a longer one is read, whatever its reserved bytes hold.
+pub fn query_acks(rng: &mut Rng) {
+    let device = Device {
+        device_cap_flags: word64(rng),
+        max_mr_size: word64(rng),
+        page_size_cap: word64(rng),
+        hw_ver: word32(rng),
+        limits: [(); 10].map(|()| word32(rng)),
+        local_ca_ack_delay: rng.word() as u8,
+    };
+    let mut bytes = vec![LEFT; DEVICE_ACK_BYTES];
+    bytes[0] = 0;
+    device.write(&mut bytes);
+    let read = |bytes: &[u8]| Device::read(bytes).map(|read| device_of(&read)).map_err(|refusal| refusal as u32);
+    compare(rng, device_of(&device), Other { bytes, read: &read });
+    let port = Port { gid_tbl_len: word32(rng), max_msg_sz: word32(rng) };
+    let mut bytes = vec![LEFT; PORT_ACK_BYTES];
+    bytes[0] = 0;
+    port.write(&mut bytes);
+    let read = |bytes: &[u8]| Port::read(bytes).map(|read| port_of(&read)).map_err(|refusal| refusal as u32);
+    compare(rng, port_of(&port), Other { bytes, read: &read });
+}
+
+fn device_of(device: &Device) -> c::QueryDeviceAck {
+    c::QueryDeviceAck {
+        device_cap_flags: device.device_cap_flags,
+        max_mr_size: device.max_mr_size,
+        page_size_cap: device.page_size_cap,
+        hw_ver: device.hw_ver,
+        limits: device.limits,
+        local_ca_ack_delay: device.local_ca_ack_delay,
+    }
+}
+
+fn port_of(port: &Port) -> c::QueryPortAck {
+    c::QueryPortAck { gid_tbl_len: port.gid_tbl_len, max_msg_sz: port.max_msg_sz }
+}
+
+/// What an ack buffer needs, of any bytes.
+pub fn ack_needs(rng: &mut Rng) {
+    let mut command = vec![0; rng.index(4)];
+    command.iter_mut().for_each(|byte| *byte = rng.pick(&[0, 1, 2, 5, 6, 6, 6, 7, 255]));
+    assert_eq!(c::ack_need(&command), reference::ack_need(&command), "ack need of {command:?}");
+}
+
 /// The mirrored structs have C's sizes.
 pub fn sizes() {
     fn one<T: Record>() {
@@ -347,6 +401,8 @@ pub fn sizes() {
     one::<c::CreatePdAck>();
     one::<c::CreateQpAck>();
     one::<c::RegisterMrAck>();
+    one::<c::QueryDeviceAck>();
+    one::<c::QueryPortAck>();
     for (name, there, here) in c::peeked_sizes() {
         assert_eq!(there, here, "size of {name}");
     }

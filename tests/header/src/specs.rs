@@ -108,15 +108,16 @@ impl Specs {
         }
     }
 
-    /// `record { size = SIZE; lines = line OFFSET WIDTH (λ r. r .NAME) ..`.
+    /// `record { size = SIZE; lines = line OFFSET WIDTH (λ r. r .NAME) ..`; the field's name stands last in its parentheses.
     fn layout(&mut self, stem: &str, name: &str, body: &[String]) {
         for part in body.windows(3).filter(|part| part[0] == "size" && part[1] == "=") {
             if let Some(size) = literal(&part[2]) {
                 self.add(format!("{stem}.{name}.size"), size);
             }
         }
-        for line in body.windows(9).filter(|line| line[0] == "line" && line[3] == "(" && line[8] == ")") {
-            if let (Some(offset), Some(field)) = (literal(&line[1]), line[7].strip_prefix('.')) {
+        for at in (0..body.len()).filter(|&at| body[at] == "line" && body.get(at + 3).map_or(false, |next| next == "(")) {
+            let last = body[at..].iter().take_while(|token| *token != ")").last();
+            if let (Some(offset), Some(field)) = (literal(&body[at + 1]), last.and_then(|token| token.strip_prefix('.'))) {
                 self.add(format!("{stem}.{name}.{field}"), offset);
             }
         }

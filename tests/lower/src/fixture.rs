@@ -3,7 +3,7 @@
 use cards::build::*;
 use cards::{Call, Card, Reference, Rng};
 use reference::layout::STATE_BYTES;
-use reference::ACK_BYTES;
+use reference::{ack_need, ACK_BYTES};
 
 pub const MEMORY: usize = 8192;
 pub const LOCAL: u64 = 1 << 32;
@@ -16,8 +16,10 @@ pub const RECEIVER: u32 = 1;
 /// A pair in state 1, and a domain, a queue and a region that no pair names.
 pub const SPARE: u32 = 2;
 
+/// A command with just the ack bytes that it needs.
 pub fn control(command: Vec<u8>) -> Call {
-    Call::Control { command, ack: ACK_BYTES }
+    let ack = ack_need(&command);
+    Call::Control { command, ack }
 }
 
 pub fn state() -> Vec<u8> {

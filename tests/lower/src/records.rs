@@ -32,6 +32,9 @@ pub fn compare(both: &mut Both, rng: &mut Rng) {
     for answer in [0, 1, 2, 4, 10, 11, 13] {
         both.tally.require("command", format!("answer {answer}"));
     }
+    for answer in [0, 1, 12, 13] {
+        both.tally.require("ack", format!("answer {answer}"));
+    }
     let (state, memory) = (state(), memory(rng));
     let mut records = Records { check: "send record", hand: SENDS, both, state, memory };
     sends(&mut records, rng);
@@ -39,6 +42,7 @@ pub fn compare(both: &mut Both, rng: &mut Rng) {
     receives(&mut records, rng);
     records = Records { check: "command", hand: control, ..records };
     commands(&mut records, rng);
+    acks(&mut records);
 }
 
 impl Records<'_, '_> {
@@ -207,6 +211,8 @@ fn receives(records: &mut Records, rng: &mut Rng) {
 
 fn command_fields(records: &mut Records) {
     for command in [
+        query_device(),
+        query_port(),
         create_queue(5),
         destroy_queue(SPARE),
         create_domain(),
@@ -247,5 +253,15 @@ fn commands(records: &mut Records, rng: &mut Rng) {
             _ => number_command(rng.pick(&[2, 3, 5, 8, 12]), rng.below(40) as u32),
         };
         records.check(&record);
+    }
+}
+
+/// Queries and what looks like them, with ack buffers of every length up to some past the longest ack.
+fn acks(records: &mut Records) {
+    for command in [&[6, 0][..], &[6, 0, 0], &[6, 1], &[6, 1, 1, 1, 1, 1], &[6, 2, 1, 0, 0, 0], &[6, 4], &[6], &[5, 0], &[7, 1], &[]] {
+        for ack in 0..=140 {
+            let call = Call::Control { command: command.to_vec(), ack };
+            records.both.count("ack", &call, &records.state, &records.memory);
+        }
     }
 }

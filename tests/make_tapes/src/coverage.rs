@@ -18,6 +18,8 @@ const ANSWERS: [(&str, &[u8]); 6] = [
     ("flush", &[0, 2, 3, 6, 9]),
     ("bad record", &[14]),
 ];
+/// Every length of what a control command writes: refused or without data, a number, keys, the reports of a port and of a device.
+const ACKS: [usize; 5] = [1, 5, 13, 33, 129];
 const STATUSES: [u8; 5] = [0, 1, 3, 7, 8];
 const COMPLETIONS: [(u8, &[u8]); 5] = [(0, &[0, 1, 3, 7]), (1, &[0, 1, 3, 8]), (2, &[0, 1, 3, 8]), (3, &[0, 1, 3, 4]), (4, &[0])];
 
@@ -38,6 +40,9 @@ impl Coverage {
                 Kind::Flush => "flush",
             });
             self.add(format!("{kind} answer {answer}"));
+            if kind == "control" {
+                self.add(format!("ack of {} bytes", bytes.len()));
+            }
             if kind == "send" && answer == 0 {
                 self.add(format!("status {status}"));
             }
@@ -54,12 +59,13 @@ impl Coverage {
     /// Prints the listing; gives back how many cells were never seen.
     pub fn report(&self) -> usize {
         let answers = ANSWERS.iter().flat_map(|(kind, list)| list.iter().map(move |answer| format!("{kind} answer {answer}")));
+        let acks = ACKS.iter().map(|length| format!("ack of {length} bytes"));
         let statuses = STATUSES.iter().map(|status| format!("status {status}"));
         let completions = COMPLETIONS
             .iter()
             .flat_map(|(opcode, list)| list.iter().map(move |status| format!("completion {opcode} status {status}")));
         let mut missing = 0;
-        for cell in answers.chain(statuses).chain(completions) {
+        for cell in answers.chain(acks).chain(statuses).chain(completions) {
             let count = self.cells.get(&cell).copied().unwrap_or(0);
             missing += usize::from(count == 0);
             println!("  {cell:<28}{count:>8}{}", if count == 0 { "  NEVER SEEN" } else { "" });

@@ -4,19 +4,32 @@ use crate::accept::access_ok;
 use crate::answer::{Outcome, Refusal};
 use crate::card::{Card, Pair, Region};
 use crate::layout::*;
-use crate::record::Command;
+use crate::query::{Device, Port, DEVICE_ACK_BYTES, PORT_ACK_BYTES};
+use crate::record::{Command, CONTROL_CLASS};
 
+/// The shortest ack buffer of every record that is no query.
 pub const ACK_BYTES: usize = 13;
 
 const MASK_STATE: u32 = 1 << 0;
 const MASK_DESTINATION: u32 = 1 << 15;
 const RELIABLE_CONNECTION: u8 = 2;
 
-/// The numbers that follow the ack byte.
+/// What follows the ack byte.
 enum Ack {
     Empty,
     Number(usize),
     Keys { number: usize, key: u32 },
+    Device(Device),
+    Port(Port),
+}
+
+/// The shortest ack buffer that a record may have: its first two bytes tell.
+pub fn ack_need(command: &[u8]) -> usize {
+    match command {
+        [CONTROL_CLASS, 0, ..] => DEVICE_ACK_BYTES,
+        [CONTROL_CLASS, 1, ..] => PORT_ACK_BYTES,
+        _ => ACK_BYTES,
+    }
 }
 
 /// Runs a control command and writes its ack.
@@ -25,7 +38,7 @@ pub fn control(state: &mut [u8], command: &[u8], ack: &mut [u8]) -> Outcome {
         Ok(card) => card,
         Err(refusal) => return refusal.into(),
     };
-    if ack.len() < ACK_BYTES {
+    if ack.len() < ack_need(command) {
         return Refusal::BufferTooShort.into();
     }
     match Command::read(command).and_then(|command| run(&mut card, command)) {
@@ -50,11 +63,15 @@ fn write_ack(ack: &mut [u8], data: &Ack) {
             put32(ack, 5, key);
             put32(ack, 9, key);
         }
+        Ack::Device(device) => device.write(ack),
+        Ack::Port(port) => port.write(ack),
     }
 }
 
 fn run(card: &mut Card, command: Command) -> Result<Ack, Refusal> {
     match command {
+        Command::QueryDevice => Ok(Ack::Device(Device::of(card.memory_length()))),
+        Command::QueryPort => Ok(Ack::Port(Port::CARD)),
         Command::CreateQueue { places } => create_queue(card, places),
         Command::DestroyQueue { number } => destroy_queue(card, number),
         Command::CreateDomain => create_domain(card),

@@ -192,6 +192,8 @@ impl Completion {
 /// A control command with its data.
 #[derive(Clone, Copy, Debug, PartialEq, Eq)]
 pub enum Command {
+    QueryDevice,
+    QueryPort,
     CreateQueue { places: u32 },
     DestroyQueue { number: u32 },
     CreateDomain,
@@ -213,7 +215,7 @@ impl Command {
             return Err(Refusal::Unknown);
         }
         let size = match command {
-            4 => 0,
+            0 | 1 | 4 => 0,
             2 | 3 | 5 | 8 | 12 => 4,
             7 => 32,
             9 | 10 => 16,
@@ -223,6 +225,8 @@ impl Command {
             return Err(Refusal::RecordLength);
         }
         Ok(match command {
+            0 => Command::QueryDevice,
+            1 => Command::QueryPort,
             2 => Command::CreateQueue { places: get32(data, 0) },
             3 => Command::DestroyQueue { number: get32(data, 0) },
             4 => Command::CreateDomain,

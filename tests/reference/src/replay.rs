@@ -2,6 +2,7 @@
 
 use crate::answer::{Outcome, Refusal};
 use crate::layout::{get16, COMPLETION_BYTES, STATE_BYTES};
+use crate::query::{DEVICE_ACK_BYTES, PORT_ACK_BYTES};
 use crate::{control, flush, poll, post_receive, post_send, reset, ACK_BYTES};
 
 pub const MARK: [u8; 2] = [0x52, 0x4b];
@@ -80,12 +81,12 @@ pub fn replay(tape: &[u8]) -> Vec<u8> {
 
 fn play(state: &mut [u8], memory: &mut [u8], record: &TapeRecord, output: &mut Vec<u8>) {
     let number = u32::from(record.number);
-    let mut buffer = [0; COMPLETION_BYTES];
+    let mut buffer = [0; DEVICE_ACK_BYTES];
     let outcome = match record.kind {
         Kind::Control => control(state, record.body, &mut buffer),
         Kind::Send => post_send(state, memory, number, record.body),
         Kind::Receive => post_receive(state, number, record.body),
-        Kind::Poll => poll(state, number, &mut buffer),
+        Kind::Poll => poll(state, number, &mut buffer[..COMPLETION_BYTES]),
         Kind::Flush => flush(state, number),
     };
     write_answer(output, outcome, &buffer[..written(record, outcome.answer)]);
@@ -95,6 +96,8 @@ fn play(state: &mut [u8], memory: &mut [u8], record: &TapeRecord, output: &mut V
 fn written(record: &TapeRecord, answer: u8) -> usize {
     match (record.kind, answer) {
         (Kind::Control, 0) => match record.body[1] {
+            0 => DEVICE_ACK_BYTES,
+            1 => PORT_ACK_BYTES,
             2 | 4 | 9 => 5,
             7 => ACK_BYTES,
             _ => 1,

@@ -59,7 +59,7 @@ fn status(status: u8) -> &'static str {
     }
 }
 
-/// The ack's numbers or the completion.
+/// The ack's numbers, a query's report or the completion.
 fn written(call: &Record, answer: &Record) -> String {
     let bytes = &answer.body[..];
     match (call.first, bytes.len()) {
@@ -69,8 +69,53 @@ fn written(call: &Record, answer: &Record) -> String {
         (CONTROL, 13) => {
             format!(", ack {} mrn {} lkey {} rkey {}", bytes[0], number(bytes, 1, 4), number(bytes, 5, 4), number(bytes, 9, 4))
         }
+        (CONTROL, 129) => device(bytes),
+        (CONTROL, 33) => port(bytes),
         (POLL, 24) => completion(bytes),
         _ => format!(", {}", hex(bytes)),
+    }
+}
+
+/// What query device reports, by the draft's names.
+fn device(bytes: &[u8]) -> String {
+    const LIMITS: [&str; 10] = [
+        "max_qp_wr",
+        "max_send_sge",
+        "max_recv_sge",
+        "max_sge_rd",
+        "max_cqe",
+        "max_mr",
+        "max_pd",
+        "max_qp_rd_atom",
+        "max_qp_init_rd_atom",
+        "max_ah",
+    ];
+    let limits: Vec<String> =
+        LIMITS.iter().enumerate().map(|(n, name)| format!("{name} {}", number(bytes, 29 + 4 * n, 4))).collect();
+    format!(
+        ", ack {} device_cap_flags {:#x} max_mr_size {} page_size_cap {} hw_ver {} {} local_ca_ack_delay {}{}",
+        bytes[0],
+        number(bytes, 1, 8),
+        number(bytes, 9, 8),
+        number(bytes, 17, 8),
+        number(bytes, 25, 4),
+        limits.join(" "),
+        bytes[69],
+        reserved(&bytes[70..]),
+    )
+}
+
+fn port(bytes: &[u8]) -> String {
+    let (gids, message) = (number(bytes, 1, 4), number(bytes, 5, 4));
+    format!(", ack {} gid_tbl_len {gids} max_msg_sz {message}{}", bytes[0], reserved(&bytes[9..]))
+}
+
+/// Reserved bytes, where they are not the zeros that the card writes.
+fn reserved(bytes: &[u8]) -> String {
+    if bytes.iter().all(|&byte| byte == 0) {
+        String::new()
+    } else {
+        format!(" reserved {}", hex(bytes))
     }
 }
 

@@ -30,6 +30,8 @@ pub fn describe(call: &Record) -> String {
 /// How many ack bytes a command writes that is done.
 pub fn ack_bytes(body: &[u8]) -> usize {
     match body.get(1) {
+        Some(0) => 129,
+        Some(1) => 33,
         Some(2 | 4 | 9) => 5,
         Some(7) => 13,
         _ => 1,
@@ -43,6 +45,8 @@ fn command(body: &[u8]) -> String {
     };
     let single = |name: &str, what: &str| format!("{name} {what} {}", number(data, 0, 4));
     match (command, data.len()) {
+        (0, 0) => "query device".into(),
+        (1, 0) => "query port".into(),
         (2, 4) => single("create CQ", "places"),
         (3, 4) => single("destroy CQ", "cqn"),
         (4, 0) => "create PD".into(),
