@@ -55,13 +55,12 @@ fn poll_live(state: &mut [u8], n: usize, buffer: &mut [u8]) -> Answer
     requires { ⌜ LiveQueue (now state) n × (24 ≤ length (now buffer)) ⌝ }
     ensures { λ r. ⌜ Owes (now (state .entry)) (Call.poll n (now (buffer .entry))) r (now (state .exit)) [] (now (buffer .exit)) ⌝ }
 {
-    let q = queue::load_front(state, n);
-    if q.count == 0 {
+    let h = rows::load_cq(state, n);
+    if h.count == 0 {
         return Answer::Refused(NOTHING_THERE);
     }
-    let rest = q.pop();
-    records::put_completion(buffer, 0, q.oldest());
-    queue::store_head(state, n, rest);
+    let front = queue::take_front(state, n);
+    records::put_completion(buffer, 0, front);
     Answer::Done(0)
 }
 

@@ -1,14 +1,12 @@
 -- Completion queues and waiting receives in the state: document 01's struct with its ring, and the bytes that one entry more or one fewer
 -- leaves. Assumes nothing.
 use mathlib.Core.List.{List}
-use mathlib.Core.Path.{_≡_}
-use Prim.Native.Nat.{ℕ, _+_, _*_, _-_, _<_}
-use lib.ListN.{getD, set, replicate}
+use Prim.Native.Nat.{ℕ, _+_, _*_, _-_}
+use lib.ListN.{set}
 use Rattle.wire.specs.Ring.{ringPlace}
 use Rattle.wire.specs.Table.{rowAt, putRow}
 use Rattle.tables.specs.Layout.{cqT, entryT, waitingT, receiveT}
 use Rattle.tables.specs.Limits.{mostPlaces, mostWaiting}
-use Rattle.tables.specs.State.{noCompletion}
 use Rattle.tables.specs.declared.Completion.{Completion}
 use Rattle.tables.specs.declared.CompletionQueue.{CompletionQueue}
 use Rattle.tables.specs.declared.QueueHead.{QueueHead}
@@ -17,7 +15,7 @@ use Rattle.tables.specs.declared.WaitingHead.{WaitingHead}
 
 -- ---- "a completion queue struct holds its ring of entries as an array, with first place and count"
 
--- the queue with one completion more, its oldest completion, and the queue without it
+-- the queue with one completion more, and without its oldest completion
 abbrev pub pushedQueue : CompletionQueue → Completion → CompletionQueue
 pushedQueue q e =
     record {
@@ -27,9 +25,6 @@ pushedQueue q e =
       places = q .places;
     }
 
-abbrev pub frontOf : CompletionQueue → Completion
-frontOf q = getD (q .ring) (q .first) noCompletion
-
 abbrev pub poppedQueue : CompletionQueue → CompletionQueue
 poppedQueue q =
     record { ring = q .ring; first = ringPlace mostPlaces (q .first) 1; count = q .count - 1; places = q .places }
@@ -37,25 +32,6 @@ poppedQueue q =
 -- its head
 abbrev pub headOf : CompletionQueue → QueueHead
 headOf q = record { places = q .places; first = q .first; count = q .count }
-
--- queue n of the state with nothing in its ring, and with its oldest completion there: a call loads no more than it looks at
-abbrev pub queueFrom : QueueHead → List Completion → CompletionQueue
-queueFrom h es = record { ring = es; first = h .first; count = h .count; places = h .places }
-
-unfoldable pub emptyQueueAt : List ℕ → ℕ → CompletionQueue
-emptyQueueAt l n = queueFrom (rowAt cqT l n) (replicate mostPlaces noCompletion)
-
-unfoldable pub frontQueueAt : List ℕ → ℕ → CompletionQueue
-frontQueueAt l n =
-    let h : QueueHead = rowAt cqT l n in
-    queueFrom h (set (replicate mostPlaces noCompletion) (h .first) (rowAt entryT l (mostPlaces * n + h .first)))
-
--- what loading a queue gives: that queue, each of whose numbers is a byte
-pub record Loads (r q : CompletionQueue) : Type 0 where
-  pub same : r ≡ q
-  pub first : r .first < 256
-  pub count : r .count < 256
-  pub places : r .places < 256
 
 -- ---- one completion more, one fewer: only its place and the head are touched
 
@@ -69,6 +45,10 @@ unfoldable pub pushBytes : List ℕ → ℕ → Completion → List ℕ
 pushBytes l n e =
     let h : QueueHead = rowAt cqT l n in
     putRow cqT (putRow entryT l (mostPlaces * n + ringPlace mostPlaces (h .first) (h .count)) e) n (longer h)
+
+-- the oldest completion, and what it leaves
+abbrev pub frontAt : List ℕ → ℕ → Completion
+frontAt l n = rowAt entryT l (mostPlaces * n + rowAt cqT l n .first)
 
 unfoldable pub popBytes : List ℕ → ℕ → List ℕ
 popBytes l n = putRow cqT l n (shorter (rowAt cqT l n))

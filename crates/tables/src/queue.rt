@@ -13,7 +13,8 @@ ghost use lib.ListN.{length};
 ghost use Rattle.wire.specs.Table.{rowAt, putRow};
 ghost use Rattle.tables.specs.Layout.{stateSize, cqT, waitingT, receiveT};
 ghost use Rattle.tables.specs.Limits.{cqCount, qpCount, mostPlaces, mostWaiting};
-ghost use Rattle.tables.specs.Queue.{pushedQueue, frontOf, poppedQueue, headOf, emptyQueueAt, frontQueueAt, Loads, pushBytes, postBytes, takeBytes};
+ghost use Rattle.tables.specs.Queue.{pushedQueue, poppedQueue, headOf, frontAt, pushBytes, popBytes, postBytes, takeBytes};
+ghost use Rattle.tables.specs.State.{noCompletion};
 
 impl CompletionQueue {
     // The queue with one completion more, as its newest.
@@ -25,14 +26,6 @@ impl CompletionQueue {
         self.ring[at] = e;
         self.count = self.count + 1;
         self
-    }
-
-    pub fn oldest(self) -> Completion
-        requires { ⌜ self .first < mostPlaces ⌝ }
-        ensures { λ r. ⌜ r ≡ frontOf self ⌝ }
-    {
-        let at = self.first;
-        self.ring[at]
     }
 
     // The queue without its oldest completion.
@@ -48,41 +41,22 @@ impl CompletionQueue {
 
 // ---- completion queues in the state
 
-// Completion queue n with nothing in its ring.
-fn load_empty(state: &[u8], n: usize) -> CompletionQueue
-    requires { ⌜ (n < cqCount) × (length (now state) ≡ stateSize) ⌝ }
-    ensures { λ r. ⌜ Loads r (emptyQueueAt (now (state .entry)) n) ⌝ }
+// A place of a ring that no call looks at.
+fn no_completion() -> Completion
+    ensures { λ r. ⌜ r ≡ noCompletion ⌝ }
 {
-    let h = rows::load_cq(state, n);
-    let none = Completion {
+    Completion {
         wr: 0,
         status: 0,
         opcode: 0,
         length: 0,
         imm: 0,
         owner: 0,
-    };
-    CompletionQueue {
-        ring: [none; 16],
-        first: h.first as usize,
-        count: h.count as usize,
-        places: h.places as usize,
     }
 }
 
-// Completion queue n with its oldest completion in its ring.
-pub fn load_front(state: &[u8], n: usize) -> CompletionQueue
-    requires { ⌜ (n < cqCount) × (length (now state) ≡ stateSize) × (rowAt cqT (now state) n .first < mostPlaces) ⌝ }
-    ensures { λ r. ⌜ Loads r (frontQueueAt (now (state .entry)) n) ⌝ }
-{
-    let mut q = load_empty(state, n);
-    let at = q.first;
-    q.ring[at] = rows::load_entry(state, MOST_PLACES * n + at);
-    q
-}
-
 // The head of a queue, for completion queue n.
-pub fn store_head(state: &mut [u8], n: usize, q: CompletionQueue)
+fn store_head(state: &mut [u8], n: usize, q: CompletionQueue)
     requires { ⌜ (n < cqCount) × (length (now state) ≡ stateSize) × (q .first < 256) × (q .count < 256) × (q .places < 256) ⌝ }
     ensures { λ _. ⌜ now (state .exit) ≡ putRow cqT (now (state .entry)) n (headOf q) ⌝ }
 {
@@ -94,12 +68,37 @@ pub fn store_head(state: &mut [u8], n: usize, q: CompletionQueue)
     rows::store_cq(state, n, h);
 }
 
+// The oldest completion of queue n, which leaves it: only its place is read, only the head is touched.
+pub fn take_front(state: &mut [u8], n: usize) -> Completion
+    requires { ⌜ (n < cqCount) × (length (now state) ≡ stateSize) × (rowAt cqT (now state) n .first < mostPlaces) × (0 < rowAt cqT (now state) n .count) ⌝ }
+    ensures { λ r. ⌜ (r ≡ frontAt (now (state .entry)) n) × (now (state .exit) ≡ popBytes (now (state .entry)) n) ⌝ }
+{
+    let h = rows::load_cq(state, n);
+    let mut q = CompletionQueue {
+        ring: [no_completion(); 16],
+        first: h.first as usize,
+        count: h.count as usize,
+        places: h.places as usize,
+    };
+    let at = q.first;
+    q.ring[at] = rows::load_entry(state, MOST_PLACES * n + at);
+    let front = q.ring[at];
+    store_head(state, n, q.pop());
+    front
+}
+
 // One completion more in queue n: only its place and the head are touched.
 pub fn push_completion(state: &mut [u8], n: usize, e: Completion)
     requires { ⌜ (n < cqCount) × (length (now state) ≡ stateSize) × (rowAt cqT (now state) n .count < mostPlaces) ⌝ }
     ensures { λ _. ⌜ now (state .exit) ≡ pushBytes (now (state .entry)) n e ⌝ }
 {
-    let q = load_empty(state, n);
+    let h = rows::load_cq(state, n);
+    let q = CompletionQueue {
+        ring: [no_completion(); 16],
+        first: h.first as usize,
+        count: h.count as usize,
+        places: h.places as usize,
+    };
     let at = wire::ring_place(MOST_PLACES, q.first, q.count);
     let longer = q.push(e);
     rows::store_entry(state, MOST_PLACES * n + at, longer.ring[at]);
