@@ -31,7 +31,7 @@ use Rattle.rules.specs.Call.{Call, memoryOf, Outcome}
 unfoldable pub resetChecks : ℕ → List Check
 resetChecks n = 11 if not (memoryOk n) ∷ []
 
--- "Check order: 12; fewer than two bytes 1; 13; data length 1"
+-- "Check order: 12; fewer than two bytes 1; 13; data length 1"; 02, M-100: "12, still tested first", "13 no longer names them"
 unfoldable pub controlChecks : (k a : List ℕ) → List Check
 controlChecks k a =
     12 if ltb (length a) (ackNeed k) ∷

@@ -26,10 +26,6 @@ use Rattle.tables.specs.declared.PortRead.the-variants as port
 
 -- ---- values for a part of the fields
 
-each : (a b : Bool) → T a → T b → T (a && b)
-each true b s t = t
-each false b s t = absurd s
-
 -- values for a part of the fields are stored in that part
 put-part : (fs : List Field) (l : List ℕ) (at : ℕ) (vs : List ℕ) → putFields fs l at vs ≡ putFields (take (length vs) fs) l at vs
 unfolding putFields
@@ -37,38 +33,6 @@ put-part [] l at [] = refl
 put-part [] l at (v ∷ vs) = refl
 put-part (f ∷ fs) l at [] = refl
 put-part (f ∷ fs) l at (v ∷ vs) = put-part fs (putLe (f .width) l (at + f .offset) v) at vs
-
-within-part : (size n : ℕ) (fs : List Field) → T (within size fs) → T (within size (take n fs))
-unfolding within
-within-part size zero fs t = tt
-within-part size (suc n) [] t = tt
-within-part size (suc n) (f ∷ fs) t =
-    let p = both (leb (f .offset + f .width) size) (within size fs) t in
-    each (leb (f .offset + f .width) size) (within size (take n fs)) (p .0) (within-part size n fs (p .1))
-
-clear-part : (g : Field) (n : ℕ) (fs : List Field) → T (clear g fs) → T (clear g (take n fs))
-unfolding clear
-clear-part g zero fs t = tt
-clear-part g (suc n) [] t = tt
-clear-part g (suc n) (f ∷ fs) t =
-    let b : Bool = leb (g .offset + g .width) (f .offset) || leb (f .offset + f .width) (g .offset) in
-    let p = both b (clear g fs) t in
-    each b (clear g (take n fs)) (p .0) (clear-part g n fs (p .1))
-
-apart-part : (n : ℕ) (fs : List Field) → T (apart fs) → T (apart (take n fs))
-unfolding apart
-apart-part zero fs t = tt
-apart-part (suc n) [] t = tt
-apart-part (suc n) (f ∷ fs) t =
-    let p = both (clear f fs) (apart fs) t in
-    each (clear f (take n fs)) (apart (take n fs)) (clear-part f n fs (p .0)) (apart-part n fs (p .1))
-
--- values that were stored in the first fields are read back
-pub part-stored : (size : ℕ) (fs : List Field) (l : List ℕ) (at : ℕ) (vs : List ℕ) → T (within size fs) → T (apart fs)
-    → at + size ≤ length l → Fit (take (length vs) fs) vs → fieldsAt (take (length vs) fs) (putFields fs l at vs) at ≡ vs
-part-stored size fs l at vs t a h b =
-    rw (put-part fs l at vs)
-    (fieldsAt-stored size (take (length vs) fs) l at vs (within-part size (length vs) fs t) (apart-part (length vs) fs a) h b)
 
 -- ---- room for an ack
 
@@ -149,11 +113,11 @@ ack-length (Keys n key) l = numbered-length (Keys n key) l
 ack-length (Device d) l = encode-length deviceCodec (numbered (Device d) l) 1 d ∙ numbered-length (Device d) l
 ack-length (Port p) l = encode-length portCodec (numbered (Port p) l) 1 p ∙ numbered-length (Port p) l
 
-pub device-size : deviceCodec .size ≡ 128
+device-size : deviceCodec .size ≡ 128
 unfolding deviceCodec
 device-size = refl
 
-pub port-size : portCodec .size ≡ 32
+port-size : portCodec .size ≡ 32
 unfolding portCodec
 port-size = refl
 

@@ -1,5 +1,6 @@
 -- Document 01, "Control commands": "Class byte 6, command byte, data. The ack buffer". Each command's data by its layout, the command that
--- a record is, and the acks. Laws: proofs/ReadingLaws.antt. Assumes nothing.
+-- a record is, and the acks. Laws: proofs/ReadingLaws.antt and
+-- proofs/AckLaws.antt. Assumes nothing.
 use mathlib.Core.Path.{refl}
 use mathlib.Core.Bool.{cond, not, _&&_}
 use mathlib.Core.Option.{Option, none, some}
@@ -221,10 +222,11 @@ ackSize (Keys n key) = 13
 ackSize (Device d) = 129
 ackSize (Port p) = 33
 
--- "The ack buffer has at least 13 bytes"; 02: "fewer than 129 or 33 bytes"
+-- "The ack buffer has at least 13 bytes"
 abbrev pub ackLeast : ℕ
 ackLeast = 13
 
+-- 02, M-100: "fewer than 129 or 33 bytes"
 abbrev pub ackRoom : Command → ℕ
 ackRoom queryDevice = 129
 ackRoom queryPort = 33

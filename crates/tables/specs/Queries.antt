@@ -1,5 +1,5 @@
 -- Document 02, M-100: "Add commands 0 (query device) and 1 (query port), no data, with 001's acks: 128 bytes and 32 bytes after the ack byte."
--- Each layout once, for writing and for reading, its offsets counted after the ack byte. Laws: proofs/QueryLaws.antt. Assumes nothing.
+-- Each layout once, for writing and for reading, its offsets counted after the ack byte. Laws: proofs/AckLaws.antt. Assumes nothing.
 use mathlib.Core.Path.{refl}
 use mathlib.Core.Bool.{not}
 use mathlib.Core.Option.{Option, none, some}

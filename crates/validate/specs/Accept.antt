@@ -12,7 +12,8 @@ use Rattle.wire.specs.Table.{rowAt}
 use Rattle.tables.specs.Card.{cqLive}
 use Rattle.tables.specs.State.{QueueRows, RegionRows, PairRows, queueAt, regionAt, pairAt, unread, posted, card}
 use Rattle.tables.specs.Layout.{stateSize, memoryT, pdFlagT}
-use Rattle.tables.specs.Limits.{pdCount, cqCount, mrCount, qpCount, mostPlaces, mostWaiting, mostMemory, mostAddress, localWrite, remoteWrite, mostAccess, mostMessage, mostReceiveSges}
+use Rattle.tables.specs.Limits.{pdCount, cqCount, mrCount, qpCount, mostPlaces, mostWaiting}
+use Rattle.tables.specs.Limits.{mostMemory, mostAddress, localWrite, remoteWrite, mostAccess, mostMessage, mostReceiveSges}
 use Rattle.tables.specs.declared.Completion.{Completion}
 use Rattle.tables.specs.declared.QueueHead.{QueueHead}
 use Rattle.tables.specs.declared.QueuePair.{QueuePair}
@@ -47,7 +48,7 @@ queueOk h = leb 1 (h .places) && leb (h .places) mostPlaces && ltb (h .first) mo
 abbrev pub accessOk : ℕ → Bool
 accessOk a = only mostAccess a && (not (has remoteWrite a) || has localWrite a)
 
--- a live region: its access, its variant, its range in the memory and in the addresses
+-- a live region: its access (02: "A state with one gives 15"), its variant, its range in the memory and in the addresses
 abbrev pub regionOk : ℕ → Region → Bool
 regionOk memory r =
     accessOk (r .access) && leb 1 (r .variant) && leb 1 (r .length) && leb (r .start + r .length) memory && leb (r .virt + r .length) mostAddress

@@ -13,7 +13,7 @@ use Rattle.wire.proofs.ScanLaws.{lowest-same}
 
 -- ---- a search in parts
 
-pub from-most : (p : ℕ → Bool) (n i : ℕ) → lowestFrom p n i ≤ i + n
+from-most : (p : ℕ → Bool) (n i : ℕ) → lowestFrom p n i ≤ i + n
 unfolding lowestFrom
 from-most p zero i = omega arith
 from-most p (suc n) i = go (p i) (from-most p n (i + 1))
