@@ -1,21 +1,21 @@
 -- Acks: what was written is read back, and the bytes behind an ack stay. Assumes nothing.
 use mathlib.Core.Path.{_≡_, refl, ap, _∙_}
 use mathlib.Core.Logic.{inl, inr}
-use mathlib.Core.Bool.{Bool, true, false, cond, _&&_, _||_}
+use mathlib.Core.Bool.{Bool, true, false, cond, _&&_}
 use mathlib.Core.List.{List, [], _∷_}
 use mathlib.Core.Option.{Option, none, some}
-use Prim.Native.Nat.{ℕ, zero, suc, _+_, _≤_, _<_}
+use Prim.Native.Nat.{ℕ, _+_, _≤_, _<_}
 use native.Mathlib.Omega.{arith}
 use lib.Dec.{T, leb, eqb}
 use lib.ListN.{length, getD, take}
 use borrow.Author.Tests.{eq-eqb, ne-eqb, lt-ltb, le-ltb}
 use Rattle.wire.specs.Checks.{refusal}
-use Rattle.wire.specs.Codec.{Field, fieldsAt, putFields, Fit, Fits, within, clear, apart, Codec, encode}
+use Rattle.wire.specs.Codec.{Field, putFields, Fits, within, Codec, encode}
 use Rattle.wire.specs.Le.{leAt, putLe}
-use Rattle.wire.proofs.CodecLaws.{both, fieldsAt-stored, putFields-outside, putFields-length, encode-length, encode-outside, decode-encoded}
-use Rattle.wire.proofs.LeLaws.{leAt-same, leAt-stored, putLe-length}
+use Rattle.wire.proofs.CodecLaws.{putFields-outside, putFields-length, encode-length, encode-outside, decode-encoded}
+use Rattle.wire.proofs.LeLaws.{leAt-same, leAt-stored}
 use Rattle.tables.specs.Commands.Command.{queryDevice, queryPort, createCq, destroyCq, createPd, destroyPd, register, deregister, createQp, modifyQp, destroyQp}
-use Rattle.tables.specs.Commands.{Command, controlClass, commandOf, ackLeast, ackNeed, roomBy, ackByte, numbersOf, ackFields, ackSize, reported, encodeAck}
+use Rattle.tables.specs.Commands.{Command, controlClass, commandOf, ackLeast, ackNeed, roomBy, ackByte, numbersOf, ackFields, ackSize, encodeAck}
 use Rattle.tables.specs.Queries.{deviceCodec, portCodec, queryChecks, deviceRead, portRead}
 use Rattle.tables.specs.declared.Ack.{Ack}
 use Rattle.tables.specs.declared.Ack.the-variants.{Error, Done, Number, Keys, Device, Port}

@@ -8,13 +8,12 @@ use Prim.Native.Nat.{ℕ, zero, suc, _+_, _*_, _%_, _≤_, _<_}
 use native.Mathlib.Nat.{add-zero, add-assoc}
 use native.Mathlib.Omega.{arith}
 use native.Mathlib.Decide.{decLe}
-use lib.Dec.{T, eqb, ltb, leb}
-use lib.ListN.{length, getD, take, List·getD-eq-default}
+use lib.Dec.{eqb, ltb}
+use lib.ListN.{length, getD, List·getD-eq-default}
 use borrow.Author.Tests.{eq-eqb, ne-eqb, le-leb, lt-leb, lt-ltb, le-ltb}
 use Rattle.wire.specs.Checks.{_if_, refusal, only}
-use Rattle.wire.specs.Codec.{Field, fieldsAt, putFields, Fit, within, clear, apart, decode, encode}
+use Rattle.wire.specs.Codec.{fieldsAt, putFields, decode, encode}
 use Rattle.wire.specs.Le.{leAt, putLe}
-use Rattle.wire.proofs.CodecLaws.{both, fieldsAt-stored, putFields-outside}
 use Rattle.wire.proofs.LeLaws.{leAt-below, leAt-split}
 use Rattle.tables.specs.Limits.{mostSges, mostInline, mostReceiveSges}
 use Rattle.tables.specs.Commands.{controlClass, headRead, headReadBy}
