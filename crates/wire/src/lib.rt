@@ -223,25 +223,47 @@ pub fn ring_place(cap: usize, first: usize, k: usize) -> usize
 
 // ---- searches
 
-// Eight flags that are all 1, read as one number.
-const ALL_SET: u64 = 0x0101_0101_0101_0101;
+// Eight, four and two flags that are all 1, read as one number.
+const ALL_SET8: u64 = 0x0101_0101_0101_0101;
 
-// The lowest i below 8 whose byte, at index at + i, is not 1; 8 where there is none.
+const ALL_SET4: u32 = 0x0101_0101;
+
+const ALL_SET2: u16 = 0x0101;
+
+// The lowest i below 2 whose byte, at index at + i, is not 1; 2 where there is none.
+fn clear_of_two(s: &[u8], at: usize) -> usize
+    requires { ⌜ at + 2 ≤ length (now s) ⌝ }
+    ensures { λ r. ⌜ r ≡ lowest 2 (clearAt (now (s .entry)) at) ⌝ }
+{
+    if get8(s, at) != 1 {
+        return 0;
+    }
+    if get8(s, at + 1) != 1 {
+        return 1;
+    }
+    2
+}
+
+// The same of 4.
+fn clear_of_four(s: &[u8], at: usize) -> usize
+    requires { ⌜ at + 4 ≤ length (now s) ⌝ }
+    ensures { λ r. ⌜ r ≡ lowest 4 (clearAt (now (s .entry)) at) ⌝ }
+{
+    if get16(s, at) == ALL_SET2 {
+        return 2 + clear_of_two(s, at + 2);
+    }
+    clear_of_two(s, at)
+}
+
+// The same of 8.
 fn clear_of_eight(s: &[u8], at: usize) -> usize
     requires { ⌜ at + 8 ≤ length (now s) ⌝ }
     ensures { λ r. ⌜ r ≡ lowest 8 (clearAt (now (s .entry)) at) ⌝ }
 {
-    if get64(s, at) == ALL_SET {
-        return 8;
+    if get32(s, at) == ALL_SET4 {
+        return 4 + clear_of_four(s, at + 4);
     }
-    let mut n = 0;
-    while n < 8 {
-        if get8(s, at + n) != 1 {
-            return n;
-        }
-        n += 1;
-    }
-    n
+    clear_of_four(s, at)
 }
 
 // The lowest i below 8 * words whose byte, at index at + i, is not 1; 8 * words where there is none.
@@ -251,9 +273,8 @@ pub fn lowest_clear(s: &[u8], at: usize, words: usize) -> usize
 {
     let mut i = 0;
     while i < words {
-        let n = clear_of_eight(s, at + 8 * i);
-        if n < 8 {
-            return 8 * i + n;
+        if get64(s, at + 8 * i) != ALL_SET8 {
+            return 8 * i + clear_of_eight(s, at + 8 * i);
         }
         i += 1;
     }
