@@ -1,18 +1,26 @@
 -- Computed examples that pin what the judge and the rules share, and the rights of each use. Assumes nothing.
 use mathlib.Core.Path.{_≡_, refl}
 use mathlib.Core.Bool.{true, false}
-use mathlib.Core.List.{List, [], _∷_, map}
+use mathlib.Core.List.{List, [], _∷_, _++_, map}
+use mathlib.Core.Option.{some}
 use Prim.Native.Nat.{ℕ}
-use Rattle.tables.specs.Card.{Receive, noReceive}
+use lib.ListN.{replicate}
+use Rattle.wire.specs.Checks.{refusal}
+use Rattle.wire.specs.Codec.{putFields}
+use Rattle.wire.specs.Le.{leAt, putLe}
+use Rattle.tables.specs.Card.{Receive, noReceive, fresh}
+use Rattle.tables.specs.Queries.{deviceCodec, portCodec}
 use Rattle.tables.specs.declared.Sge.{Sge}
 use Rattle.validate.specs.Accept.{accessOk}
 use Rattle.rules.specs.Lists.{stored}
 use Rattle.rules.specs.Touch.{Request, range, sgeBytes, sgeTotal, total, ownBytes, farBytes, message, delivered}
 use Rattle.rules.specs.Permit.{Use, granted, permitsAll, permits, lookup, covers}
-use Rattle.rules.specs.Control.{commandChecks, commandEffect}
+use Rattle.rules.specs.Call.{Call}
+use Rattle.rules.specs.Calls.{bufferAfter, controlChecks}
+use Rattle.rules.specs.Control.{commandChecks, commandEffect, commandAck, deviceOf, portOf}
 use Rattle.rules.specs.Marks.{platform, after, uses}
 use Rattle.wire.specs.Scan.{lowest, lowestFrom, anyBelow, all}
-use Rattle.tables.specs.Commands.{Command}
+use Rattle.tables.specs.Commands.{Command, commandOf, dataSize, ackNeed}
 
 -- the accesses 0 to 7 that grant each use
 pub rights : map (λ u. map (granted u) (0 ∷ 1 ∷ 2 ∷ 3 ∷ 4 ∷ 5 ∷ 6 ∷ 7 ∷ [])) uses
@@ -70,3 +78,23 @@ pub deliveries : (moved (request 0 1 (piece 0 4 ∷ [])) noReceive
     ∷ []
 unfolding delivered message total ownBytes farBytes range sgeBytes sgeTotal stored
 deliveries = refl
+
+-- 02, M-100: what a card reports that was reset to 1,048,576 bytes; "flags 0, largest region the memory length, page size mask 4096, version 1, then in 001's
+-- order 4, 4, 2, 4, 16, 32, 8, 1, 1, 0, delay 0, rest zero"
+pub device-reported : bufferAfter (fresh 1048576) (Call.control (6 ∷ 0 ∷ []) (replicate 130 99))
+    ≡ 0 ∷ 0 ∷ 0 ∷ 0 ∷ 0 ∷ 0 ∷ 0 ∷ 0 ∷ 0 ∷ 0 ∷ 0 ∷ 16 ∷ 0 ∷ 0 ∷ 0 ∷ 0 ∷ 0 ∷ 0 ∷ 16 ∷ 0 ∷ 0 ∷ 0 ∷ 0 ∷ 0 ∷ 0 ∷ 1 ∷ 0 ∷ 0 ∷ 0 ∷
+    4 ∷ 0 ∷ 0 ∷ 0 ∷ 4 ∷ 0 ∷ 0 ∷ 0 ∷ 2 ∷ 0 ∷ 0 ∷ 0 ∷ 4 ∷ 0 ∷ 0 ∷ 0 ∷ 16 ∷ 0 ∷ 0 ∷ 0 ∷
+    32 ∷ 0 ∷ 0 ∷ 0 ∷ 8 ∷ 0 ∷ 0 ∷ 0 ∷ 1 ∷ 0 ∷ 0 ∷ 0 ∷ 1 ∷ 0 ∷ 0 ∷ 0 ∷ 0 ∷ 0 ∷ 0 ∷ 0 ∷ 0 ∷ (replicate 59 0 ++ (99 ∷ []))
+unfolding bufferAfter commandOf commandAck deviceOf deviceCodec putFields putLe leAt
+device-reported = refl
+
+-- "Port: GID length 0, message size 4096, rest zero"
+pub port-reported : bufferAfter (fresh 1) (Call.control (6 ∷ 1 ∷ []) (replicate 34 99))
+    ≡ 0 ∷ 0 ∷ 0 ∷ 0 ∷ 0 ∷ 0 ∷ 16 ∷ 0 ∷ 0 ∷ (replicate 24 0 ++ (99 ∷ []))
+unfolding bufferAfter commandOf commandAck portOf portCodec putFields putLe leAt
+port-reported = refl
+
+-- "answer 12, still tested first": a query with data, and 20 or 129 ack bytes
+pub room-first : refusal (controlChecks (6 ∷ 0 ∷ 9 ∷ []) (replicate 20 0)) ∷ refusal (controlChecks (6 ∷ 0 ∷ 9 ∷ []) (replicate 129 0)) ∷ [] ≡ some 12 ∷ some 1 ∷ []
+unfolding controlChecks ackNeed commandOf dataSize leAt
+room-first = refl
