@@ -1,1 +1,4 @@
 pub mod ServedLaws
+pub mod EveryCall
+pub mod MadeLaws
+pub mod Example

@@ -1,1 +1,3 @@
 pub mod Served
+pub mod Made
+pub mod Example

@@ -1,0 +1,95 @@
+-- The calls that exported functions make are a list of the judge's theorem, and what they show is what the rules do on the card. Assumes
+-- nothing.
+use mathlib.Core.Path.{_≡_, refl, ap, ap₂, _∙_}
+use mathlib.Core.Bool.{Bool, true, cond}
+use mathlib.Core.List.{List, [], _∷_, map}
+use mathlib.Core.Option.{some}
+use Prim.Native.Nat.{ℕ}
+use lib.ListN.{length}
+use borrow.Author.Tests.{eq-eqb}
+use Rattle.tables.specs.Card.{Card}
+use Rattle.tables.specs.Layout.{stateSize}
+use Rattle.tables.specs.State.{card}
+use Rattle.validate.specs.Accept.{accepts}
+use Rattle.validate.proofs.AcceptedLaws.{accepted}
+use Rattle.rules.specs.Answer.{codeOf, isDone}
+use Rattle.rules.specs.Call.{Call}
+use Rattle.rules.specs.Calls.{Result, owed, usable, settled, step}
+use Rattle.rules.specs.Contract.{bytesAfter}
+use Rattle.rules.specs.declared.Answer.{Answer}
+use Rattle.rules.specs.declared.Answer.the-variants.{Done}
+use Rattle.rules.proofs.Answers.{owed-is, code-back}
+use Rattle.judge.specs.Log.{Log}
+use Rattle.judge.specs.Demand3.{heard, Each, Linked, Steady}
+use Rattle.judge.specs.Whole.{FromC}
+use Rattle.caller.specs.Served.{Turn, turnOf}
+use Rattle.caller.specs.Made.{made, madeAll, Lists}
+use Rattle.caller.proofs.EveryCall.{exports}
+
+pub made-from-c : (l : List ℕ) (k : Call) → FromC l (made l k)
+made-from-c l k = record { result = codeOf (owed card accepts l k .answer); tells = refl; exports = exports l k }
+
+pub all-linked : Lists
+unfolding Linked madeAll
+all-linked l [] = tt
+all-linked l (k ∷ ks) = (made-from-c l k, all-linked (bytesAfter l k) ks)
+
+-- ---- on a state that a call can use it does what it does on the card
+
+step-is : (l : List ℕ) (k : Call) → usable card accepts l k ≡ true → owed card accepts l k ≡ step (card l) k
+step-is l k e = owed-is card accepts l k ∙ ap (λ (b : Bool). cond b (step (card l) k) (settled (some 15) (card l) k)) e
+
+accepted-usable : (l : List ℕ) (k : Call) → accepts l ≡ true → usable card accepts l k ≡ true
+accepted-usable l (Call.reset n) e = eq-eqb (length l) stateSize (accepted l e .sized)
+accepted-usable l (Call.control k a) e = e
+accepted-usable l (Call.send q x m) e = e
+accepted-usable l (Call.receive q x) e = e
+accepted-usable l (Call.flush q) e = e
+accepted-usable l (Call.poll n b) e = e
+
+-- ---- the turns of calls on the card c
+
+abbrev turnBy : Call → Result → Turn
+turnBy k r = record { call = k; answer = r .answer; memory = r .memory; buffer = r .buffer }
+
+unfoldable pub turns : Card → List Call → List Turn
+turns c [] = []
+turns c (k ∷ ks) = let r = step c k in turnBy k r ∷ turns (r .card) ks
+
+module _ (l : List ℕ) (c : Card) (means : card l ≡ c) (k : Call) (ok : accepts l ≡ true) where
+  step-on : owed card accepts l k ≡ step c k
+  step-on = step-is l k (accepted-usable l k ok) ∙ ap (λ (x : Card). step x k) means
+
+  turn-is : turnOf (made l k) ≡ turnBy k (step c k)
+  turn-is =
+      let o = owed card accepts l k in
+      ap (λ (a : Answer). record { call = k; answer = a; memory = o .memory; buffer = o .buffer }) (code-back card accepts l k) ∙ ap (turnBy k) step-on
+
+  next-means : card (bytesAfter l k) ≡ step c k .card
+  next-means = exports l k .tables ∙ ap (λ (r : Result). r .card) step-on
+
+pub turns-are : (l : List ℕ) (c : Card) (ks : List Call) (g : Log) → card l ≡ c → accepts l ≡ true → Each (Steady accepts) l g (madeAll l ks)
+    → map turnOf (madeAll l ks) ≡ turns c ks
+unfolding Each madeAll turns
+turns-are l c [] g m ok s = refl
+turns-are l c (k ∷ ks) g m ok s =
+    ap₂ (λ (x : Turn) (xs : List Turn). x ∷ xs) (turn-is l c m k ok)
+    (turns-are (bytesAfter l k) (step c k .card) ks (heard g (made l k)) (next-means l c m k ok) (s .0 .0) (s .1))
+
+-- ---- a reset over n bytes, on any state that has its length
+
+module _ (l : List ℕ) (sized : length l ≡ stateSize) (n : ℕ) (fits : step (card l) (Call.reset n) .answer ≡ Done 0) where
+  reset-is : owed card accepts l (Call.reset n) ≡ step (card l) (Call.reset n)
+  reset-is = step-is l (Call.reset n) (eq-eqb (length l) stateSize sized)
+
+  owed-done : owed card accepts l (Call.reset n) .answer ≡ Done 0
+  owed-done = ap (λ (r : Result). r .answer) reset-is ∙ fits
+
+  pub reset-answered : made l (Call.reset n) .left .answer ≡ Done 0
+  reset-answered = code-back card accepts l (Call.reset n) ∙ owed-done
+
+  pub reset-means : card (bytesAfter l (Call.reset n)) ≡ step (card l) (Call.reset n) .card
+  reset-means = exports l (Call.reset n) .tables ∙ ap (λ (r : Result). r .card) reset-is
+
+  pub reset-accepted : accepts (bytesAfter l (Call.reset n)) ≡ true
+  reset-accepted = exports l (Call.reset n) .sound (ap isDone owed-done)

@@ -1,0 +1,173 @@
+-- A run, by the bytes that its calls are given: two domains; writes, a send, inline bytes; a refused command, a refused reset, a hold, a
+-- poll, a flush; work requests with the statuses 0, 1, 3, 7 and 8; a region that is dropped under waiting receives, and a write under its
+-- key after that; and a second reset. proofs/Example.antt shows that it is a list of the judge's theorem. Assumes nothing.
+use mathlib.Core.Bool.{true, false}
+use mathlib.Core.List.{List, [], _∷_, _++_, map}
+use mathlib.Core.Option.{none, some}
+use Prim.Native.Nat.{ℕ}
+use lib.ListN.{replicate}
+use Rattle.rules.specs.Call.{Call}
+use Rattle.rules.specs.declared.Cause.the-variants.{Peer}
+use Rattle.rules.specs.declared.Answer.{Answer}
+use Rattle.rules.specs.declared.Answer.the-variants.{Done, Held, Refused}
+use Rattle.rules.specs.Contract.{bytesAfter}
+use Rattle.caller.specs.Made.{made, madeAll, Line, Shown}
+
+-- ---- bytes
+
+-- a number below 256 in four bytes, and in eight
+abbrev pub four : ℕ → List ℕ
+four n = n ∷ 0 ∷ 0 ∷ 0 ∷ []
+
+abbrev pub eight : ℕ → List ℕ
+eight n = n ∷ 0 ∷ 0 ∷ 0 ∷ 0 ∷ 0 ∷ 0 ∷ 0 ∷ []
+
+-- the first key of region slot n
+abbrev pub keyOf : (n : ℕ) → List ℕ
+keyOf n = 1 ∷ n ∷ 0 ∷ 0 ∷ []
+
+-- the memory of every post send
+abbrev pub memory : List ℕ
+memory = 1 ∷ 2 ∷ 3 ∷ 4 ∷ 5 ∷ 6 ∷ 7 ∷ 8 ∷ []
+
+-- ---- calls
+
+abbrev pub command : List ℕ → Call
+command k = Call.control (6 ∷ k) (replicate 13 9)
+
+abbrev pub createPd : Call
+createPd = command (4 ∷ [])
+
+abbrev pub createCq : (places : ℕ) → Call
+createCq n = command (2 ∷ four n)
+
+-- four bytes of memory, with all rights
+abbrev pub register : (pd start virt : ℕ) → Call
+register d s v = command (7 ∷ (four d ++ four 7 ++ eight s ++ eight 4 ++ eight v))
+
+abbrev pub deregister : (mrn : ℕ) → Call
+deregister n = command (8 ∷ four n)
+
+-- completion queue 0 is its send and its receive queue
+abbrev pub createQp : (pd : ℕ) → Call
+createQp d = command (9 ∷ (four d ++ (2 ∷ 0 ∷ 0 ∷ 0 ∷ []) ++ four 0 ++ four 0))
+
+abbrev pub move : (q state : ℕ) → Call
+move q t = command (10 ∷ (four q ++ four 1 ++ four t ++ four 0))
+
+-- to state 2, with its destination
+abbrev pub aim : (q dest : ℕ) → Call
+aim q d = command (10 ∷ (four q ++ (1 ∷ 128 ∷ 0 ∷ 0 ∷ []) ++ four 2 ++ four d))
+
+-- queue pair 0 sends: the opcode, the flags, the remote address and key, the inline bytes or those in their place, the count, the pieces
+abbrev pub send : (opcode flags address : ℕ) → (key inline : List ℕ) → (count : ℕ) → (pieces : List ℕ) → Call
+send o f a k i n ps =
+    Call.send 0
+    (eight 7 ++ (o ∷ f ∷ 0 ∷ 0 ∷ []) ++ four 0 ++ eight a ++ k ++ replicate 20 0 ++ i ++ four n ++ replicate 12 0 ++ ps)
+    memory
+
+abbrev pub unused : List ℕ
+unused = replicate 512 0
+
+-- one piece; its length in four bytes
+abbrev pub piece : (address : ℕ) → (length key : List ℕ) → List ℕ
+piece a n k = eight a ++ n ++ k
+
+-- two bytes at 101 of the region of slot 0
+abbrev pub two : List ℕ
+two = piece 101 (four 2) (keyOf 0)
+
+-- queue pair 1 waits for up to four bytes
+abbrev pub receive : (address length : ℕ) → Call
+receive a n = Call.receive 1 (eight 9 ++ four 1 ++ replicate 12 0 ++ piece a (four n) (keyOf 1))
+
+abbrev pub poll : Call
+poll = Call.poll 0 (replicate 24 0)
+
+-- ---- lines
+
+-- a call without memory
+abbrev pub plain : Call → Answer → Line
+plain k a = record { call = k; answer = a; memory = []; verdict = none }
+
+abbrev pub done : Call → Line
+done k = plain k (Done 0)
+
+-- a work request that the judge passes, and the memory after it; one that it does not pass, and its status; one that is held
+abbrev pub passes : Call → List ℕ → Line
+passes k m = record { call = k; answer = Done 0; memory = m; verdict = some true }
+
+abbrev pub fails : Call → (status : ℕ) → Line
+fails k s = record { call = k; answer = Done s; memory = memory; verdict = some false }
+
+abbrev pub waits : Call → Line
+waits k = record { call = k; answer = Held Peer; memory = memory; verdict = none }
+
+-- ---- the run
+
+-- a domain, a region and a queue pair for each of two tenants, and the two queue pairs joined
+abbrev pub setup : List Line
+setup =
+    done createPd ∷
+    done createPd ∷
+    done (createCq 16) ∷
+    done (register 0 0 100) ∷
+    done (register 1 4 200) ∷
+    done (createQp 0) ∷
+    done (createQp 1) ∷
+    done (move 0 1) ∷
+    done (aim 0 1) ∷
+    done (move 0 3) ∷
+    done (move 1 1) ∷
+    done (aim 1 0) ∷
+    []
+
+-- queue pair 0 out of the state that an error left it in
+abbrev pub again : List Line
+again = done (move 0 0) ∷ done (move 0 1) ∷ done (aim 0 1) ∷ done (move 0 3) ∷ []
+
+abbrev pub delivering : List Line
+delivering =
+    -- region 7 is not there; the memory cannot be empty
+    plain (deregister 7) (Refused 2) ∷
+    plain (Call.reset 0) (Refused 11) ∷
+    -- no receive waits
+    waits (send 2 0 0 (keyOf 0) unused 1 two) ∷
+    -- writes, the second of inline bytes
+    passes (send 0 0 200 (keyOf 1) unused 1 two) (1 ∷ 2 ∷ 3 ∷ 4 ∷ 2 ∷ 3 ∷ 7 ∷ 8 ∷ []) ∷
+    passes (send 0 8 201 (keyOf 1) (50 ∷ 60 ∷ 70 ∷ replicate 509 0) 3 []) (1 ∷ 2 ∷ 3 ∷ 4 ∷ 5 ∷ 50 ∷ 60 ∷ 70 ∷ []) ∷
+    -- a send, into the receive that waits
+    done (receive 202 2) ∷
+    passes (send 2 0 0 (keyOf 0) unused 1 two) (1 ∷ 2 ∷ 3 ∷ 4 ∷ 5 ∷ 6 ∷ 2 ∷ 3 ∷ []) ∷
+    done poll ∷
+    []
+
+-- the key of the sender's own domain names nothing at the peer; the key of the peer's domain is not the sender's; 4,097 bytes are too many
+abbrev pub failing : List Line
+failing =
+    fails (send 0 0 100 (keyOf 0) unused 1 two) 8 ∷ again
+    ++ (fails (send 0 0 200 (keyOf 1) unused 1 (piece 201 (four 2) (keyOf 1))) 3 ∷ again)
+    ++ (fails (send 0 0 200 (keyOf 1) unused 1 (piece 101 (1 ∷ 16 ∷ 0 ∷ 0 ∷ []) (keyOf 0))) 1 ∷ again)
+
+-- the peer's region is dropped while two receives wait for its bytes: the first is consumed in vain, the second is flushed; nor is the key
+-- one that can be written under
+abbrev pub dropping : List Line
+dropping =
+    done (receive 200 4) ∷
+    done (receive 200 4) ∷
+    done (deregister 1) ∷
+    fails (send 2 0 0 (keyOf 0) unused 1 two) 7 ∷
+    done (Call.flush 1) ∷
+    again
+    ++ (done (move 1 0) ∷ done (move 1 1) ∷ done (aim 1 0) ∷ fails (send 0 0 200 (keyOf 1) unused 1 two) 8 ∷ done poll ∷ [])
+
+-- after a reset nothing is there
+abbrev pub ending : List Line
+ending = done (Call.reset 8) ∷ plain (Call.flush 1) (Refused 2) ∷ []
+
+abbrev pub run : List Line
+run = setup ++ delivering ++ failing ++ dropping ++ ending
+
+-- A reset over eight bytes of memory and the run after it, on any state that has its length.
+abbrev pub Example : (l : List ℕ) → Type 0
+Example l = Shown (made l (Call.reset 8)) (madeAll (bytesAfter l (Call.reset 8)) (map (λ (x : Line). x .call) run)) run
