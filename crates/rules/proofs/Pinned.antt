@@ -2,13 +2,13 @@
 use mathlib.Core.Path.{_≡_, refl}
 use mathlib.Core.Bool.{true, false}
 use mathlib.Core.List.{List, [], _∷_, _++_, map}
-use mathlib.Core.Option.{some}
+use mathlib.Core.Option.{none, some}
 use Prim.Native.Nat.{ℕ}
 use lib.ListN.{replicate}
 use Rattle.wire.specs.Checks.{refusal}
 use Rattle.wire.specs.Codec.{putFields}
 use Rattle.wire.specs.Le.{leAt, putLe}
-use Rattle.tables.specs.Card.{Receive, noReceive, fresh}
+use Rattle.tables.specs.Card.{Card, Receive, noReceive, fresh}
 use Rattle.tables.specs.Queries.{deviceCodec, portCodec}
 use Rattle.tables.specs.declared.Sge.{Sge}
 use Rattle.validate.specs.Accept.{accessOk}
@@ -19,6 +19,8 @@ use Rattle.rules.specs.Call.{Call}
 use Rattle.rules.specs.Calls.{bufferAfter, controlChecks}
 use Rattle.rules.specs.Control.{commandChecks, commandEffect, commandAck, deviceOf, portOf}
 use Rattle.rules.specs.Marks.{platform, after, uses}
+use Rattle.rules.specs.Send.{deliveryChecks, sendStatus, sendPuts}
+use Rattle.rules.specs.Queues.{flushPut}
 use Rattle.wire.specs.Scan.{lowest, lowestFrom, anyBelow, all}
 use Rattle.tables.specs.Commands.{Command, commandOf, dataSize, ackNeed}
 
@@ -78,6 +80,48 @@ pub deliveries : (moved (request 0 1 (piece 0 4 ∷ [])) noReceive
     ∷ []
 unfolding delivered message total ownBytes farBytes range sgeBytes sgeTotal stored
 deliveries = refl
+
+-- a move of a queue pair
+abbrev move : (q mask state dest : ℕ) → Command
+move q k t d = Command.modifyQp (record { qpn = q; mask = k; state = t; pad0 = 0; pad1 = 0; pad2 = 0; dest = d })
+
+-- the platform with a second domain, in which a region of 100 bytes has the key 257 and queue pair 1 is joined with queue pair 0
+abbrev pair : Card
+pair =
+    after platform
+    (Command.createPd ∷ Command.register (record { pd = 1; access = 7; start = 0; length = 100; virt = 4096 }) ∷
+    Command.createQp (record { pd = 1; kind = 2; signal = 0; scq = 0; rcq = 0 }) ∷
+    move 0 1 1 0 ∷ move 0 32769 2 1 ∷ move 0 1 3 0 ∷ move 1 1 1 0 ∷ move 1 32769 2 0 ∷ [])
+
+-- a write of so many bytes from each of four pieces, under the sender's key and the remote key
+abbrev fourfold : (count own remote : ℕ) → Request
+fourfold n k far =
+    let p : Sge = record { address = 4096; length = n; key = k } in
+    record { wr = 7; opcode = 0; signaled = false; inline = false; bytes = []; imm = 0; address = 4096; key = far; sges = p ∷ p ∷ p ∷ p ∷ [] }
+
+-- a write is neither refused nor held, a send waits for a receive
+pub posted : map (λ r. refusal (deliveryChecks pair 0 r)) (fourfold 25 1 257 ∷ request 2 0 [] ∷ []) ≡ none ∷ some 5 ∷ []
+unfolding after platform commandChecks commandEffect lowest lowestFrom anyBelow deliveryChecks
+posted = refl
+
+-- 100 bytes into the peer's region; the sender's key as the remote one; the peer's as the sender's; a total over 4096, though no piece is
+pub statuses : map (sendStatus pair 0) (fourfold 25 1 257 ∷ fourfold 25 1 1 ∷ fourfold 25 257 257 ∷ fourfold 1025 1 257 ∷ []) ≡ 0 ∷ 8 ∷ 3 ∷ 1 ∷ []
+unfolding all after platform range sgeBytes sgeTotal total ownBytes farBytes permitsAll permits lookup covers commandChecks commandEffect lowest lowestFrom anyBelow sendStatus
+statuses = refl
+
+-- status and length of the completions that a send of five bytes puts, by its status: the sender's, the receiver's
+pub completions : map (λ s. map (λ p. p .entry .status ∷ p .entry .length ∷ []) (sendPuts pair 0 (request 2 0 (piece 0 3 ∷ piece 0 2 ∷ [])) s)) (0 ∷ 3 ∷ 7 ∷ [])
+    ≡ ((0 ∷ 5 ∷ []) ∷ (0 ∷ 5 ∷ []) ∷ [])
+    ∷ ((3 ∷ 0 ∷ []) ∷ [])
+    ∷ ((7 ∷ 0 ∷ []) ∷ (1 ∷ 0 ∷ []) ∷ [])
+    ∷ []
+unfolding after platform sgeTotal total commandChecks commandEffect lowest lowestFrom anyBelow sendPuts
+completions = refl
+
+-- "the oldest receive completes with status 4, opcode 3"
+pub flushing : (flushPut pair 1 .entry .status) ∷ (flushPut pair 1 .entry .opcode) ∷ [] ≡ 4 ∷ 3 ∷ []
+unfolding after platform commandChecks commandEffect lowest lowestFrom anyBelow
+flushing = refl
 
 -- 02, M-100: what a card reports that was reset to 1,048,576 bytes; "flags 0, largest region the memory length, page size mask 4096, version 1, then in 001's
 -- order 4, 4, 2, 4, 16, 32, 8, 1, 1, 0, delay 0, rest zero"
