@@ -4,6 +4,7 @@ use crate::Outcome;
 use crate::control_qp;
 use crate::destroy;
 use crate::query;
+use acks::queries;
 use rules::Answer;
 use rules::numbers::BAD_FIELD;
 use rules::numbers::BAD_RANGE;
@@ -25,7 +26,6 @@ use tables::limits::MOST_ADDRESS;
 use tables::limits::MOST_PLACES;
 use tables::limits::MR_COUNT;
 use tables::limits::PD_COUNT;
-use tables::queries;
 use tables::records;
 use tables::rows;
 use validate::accept;
@@ -289,6 +289,6 @@ pub fn control(state: &mut [u8], command: &[u8], ack: &mut [u8]) -> Answer
         return Answer::Refused(SHORT_BUFFER);
     }
     let o = dispatch(state, command);
-    records::write_ack(ack, ack_of(o));
+    acks::write_ack(ack, ack_of(o));
     answer_of(o)
 }

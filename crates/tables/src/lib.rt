@@ -1,6 +1,5 @@
 // The lower part: the records' layouts and the card's tables in the lent state.
 pub mod limits;
-pub mod queries;
 pub mod queue;
 pub mod records;
 pub mod reset;

@@ -1,5 +1,4 @@
 // The records, read and written by their layouts: specs/Records.antt and specs/Commands.antt.
-use crate::Ack;
 use crate::Completion;
 use crate::CreateQp;
 use crate::CreateQpRead;
@@ -20,7 +19,6 @@ use crate::limits::MOST_INLINE;
 use crate::limits::MOST_RECEIVE_SGES;
 use crate::limits::MOST_SGES;
 use crate::limits::READ;
-use crate::queries;
 ghost use mathlib.Core.List.{_∷_, []};
 ghost use mathlib.Core.Path.{_≡_};
 ghost use Prim.Native.Nat.{_<_, _≤_, _+_, _^_};
@@ -28,7 +26,7 @@ ghost use lib.ListN.{length};
 ghost use Rattle.wire.specs.Codec.{decode, encode, putFields};
 ghost use Rattle.wire.specs.Rows.{rows};
 ghost use Rattle.tables.specs.Limits.{mostSges};
-ghost use Rattle.tables.specs.Commands.{ackLeast, ackSize, encodeAck, headRead, numberRead, registerRead, createQpRead, modifyQpRead};
+ghost use Rattle.tables.specs.Commands.{headRead, numberRead, registerRead, createQpRead, modifyQpRead};
 ghost use Rattle.tables.specs.Records.{sgeCodec, sgeAt, completionCodec, resultFields, receiveRead, sendCodec, sendRead, sendSge, sendBad, sendSize, inlineBytes};
 
 // A send record's bytes before its scatter/gather entries, and where its inline bytes begin.
@@ -299,37 +297,4 @@ pub fn read_modify_qp(command: &[u8]) -> ModifyQpRead
         pad2: wire::get8(command, 13),
         dest: wire::get32(command, 14),
     })
-}
-
-// Writes an ack; the bytes behind it stay.
-pub fn write_ack(ack: &mut [u8], a: Ack)
-    requires { ⌜ (ackLeast ≤ length (now ack)) × (ackSize a ≤ length (now ack)) ⌝ }
-    ensures { λ _. ⌜ now (ack .exit) ≡ encodeAck a (now (ack .entry)) ⌝ }
-{
-    match a {
-        Ack::Error => {
-            wire::put8(ack, 0, 1);
-        }
-        Ack::Done => {
-            wire::put8(ack, 0, 0);
-        }
-        Ack::Number(n) => {
-            wire::put8(ack, 0, 0);
-            wire::put32(ack, 1, n);
-        }
-        Ack::Keys(n, key) => {
-            wire::put8(ack, 0, 0);
-            wire::put32(ack, 1, n);
-            wire::put32(ack, 5, key);
-            wire::put32(ack, 9, key);
-        }
-        Ack::Device(d) => {
-            wire::put8(ack, 0, 0);
-            queries::put_device(ack, d);
-        }
-        Ack::Port(p) => {
-            wire::put8(ack, 0, 0);
-            queries::put_port(ack, p);
-        }
-    }
 }

@@ -1,16 +1,16 @@
-// The acks of the queries, written and read by one layout each: specs/Queries.antt.
-use crate::Device;
-use crate::DeviceCaps;
-use crate::DeviceObjects;
-use crate::DeviceRead;
-use crate::DeviceWork;
-use crate::Port;
-use crate::PortRead;
+// The acks of the queries, written and read by one layout each: tables, specs/Queries.antt.
+use tables::Device;
+use tables::DeviceCaps;
+use tables::DeviceObjects;
+use tables::DeviceRead;
+use tables::DeviceWork;
+use tables::Port;
+use tables::PortRead;
 ghost use mathlib.Core.Path.{_≡_};
 ghost use Prim.Native.Nat.{_+_, _≤_};
 ghost use lib.ListN.{length};
 ghost use Rattle.wire.specs.Codec.{decode, encode, fieldsOf, valuesOf, putFields};
 ghost use Rattle.tables.specs.Queries.{capsLines, workLines, objectsLines, deviceCodec, deviceRead, portCodec, portRead};
 
 // An ack of command 0 and of command 1, with the ack byte.
 pub const DEVICE_ACK: usize = 129;

@@ -1,10 +1,10 @@
 use Rattle.wire.specs.Codec.{fieldsAt}
 use Rattle.tables.specs.Queries.{deviceCodec}
 use borrow.Author.Needs.{needs}
-use Rattle.tables.proofs.queries.get_work.Statement.{statement}
-use Rattle.tables.proofs.queries.get_work.Tie as tie
-use Rattle.tables.proofs.queries.get_work.Reads as reads
-use Rattle.tables.proofs.queries.get_work.Lts as lts
+use Rattle.acks.proofs.queries.get_work.Statement.{statement}
+use Rattle.acks.proofs.queries.get_work.Tie as tie
+use Rattle.acks.proofs.queries.get_work.Reads as reads
+use Rattle.acks.proofs.queries.get_work.Lts as lts
 use Rattle.wire.proofs.get32.Reads as get32-reads
 
 get32-requires : tie.Need-get32-requires

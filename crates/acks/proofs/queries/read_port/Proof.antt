@@ -1,13 +1,13 @@
 use mathlib.Core.Path.{sym, _∙_}
 use denote.Ref.{now}
 use Rattle.wire.specs.Codec.{fieldsAt}
 use Rattle.tables.specs.Queries.{portCodec, portRead}
 use Rattle.tables.proofs.AckLaws.{query-short, query-error, query-right}
 use borrow.Author.Needs.{needs}
-use Rattle.tables.proofs.queries.read_port.Statement.{statement}
-use Rattle.tables.proofs.queries.read_port.Tie as tie
-use Rattle.tables.proofs.queries.read_port.Reads as reads
-use Rattle.tables.proofs.queries.read_port.Lts as lts
+use Rattle.acks.proofs.queries.read_port.Statement.{statement}
+use Rattle.acks.proofs.queries.read_port.Tie as tie
+use Rattle.acks.proofs.queries.read_port.Reads as reads
+use Rattle.acks.proofs.queries.read_port.Lts as lts
 use Rattle.wire.proofs.get32.Reads as get32-reads
 use Rattle.wire.proofs.get8.Reads as get8-reads
 

@@ -1,9 +1,9 @@
 use Rattle.wire.specs.Codec.{putFields}
 use borrow.Author.Needs.{needs}
-use Rattle.tables.proofs.queries.put_objects.Statement.{statement}
-use Rattle.tables.proofs.queries.put_objects.Tie as tie
-use Rattle.tables.proofs.queries.put_objects.Reads as reads
-use Rattle.tables.proofs.queries.put_objects.Lts as lts
+use Rattle.acks.proofs.queries.put_objects.Statement.{statement}
+use Rattle.acks.proofs.queries.put_objects.Tie as tie
+use Rattle.acks.proofs.queries.put_objects.Reads as reads
+use Rattle.acks.proofs.queries.put_objects.Lts as lts
 use Rattle.wire.proofs.put32.Reads as put32-reads
 use Rattle.wire.proofs.put8.Reads as put8-reads
 

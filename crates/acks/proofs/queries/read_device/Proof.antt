@@ -1,15 +1,15 @@
 use mathlib.Core.Path.{sym, ap, _∙_}
 use denote.Ref.{now}
 use Rattle.tables.specs.Queries.{deviceRead, deviceCodec}
 use Rattle.tables.proofs.AckLaws.{query-short, query-error, query-right}
 use borrow.Author.Needs.{needs}
-use Rattle.tables.proofs.queries.read_device.Statement.{statement}
-use Rattle.tables.proofs.queries.read_device.Tie as tie
-use Rattle.tables.proofs.queries.read_device.Reads as reads
-use Rattle.tables.proofs.queries.read_device.Lts as lts
-use Rattle.tables.proofs.queries.get_caps.Reads as get-caps-reads
-use Rattle.tables.proofs.queries.get_objects.Reads as get-objects-reads
-use Rattle.tables.proofs.queries.get_work.Reads as get-work-reads
+use Rattle.acks.proofs.queries.read_device.Statement.{statement}
+use Rattle.acks.proofs.queries.read_device.Tie as tie
+use Rattle.acks.proofs.queries.read_device.Reads as reads
+use Rattle.acks.proofs.queries.read_device.Lts as lts
+use Rattle.acks.proofs.queries.get_caps.Reads as get-caps-reads
+use Rattle.acks.proofs.queries.get_objects.Reads as get-objects-reads
+use Rattle.acks.proofs.queries.get_work.Reads as get-work-reads
 use Rattle.wire.proofs.get8.Reads as get8-reads
 
 returns : tie.Need-returns

@@ -1,10 +1,10 @@
 use Rattle.wire.specs.Codec.{putFields}
 use Rattle.tables.specs.Queries.{portCodec}
 use borrow.Author.Needs.{needs}
-use Rattle.tables.proofs.queries.put_port.Statement.{statement}
-use Rattle.tables.proofs.queries.put_port.Tie as tie
-use Rattle.tables.proofs.queries.put_port.Reads as reads
-use Rattle.tables.proofs.queries.put_port.Lts as lts
+use Rattle.acks.proofs.queries.put_port.Statement.{statement}
+use Rattle.acks.proofs.queries.put_port.Tie as tie
+use Rattle.acks.proofs.queries.put_port.Reads as reads
+use Rattle.acks.proofs.queries.put_port.Lts as lts
 use Rattle.wire.proofs.put32.Reads as put32-reads
 use Rattle.wire.proofs.put_zeros.Reads as put-zeros-reads
 

@@ -1,9 +1,9 @@
 use Rattle.wire.specs.Codec.{putFields}
 use borrow.Author.Needs.{needs}
-use Rattle.tables.proofs.queries.put_work.Statement.{statement}
-use Rattle.tables.proofs.queries.put_work.Tie as tie
-use Rattle.tables.proofs.queries.put_work.Reads as reads
-use Rattle.tables.proofs.queries.put_work.Lts as lts
+use Rattle.acks.proofs.queries.put_work.Statement.{statement}
+use Rattle.acks.proofs.queries.put_work.Tie as tie
+use Rattle.acks.proofs.queries.put_work.Reads as reads
+use Rattle.acks.proofs.queries.put_work.Lts as lts
 use Rattle.wire.proofs.put32.Reads as put32-reads
 
 put32-requires : tie.Need-put32-requires

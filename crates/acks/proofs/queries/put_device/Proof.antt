@@ -1,13 +1,13 @@
 use Rattle.wire.specs.Codec.{putFields}
 use Rattle.tables.specs.Queries.{deviceCodec}
 use borrow.Author.Needs.{needs}
-use Rattle.tables.proofs.queries.put_device.Statement.{statement}
-use Rattle.tables.proofs.queries.put_device.Tie as tie
-use Rattle.tables.proofs.queries.put_device.Reads as reads
-use Rattle.tables.proofs.queries.put_device.Lts as lts
-use Rattle.tables.proofs.queries.put_caps.Reads as put-caps-reads
-use Rattle.tables.proofs.queries.put_objects.Reads as put-objects-reads
-use Rattle.tables.proofs.queries.put_work.Reads as put-work-reads
+use Rattle.acks.proofs.queries.put_device.Statement.{statement}
+use Rattle.acks.proofs.queries.put_device.Tie as tie
+use Rattle.acks.proofs.queries.put_device.Reads as reads
+use Rattle.acks.proofs.queries.put_device.Lts as lts
+use Rattle.acks.proofs.queries.put_caps.Reads as put-caps-reads
+use Rattle.acks.proofs.queries.put_objects.Reads as put-objects-reads
+use Rattle.acks.proofs.queries.put_work.Reads as put-work-reads
 use Rattle.wire.proofs.put_zeros.Reads as put-zeros-reads
 
 put-caps-requires : tie.Need-put-caps-requires

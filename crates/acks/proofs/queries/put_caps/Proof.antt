@@ -1,9 +1,9 @@
 use Rattle.wire.specs.Codec.{putFields}
 use borrow.Author.Needs.{needs}
-use Rattle.tables.proofs.queries.put_caps.Statement.{statement}
-use Rattle.tables.proofs.queries.put_caps.Tie as tie
-use Rattle.tables.proofs.queries.put_caps.Reads as reads
-use Rattle.tables.proofs.queries.put_caps.Lts as lts
+use Rattle.acks.proofs.queries.put_caps.Statement.{statement}
+use Rattle.acks.proofs.queries.put_caps.Tie as tie
+use Rattle.acks.proofs.queries.put_caps.Reads as reads
+use Rattle.acks.proofs.queries.put_caps.Lts as lts
 use Rattle.wire.proofs.put32.Reads as put32-reads
 use Rattle.wire.proofs.put64.Reads as put64-reads
 

@@ -3,12 +3,12 @@ use lib.ListN.{length}
 use Prim.Native.Nat.{_≤_}
 use Rattle.wire.specs.Codec.{putFields}
 use borrow.Author.Needs.{needs}
-use Rattle.tables.proofs.records.write_ack.Statement.{statement}
-use Rattle.tables.proofs.records.write_ack.Tie as tie
-use Rattle.tables.proofs.records.write_ack.Reads as reads
-use Rattle.tables.proofs.records.write_ack.Lts as lts
-use Rattle.tables.proofs.queries.put_device.Reads as put-device-reads
-use Rattle.tables.proofs.queries.put_port.Reads as put-port-reads
+use Rattle.acks.proofs.write_ack.Statement.{statement}
+use Rattle.acks.proofs.write_ack.Tie as tie
+use Rattle.acks.proofs.write_ack.Reads as reads
+use Rattle.acks.proofs.write_ack.Lts as lts
+use Rattle.acks.proofs.queries.put_device.Reads as put-device-reads
+use Rattle.acks.proofs.queries.put_port.Reads as put-port-reads
 use Rattle.wire.proofs.put32.Reads as put32-reads
 use Rattle.wire.proofs.put8.Reads as put8-reads
 
