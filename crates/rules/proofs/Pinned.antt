@@ -20,7 +20,7 @@ use Rattle.rules.specs.Calls.{bufferAfter, controlChecks}
 use Rattle.rules.specs.Control.{commandChecks, commandEffect, commandAck, deviceOf, portOf}
 use Rattle.rules.specs.Marks.{platform, after, uses}
 use Rattle.rules.specs.Send.{deliveryChecks, sendStatus, sendPuts}
-use Rattle.rules.specs.Queues.{flushPut}
+use Rattle.rules.specs.Queues.{joined, flushPut}
 use Rattle.wire.specs.Scan.{lowest, lowestFrom, anyBelow, all}
 use Rattle.tables.specs.Commands.{Command, commandOf, dataSize, ackNeed}
 
@@ -65,6 +65,56 @@ moved r w = delivered (λ b. b .address) r w eight
 abbrev into : List Sge → Receive
 into ps = record { wr = 0; sges = ps }
 
+-- a move of a queue pair
+abbrev move : (q mask state dest : ℕ) → Command
+move q k t d = Command.modifyQp (record { qpn = q; mask = k; state = t; pad0 = 0; pad1 = 0; pad2 = 0; dest = d })
+
+-- the platform with a second domain, in which a region of 100 bytes has the key 257 and queue pair 1 is joined with queue pair 0
+abbrev pair : Card
+pair =
+    after platform
+    (Command.createPd ∷ Command.register (record { pd = 1; access = 7; start = 0; length = 100; virt = 4096 }) ∷
+    Command.createQp (record { pd = 1; kind = 2; signal = 0; scq = 0; rcq = 0 }) ∷
+    move 0 1 1 0 ∷ move 0 32769 2 1 ∷ move 0 1 3 0 ∷ move 1 1 1 0 ∷ move 1 32769 2 0 ∷ [])
+
+-- it, with a receive of 100 bytes under the key
+abbrev waits : (key : ℕ) → Card
+waits k = joined pair 1 (into (record { address = 4096; length = 100; key = k } ∷ []))
+
+-- a send of so many bytes from each of four pieces under the key
+abbrev fourfold : (count key : ℕ) → Request
+fourfold n k = let p : Sge = record { address = 4096; length = n; key = k } in request 2 0 (p ∷ p ∷ p ∷ p ∷ [])
+
+-- a write is done, a send held without a receive, and then without two places in a queue of one
+pub posted :
+    refusal (deliveryChecks pair 0 (request 0 4096 [])) ∷ refusal (deliveryChecks pair 0 (fourfold 25 1)) ∷
+    refusal (deliveryChecks (waits 257) 0 (fourfold 25 1)) ∷ []
+    ≡ none ∷ some 5 ∷ some 6 ∷ []
+unfolding after platform commandChecks commandEffect lowest lowestFrom anyBelow joined deliveryChecks
+posted = refl
+
+-- 100 bytes into the peer's region; into a region of the sender's domain; out of one of the peer's; a total over 4096, though no piece is
+pub statuses :
+    sendStatus (waits 257) 0 (fourfold 25 1) ∷ sendStatus (waits 1) 0 (fourfold 25 1) ∷
+    sendStatus (waits 257) 0 (fourfold 25 257) ∷ sendStatus (waits 257) 0 (fourfold 1025 1) ∷ []
+    ≡ 0 ∷ 7 ∷ 3 ∷ 1 ∷ []
+unfolding all after platform range sgeBytes sgeTotal total ownBytes farBytes permitsAll permits lookup covers commandChecks commandEffect lowest lowestFrom anyBelow joined sendStatus
+statuses = refl
+
+-- status and length of the completions that a send of 100 bytes puts, by its status: the sender's, the receiver's
+pub completions : map (λ s. map (λ p. p .entry .status ∷ p .entry .length ∷ []) (sendPuts (waits 1) 0 (fourfold 25 1) s)) (0 ∷ 3 ∷ 7 ∷ [])
+    ≡ ((0 ∷ 100 ∷ []) ∷ (0 ∷ 100 ∷ []) ∷ [])
+    ∷ ((3 ∷ 0 ∷ []) ∷ [])
+    ∷ ((7 ∷ 0 ∷ []) ∷ (3 ∷ 0 ∷ []) ∷ [])
+    ∷ []
+unfolding after platform sgeTotal total commandChecks commandEffect lowest lowestFrom anyBelow joined sendPuts
+completions = refl
+
+-- "the oldest receive completes with status 4, opcode 3"
+pub flushing : (flushPut (waits 1) 1 .entry .status) ∷ (flushPut (waits 1) 1 .entry .opcode) ∷ [] ≡ 4 ∷ 3 ∷ []
+unfolding after platform commandChecks commandEffect lowest lowestFrom anyBelow joined
+flushing = refl
+
 -- a write over its own source, a write of two pieces, a read back, a send into two pieces that overlap, a short inline send
 pub deliveries : (moved (request 0 1 (piece 0 4 ∷ [])) noReceive
     ∷ moved (request 0 6 (piece 3 1 ∷ piece 0 1 ∷ [])) noReceive
@@ -80,48 +130,6 @@ pub deliveries : (moved (request 0 1 (piece 0 4 ∷ [])) noReceive
     ∷ []
 unfolding delivered message total ownBytes farBytes range sgeBytes sgeTotal stored
 deliveries = refl
-
--- a move of a queue pair
-abbrev move : (q mask state dest : ℕ) → Command
-move q k t d = Command.modifyQp (record { qpn = q; mask = k; state = t; pad0 = 0; pad1 = 0; pad2 = 0; dest = d })
-
--- the platform with a second domain, in which a region of 100 bytes has the key 257 and queue pair 1 is joined with queue pair 0
-abbrev pair : Card
-pair =
-    after platform
-    (Command.createPd ∷ Command.register (record { pd = 1; access = 7; start = 0; length = 100; virt = 4096 }) ∷
-    Command.createQp (record { pd = 1; kind = 2; signal = 0; scq = 0; rcq = 0 }) ∷
-    move 0 1 1 0 ∷ move 0 32769 2 1 ∷ move 0 1 3 0 ∷ move 1 1 1 0 ∷ move 1 32769 2 0 ∷ [])
-
--- a write of so many bytes from each of four pieces, under the sender's key and the remote key
-abbrev fourfold : (count own remote : ℕ) → Request
-fourfold n k far =
-    let p : Sge = record { address = 4096; length = n; key = k } in
-    record { wr = 7; opcode = 0; signaled = false; inline = false; bytes = []; imm = 0; address = 4096; key = far; sges = p ∷ p ∷ p ∷ p ∷ [] }
-
--- a write is neither refused nor held, a send waits for a receive
-pub posted : map (λ r. refusal (deliveryChecks pair 0 r)) (fourfold 25 1 257 ∷ request 2 0 [] ∷ []) ≡ none ∷ some 5 ∷ []
-unfolding after platform commandChecks commandEffect lowest lowestFrom anyBelow deliveryChecks
-posted = refl
-
--- 100 bytes into the peer's region; the sender's key as the remote one; the peer's as the sender's; a total over 4096, though no piece is
-pub statuses : map (sendStatus pair 0) (fourfold 25 1 257 ∷ fourfold 25 1 1 ∷ fourfold 25 257 257 ∷ fourfold 1025 1 257 ∷ []) ≡ 0 ∷ 8 ∷ 3 ∷ 1 ∷ []
-unfolding all after platform range sgeBytes sgeTotal total ownBytes farBytes permitsAll permits lookup covers commandChecks commandEffect lowest lowestFrom anyBelow sendStatus
-statuses = refl
-
--- status and length of the completions that a send of five bytes puts, by its status: the sender's, the receiver's
-pub completions : map (λ s. map (λ p. p .entry .status ∷ p .entry .length ∷ []) (sendPuts pair 0 (request 2 0 (piece 0 3 ∷ piece 0 2 ∷ [])) s)) (0 ∷ 3 ∷ 7 ∷ [])
-    ≡ ((0 ∷ 5 ∷ []) ∷ (0 ∷ 5 ∷ []) ∷ [])
-    ∷ ((3 ∷ 0 ∷ []) ∷ [])
-    ∷ ((7 ∷ 0 ∷ []) ∷ (1 ∷ 0 ∷ []) ∷ [])
-    ∷ []
-unfolding after platform sgeTotal total commandChecks commandEffect lowest lowestFrom anyBelow sendPuts
-completions = refl
-
--- "the oldest receive completes with status 4, opcode 3"
-pub flushing : (flushPut pair 1 .entry .status) ∷ (flushPut pair 1 .entry .opcode) ∷ [] ≡ 4 ∷ 3 ∷ []
-unfolding after platform commandChecks commandEffect lowest lowestFrom anyBelow
-flushing = refl
 
 -- 02, M-100: what a card reports that was reset to 1,048,576 bytes; "flags 0, largest region the memory length, page size mask 4096, version 1, then in 001's
 -- order 4, 4, 2, 4, 16, 32, 8, 1, 1, 0, delay 0, rest zero"
