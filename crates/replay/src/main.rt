@@ -5,7 +5,6 @@ use libc::STDIN_FILENO;
 use libc::STDOUT_FILENO;
 use tape::Turn;
 use tape::input::Held;
-ghost use mathlib.Core.Path.{_≡_};
 ghost use mathlib.Core.List.{List};
 ghost use Prim.Native.Nat.{ℕ, _≤_};
 ghost use lib.ListN.{length as ListN·length};
@@ -85,29 +84,6 @@ fn run(state: &mut [u8], memory: &mut [u8], window: &mut [u8]) {
     }
 }
 
-// The memory's length that the argument asks for, 4,096 without one; 0 where it asks for none that a card takes.
-fn length_asked() -> u64
-    ensures { λ r. ⌜ r ≤ 1048576 ⌝ }
-{
-    let count = os::arg_count();
-    if count < 2 {
-        return 4096;
-    }
-    if count > 2 {
-        return 0;
-    }
-    let mut text = [0u8; 8];
-    let n = os::arg(1, &mut text);
-    tape::start::memory_length(&text[..n])
-}
-
-// The longest memory, all zeros.
-fn zeros() -> [u8; 1048576]
-    ensures { λ r. ⌜ 1048576 ≡ ListN·length r ⌝ }
-{
-    [0; 1048576]
-}
-
 // Runs the tape over the first bytes of the memory.
 fn run_in(state: &mut [u8], memory: &mut [u8], length: usize)
     requires { ⌜ length ≤ ListN·length (now memory) ⌝ }
@@ -118,8 +94,8 @@ fn run_in(state: &mut [u8], memory: &mut [u8], length: usize)
 
 fn main() {
     let mut state = [0u8; tape::STATE];
-    let mut memory = zeros();
-    let length = length_asked();
+    let mut memory = tape::start::memory();
+    let length = tape::start::length_asked(1);
     if tape::start::start(&mut state, length) {
         run_in(&mut state, &mut memory, length as usize);
     } else {

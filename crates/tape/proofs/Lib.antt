@@ -8,3 +8,7 @@ pub mod TurnLaws
 pub mod PieceLaws
 pub mod InputLaws
 pub mod LengthLaws
+pub mod StartLaws
+pub mod VerdictLaws
+pub mod FoundLaws
+pub mod AuditLaws

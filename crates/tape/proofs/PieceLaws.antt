@@ -108,7 +108,7 @@ whole-same k n s m h r le =
     (ap (take s) (drop-append-le 6 h r (omega arith)) ∙ take-append-le s (drop 6 h) r (simp length-drop (omega arith)))
 
 -- no piece is left of an input that has ended
-none-left : (i : Input) → Lawful i → i .ended ≡ true → flatten (i .pieces) ≡ []
+pub none-left : (i : Input) → Lawful i → i .ended ≡ true → flatten (i .pieces) ≡ []
 unfolding flatten
 none-left i lawful e = ap flatten (lawful e)
 
@@ -116,39 +116,42 @@ none-left i lawful e = ap flatten (lawful e)
 pub content-step : (i : Input) → Lawful i → (x : Step) → stepOf (i .held) (i .ended) ≡ x → isMore x ≡ false → stepOf (content i) true ≡ x
 content-step i lawful x e k = step-kept (i .held) (flatten (i .pieces)) (i .ended) (none-left i lawful) (ap isMore e ∙ k) ∙ e
 
-module _ (t : ℕ) (l m : List ℕ) (i : Input) where
-  turn-of : (x : Step) → stepOf (i .held) (i .ended) ≡ x → run (suc t) l m i ≡ runBy (run t) x l m i
-  unfolding run
-  turn-of x e = ap (λ (y : Step). runBy (run t) y l m i) e
+-- the answer records of the whole input, from the step on that the bytes held show
+module _ (l m : List ℕ) (i : Input) (lawful : Lawful i) where
+  pub played-known : (x : Step) → stepOf (i .held) (i .ended) ≡ x → isMore x ≡ false → played l m (content i) ≡ playBy played x l m (content i)
+  played-known x e k = played-step l m (content i) ∙ ap (λ (y : Step). playBy played y l m (content i)) (content-step i lawful x e k)
 
-  known : Lawful i → (x : Step) → stepOf (i .held) (i .ended) ≡ x → isMore x ≡ false → runBy (run t) x l m i ≡ playBy played x l m (content i)
-      → run (suc t) l m i ≡ played l m (content i)
-  known lawful x e k p =
-      turn-of x e ∙ p ∙ ap (λ (y : Step). playBy played y l m (content i)) (sym (content-step i lawful x e k)) ∙ sym (played-step l m (content i))
+  pub played-whole : {k n s : ℕ} → stepOf (i .held) (i .ended) ≡ Step.Whole k n s
+      → let call = callAt k n s m (i .held) in
+      played l m (content i) ≡ answerTo l call ∷ played (bytesAfter l call) (memoryLeft l m call) (content (past (6 + s) i))
+  played-whole {k} {n} {s} e =
+      let w : 6 + s ≤ length (i .held) = whole-held (i .held) (i .ended) e .1 in
+      played-known (Step.Whole k n s) e refl
+      ∙ ap₂ (λ (call : Call) (rest : List ℕ). answerTo l call ∷ played (bytesAfter l call) (memoryLeft l m call) rest)
+      (whole-same k n s m (i .held) (flatten (i .pieces)) w) (past-content i (6 + s) w)
 
 -- so many turns write the answer records of the whole input
 abbrev Writes : (turns : ℕ) → Type 0
 Writes t = (l m : List ℕ) (i : Input) → Lawful i → cost i ≤ t → run t l m i ≡ played l m (content i)
+
+turn-of : (t : ℕ) (l m : List ℕ) (i : Input) (x : Step) → stepOf (i .held) (i .ended) ≡ x → run (suc t) l m i ≡ runBy (run t) x l m i
+unfolding run
+turn-of t l m i x e = ap (λ (y : Step). runBy (run t) y l m i) e
 
 one-more : (t : ℕ) → Writes t → Writes (suc t)
 one-more t later l m i lawful c = by (stepOf (i .held) (i .ended)) refl
   where
     by : (x : Step) → stepOf (i .held) (i .ended) ≡ x → run (suc t) l m i ≡ played l m (content i)
     by (Step.Whole k n s) e =
-        let w : 6 + s ≤ length (i .held) = whole-held (i .held) (i .ended) e .1 in
-        let p : cost (past (6 + s) i) + (6 + s) ≡ cost i = past-cost i (6 + s) w in
+        let p : cost (past (6 + s) i) + (6 + s) ≡ cost i = past-cost i (6 + s) (whole-held (i .held) (i .ended) e .1) in
         let call : Call = callAt k n s m (i .held) in
-        let q : run t (bytesAfter l call) (memoryLeft l m call) (past (6 + s) i) ≡ played (bytesAfter l call) (memoryLeft l m call) (drop (6 + s) (content i)) =
-        later (bytesAfter l call) (memoryLeft l m call) (past (6 + s) i) lawful (omega arith)
-        ∙ ap (played (bytesAfter l call) (memoryLeft l m call)) (sym (past-content i (6 + s) w)) in
-        known t l m i lawful (Step.Whole k n s) e refl
-        (ap (λ (x : List (List ℕ)). answerTo l call ∷ x) q
-        ∙ ap (λ (k : Call). answerTo l k ∷ played (bytesAfter l k) (memoryLeft l m k) (drop (6 + s) (content i))) (sym (whole-same k n s m (i .held) (flatten (i .pieces)) w)))
-    by Step.Fault e = known t l m i lawful Step.Fault e refl refl
-    by Step.End e = known t l m i lawful Step.End e refl refl
+        turn-of t l m i (Step.Whole k n s) e
+        ∙ ap (λ (x : List (List ℕ)). answerTo l call ∷ x) (later (bytesAfter l call) (memoryLeft l m call) (past (6 + s) i) lawful (omega arith))
+        ∙ sym (played-whole l m i lawful e)
+    by Step.Fault e = turn-of t l m i Step.Fault e ∙ sym (played-known l m i lawful Step.Fault e refl)
+    by Step.End e = turn-of t l m i Step.End e ∙ sym (played-known l m i lawful Step.End e refl)
     by Step.More e =
-        let f : i .ended ≡ false = more-wanting (i .held) (i .ended) e .1 in
-        let p : suc (cost (next i)) ≡ cost i = next-cost i f in
+        let p : suc (cost (next i)) ≡ cost i = next-cost i (more-wanting (i .held) (i .ended) e .1) in
         turn-of t l m i Step.More e ∙ later l m (next i) (next-lawful i) (omega arith) ∙ ap (played l m) (next-content i)
 
 run-played : (t : ℕ) → Writes t

@@ -1,3 +1,4 @@
 pub mod Tape
 pub mod Pieces
 pub mod Length
+pub mod Audit

@@ -1,4 +1,5 @@
 // The replay tape: reading a record's header, making its call, writing its answer. What a tape means: specs/Tape.antt.
+pub mod audit;
 pub mod input;
 pub mod start;
 pub mod steps;
@@ -50,6 +51,16 @@ pub enum Turn {
     Fault,
     End,
     More,
+}
+
+// What a turn of an audit finds: more bytes of the calls or of the answers are wanted; an answer as it is due, of so many bytes of each
+// tape; the tapes agree; or they differ, at the record due or so many records later.
+pub enum Found {
+    Calls,
+    Answers,
+    Same { calls: usize, answers: usize },
+    Agrees,
+    Differs { later: u64 },
 }
 
 fn is_mark(input: &[u8]) -> bool

@@ -4,6 +4,7 @@ use tables::limits::MOST_MEMORY;
 ghost use mathlib.Core.Path.{_≡_};
 ghost use mathlib.Core.Bool.{cond};
 ghost use Prim.Native.Nat.{_≤_};
+ghost use lib.ListN.{length};
 ghost use Rattle.tables.specs.Limits.{mostMemory};
 ghost use Rattle.tables.specs.Reset.{resetBytes};
 ghost use Rattle.tape.specs.Length.{isDigit, lengthOf};
@@ -46,4 +47,27 @@ pub fn memory_length(text: &[u8]) -> u64
         i += 1;
     }
     value
+}
+
+// The memory's length that argument i, the last, asks for, 4,096 where there is none; 0 where it asks for none that a card takes.
+pub fn length_asked(i: usize) -> u64
+    ensures { λ r. ⌜ r ≤ mostMemory ⌝ }
+{
+    let count = os::arg_count();
+    if count <= i {
+        return 4096;
+    }
+    if count - i > 1 {
+        return 0;
+    }
+    let mut text = [0u8; 8];
+    let n = os::arg(i, &mut text);
+    memory_length(&text[..n])
+}
+
+// The longest memory, all zeros.
+pub fn memory() -> [u8; 1048576]
+    ensures { λ r. ⌜ 1048576 ≡ length r ⌝ }
+{
+    [0; 1048576]
 }

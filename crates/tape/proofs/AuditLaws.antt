@@ -1,0 +1,165 @@
+-- However both tapes are cut into pieces, the audit's verdict is the one on the whole tapes. Assumes nothing.
+use mathlib.Core.Path.{_≡_, refl, sym, ap, ap₂, _∙_}
+use mathlib.Core.Bool.{Bool, true, false, cond, _||_, true≢false}
+use mathlib.Core.List.{List, [], _∷_, _++_, flatten, append-nil}
+use mathlib.Core.Logic.{_⊎_, inl, inr, ⊎-elim}
+use Prim.Native.Nat.{ℕ, zero, suc, _+_, _-_, _≤_, _<_}
+use native.Mathlib.Nat.{add-zero}
+use native.Mathlib.Numerals.{add-one}
+use native.Mathlib.Omega.{arith}
+use lib.Dec.{eqb, leb}
+use lib.ListN.{length, drop, length-append, length-drop}
+use borrow.Author.Tests.{leb-true, ne-eqb}
+use Rattle.rules.specs.Call.{Call}
+use Rattle.rules.specs.Contract.{bytesAfter}
+use Rattle.tape.specs.declared.Found.{Found}
+use Rattle.tape.specs.declared.Step.{Step}
+use Rattle.tape.specs.Tape.{stepOf, callAt, memoryLeft, answerTo, badRecord, played, records}
+use Rattle.tape.specs.Pieces.{turned, Input, unread, next, past, turnsFor}
+use Rattle.tape.specs.Audit.{Verdict, starts, against, verdict, closing, Finding, findingBy, auditBy, audits, AuditsHoweverCut}
+use Rattle.tape.proofs.BoundLaws.{answer-most}
+use Rattle.tape.proofs.StepLaws.{whole-held, more-wanting}
+use Rattle.tape.proofs.PieceLaws.{content, Lawful, cost, cost-least, none-left, next-content, next-lawful, next-cost, past-content, past-cost, played-known, played-whole}
+use Rattle.tape.proofs.StartLaws.{starts-long, starts-further}
+use Rattle.tape.proofs.VerdictLaws.{against-same, against-other}
+
+-- ---- enough of the answers is held: all that is left, or a longest record
+
+abbrev Enough : Input → Type 0
+Enough a = (a .ended ≡ true) ⊎ (135 ≤ length (a .held))
+
+enough : (e : Bool) (n : ℕ) → (e || leb 135 n) ≡ true → (e ≡ true) ⊎ (135 ≤ n)
+enough true n h = inl refl
+enough false n h = inr (leb-true 135 n h)
+
+module _ (a : Input) (lawful : Lawful a) where
+  starts-held : (r : List ℕ) → length r ≤ 135 → Enough a → starts r (content a) ≡ starts r (a .held)
+  starts-held r le =
+      ⊎-elim
+      (λ e. ap (λ (x : List ℕ). starts r (a .held ++ x)) (none-left a lawful e) ∙ ap (starts r) (append-nil (a .held)))
+      (λ h. starts-further r (a .held) (flatten (a .pieces)) (omega arith))
+
+  -- bytes are left behind the first k
+  left-held : (k left : ℕ) → left ≡ length (a .held) - k → k < 135 → Enough a → eqb (length (drop k (content a))) 0 ≡ eqb left 0
+  left-held k left s le =
+      let n : length (drop k (content a)) ≡ length (content a) - k = length-drop k (content a) in
+      let w : length (content a) ≡ length (a .held) + length (flatten (a .pieces)) = length-append (a .held) (flatten (a .pieces)) in
+      ⊎-elim
+      (λ e.
+      let z : length (flatten (a .pieces)) ≡ 0 = ap length (none-left a lawful e) in
+      let q : length (drop k (content a)) ≡ left = omega arith in
+      ap (λ (x : ℕ). eqb x 0) q)
+      (λ h. ne-eqb (length (drop k (content a))) 0 (λ z. omega arith) ∙ sym (ne-eqb left 0 (λ z. omega arith)))
+
+-- ---- nothing more is due
+
+against-none : (n : ℕ) (g : List ℕ) → against n [] g ≡ cond (eqb (length g) 0) Verdict.agrees (Verdict.differs n)
+unfolding against
+against-none n [] = refl
+against-none n (b ∷ g) = rw (ne-eqb (length (b ∷ g)) 0 (λ z. omega arith))
+
+module _ (more : (n : ℕ) → (l m : List ℕ) → (calls answers : Input) → Verdict) (n : ℕ) (l m : List ℕ) (c a : Input) where
+  closed : (later : ℕ) (b : Bool) → auditBy more n (cond b Found.Agrees (Found.Differs later)) l m c a ≡ cond b Verdict.agrees (Verdict.differs (n + later))
+  closed later true = refl
+  closed later false = refl
+
+  -- the answers behind the first k bytes, where n + later is the next number
+  closing-against : Lawful a → Enough a → (k later left : ℕ) → left ≡ length (a .held) - k → k < 135
+      → auditBy more n (closing later left) l m c a ≡ against (n + later) [] (drop k (content a))
+  closing-against lawful held k later left s le =
+      closed later (eqb left 0)
+      ∙ ap (λ (b : Bool). cond b Verdict.agrees (Verdict.differs (n + later))) (sym (left-held a lawful k left s le held))
+      ∙ sym (against-none (n + later) (drop k (content a)))
+
+-- ---- a turn
+
+-- the verdict from a turn on, by whether enough of the answers is held and the step on the calls
+abbrev auditAt : (t n : ℕ) (l m : List ℕ) (c a : Input) → Bool → Step → Verdict
+auditAt t n l m c a b x =
+    let y : Finding = findingBy b l m (turned x l m (c .held)) (a .held) in auditBy (audits t) n (y .found) (y .state) (y .memory) c a
+
+module _ (t n : ℕ) (l m : List ℕ) (c a : Input) where
+  turn-at : (b : Bool) (x : Step) → (a .ended || leb 135 (length (a .held))) ≡ b → stepOf (c .held) (c .ended) ≡ x
+      → audits (suc t) n l m c a ≡ auditAt t n l m c a b x
+  unfolding audits
+  turn-at b x p q = ap₂ (auditAt t n l m c a) p q
+
+  -- an answer that the answers held do not start with
+  other-at : Lawful a → Enough a → (r : List ℕ) (rs : List (List ℕ)) → length r ≤ 135 → starts r (a .held) ≡ false
+      → Verdict.differs (n + 0) ≡ against n (r ∷ rs) (content a)
+  other-at lawful held r rs le h =
+      ap Verdict.differs (add-zero n) ∙ sym (against-other n r rs (content a) (starts-held a lawful r le held ∙ h))
+
+  same-at : Lawful a → Enough a → (r : List ℕ) (rs : List (List ℕ)) → length r ≤ 135 → starts r (a .held) ≡ true
+      → against (suc n) rs (drop (length r) (content a)) ≡ against n (r ∷ rs) (content a)
+  same-at lawful held r rs le h = sym (against-same n r rs (content a) (starts-held a lawful r le held ∙ h))
+
+  fault-at : Lawful a → Enough a → (b : Bool) → starts badRecord (a .held) ≡ b
+      → auditBy (audits t) n (cond b (closing 1 (length (a .held) - 6)) (Found.Differs 0)) l m c a ≡ against n (badRecord ∷ []) (content a)
+  fault-at lawful held true h =
+      closing-against (audits t) n l m c a lawful held 6 1 (length (a .held) - 6) refl (omega arith)
+      ∙ ap (λ (k : ℕ). against k [] (drop 6 (content a))) (add-one n)
+      ∙ same-at lawful held badRecord [] (omega arith) h
+  fault-at lawful held false h = other-at lawful held badRecord [] (omega arith) h
+
+-- ---- all turns
+
+abbrev Judges : (turns : ℕ) → Type 0
+Judges t = (n : ℕ) (l m : List ℕ) (c a : Input) → Lawful c → Lawful a → cost c + cost a ≤ t → audits t n l m c a ≡ against n (played l m (content c)) (content a)
+
+module _ (t : ℕ) (later : Judges t) (n : ℕ) (l m : List ℕ) (c a : Input) (lc : Lawful c) (la : Lawful a) (few : cost c + cost a ≤ suc t) where
+  wants-answers : a .ended ≡ false → audits t n l m c (next a) ≡ against n (played l m (content c)) (content a)
+  wants-answers e =
+      let p : suc (cost (next a)) ≡ cost a = next-cost a e in
+      later n l m c (next a) lc (next-lawful a) (omega arith) ∙ ap (against n (played l m (content c))) (next-content a)
+
+  wants-calls : c .ended ≡ false → audits t n l m (next c) a ≡ against n (played l m (content c)) (content a)
+  wants-calls e =
+      let p : suc (cost (next c)) ≡ cost c = next-cost c e in
+      later n l m (next c) a (next-lawful c) la (omega arith) ∙ ap (λ (x : List ℕ). against n (played l m x) (content a)) (next-content c)
+
+  whole-at : Enough a → {k q s : ℕ} → stepOf (c .held) (c .ended) ≡ Step.Whole k q s → (b : Bool) → starts (answerTo l (callAt k q s m (c .held))) (a .held) ≡ b
+      → let call = callAt k q s m (c .held) in
+      auditBy (audits t) n (cond b (Found.Same (6 + s) (length (answerTo l call))) (Found.Differs 0)) (bytesAfter l call) (memoryLeft l m call) c a
+      ≡ against n (answerTo l call ∷ played (bytesAfter l call) (memoryLeft l m call) (content (past (6 + s) c))) (content a)
+  whole-at held {k} {q} {s} e true h =
+      let call : Call = callAt k q s m (c .held) in
+      let r : List ℕ = answerTo l call in
+      let long : length r ≤ length (a .held) = starts-long r (a .held) h in
+      let p : cost (past (6 + s) c) + (6 + s) ≡ cost c = past-cost c (6 + s) (whole-held (c .held) (c .ended) e .1) in
+      let o : cost (past (length r) a) + length r ≡ cost a = past-cost a (length r) long in
+      later (suc n) (bytesAfter l call) (memoryLeft l m call) (past (6 + s) c) (past (length r) a) lc la (omega arith)
+      ∙ ap (against (suc n) (played (bytesAfter l call) (memoryLeft l m call) (content (past (6 + s) c)))) (sym (past-content a (length r) long))
+      ∙ same-at t n l m c a la held r (played (bytesAfter l call) (memoryLeft l m call) (content (past (6 + s) c))) (answer-most l call) h
+  whole-at held {k} {q} {s} e false h =
+      let call : Call = callAt k q s m (c .held) in
+      other-at t n l m c a la held (answerTo l call) (played (bytesAfter l call) (memoryLeft l m call) (content (past (6 + s) c))) (answer-most l call) h
+
+  step-at : Enough a → (x : Step) → stepOf (c .held) (c .ended) ≡ x → auditAt t n l m c a true x ≡ against n (played l m (content c)) (content a)
+  step-at held (Step.Whole k q s) e =
+      whole-at held e (starts (answerTo l (callAt k q s m (c .held))) (a .held)) refl
+      ∙ ap (λ (rs : List (List ℕ)). against n rs (content a)) (sym (played-whole l m c lc e))
+  step-at held Step.Fault e =
+      fault-at t n l m c a la held (starts badRecord (a .held)) refl
+      ∙ ap (λ (rs : List (List ℕ)). against n rs (content a)) (sym (played-known l m c lc Step.Fault e refl))
+  step-at held Step.End e =
+      closing-against (audits t) n l m c a la held 0 0 (length (a .held)) (omega arith) (omega arith)
+      ∙ ap₂ (λ (j : ℕ) (rs : List (List ℕ)). against j rs (content a)) (add-zero n) (sym (played-known l m c lc Step.End e refl))
+  step-at held Step.More e = wants-calls (more-wanting (c .held) (c .ended) e .1)
+
+  turn-same : (b : Bool) → (a .ended || leb 135 (length (a .held))) ≡ b → audits (suc t) n l m c a ≡ against n (played l m (content c)) (content a)
+  turn-same true e = turn-at t n l m c a true (stepOf (c .held) (c .ended)) e refl ∙ step-at (enough (a .ended) (length (a .held)) e) (stepOf (c .held) (c .ended)) refl
+  turn-same false e = turn-at t n l m c a false (stepOf (c .held) (c .ended)) e refl ∙ wants-answers (not-ended (a .ended) e)
+    where
+      not-ended : (x : Bool) → (x || leb 135 (length (a .held))) ≡ false → x ≡ false
+      not-ended true h = h
+      not-ended false h = refl
+
+audits-against : (t : ℕ) → Judges t
+audits-against zero n l m c a lc la few = absurd (let h = cost-least c in omega arith)
+audits-against (suc t) n l m c a lc la few = turn-same t (audits-against t) n l m c a lc la few (a .ended || leb 135 (length (a .held))) refl
+
+pub audits-however-cut : AuditsHoweverCut
+unfolding AuditsHoweverCut verdict records
+audits-however-cut memory ps qs =
+    audits-against (turnsFor ps + turnsFor qs) 0 _ _ (unread ps) (unread qs) (λ e. absurd (true≢false (sym e))) (λ e. absurd (true≢false (sym e))) (omega arith)
