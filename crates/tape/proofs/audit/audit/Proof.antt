@@ -7,9 +7,6 @@ use Rattle.tape.proofs.FoundLaws.{found-held, found-wants}
 use borrow.Author.Needs.{needs}
 use Rattle.tape.proofs.audit.audit.Statement.{statement}
 use Rattle.tape.proofs.audit.audit.Tie as tie
-use Rattle.tape.proofs.audit.audit.Reads as reads
-use Rattle.tape.proofs.audit.audit.Lts as lts
-use Rattle.tape.proofs.audit.judge.Reads as judge-reads
 
 judge-requires : tie.Need-judge-requires
 judge-requires c κs = search needs
