@@ -17,7 +17,7 @@ fn starts(due: &[u8], given: &[u8]) -> bool
     ensures { λ r. ⌜ r ≡ Audit·starts (now (due .entry)) (now (given .entry)) ⌝ }
 {
     if given.len() < due.len() {
-        return false;
+        return false; // bytes are missing
     }
     let mut i = 0;
     while i < due.len() {

@@ -1,7 +1,8 @@
-//! Writes the replay tapes with the answers that the reference gives, or checks that the folder holds exactly these.
+//! Writes the replay tapes with the answers that the reference gives, or checks that the folder holds exactly these. AUDIT is the folder of
+//! the audit program, which the gate runs over one of the tapes.
 //!
-//! usage: make_tapes FOLDER
-//!        make_tapes --check FOLDER
+//! usage: make_tapes FOLDER AUDIT
+//!        make_tapes --check FOLDER AUDIT
 
 mod coverage;
 mod mixed;
@@ -11,17 +12,17 @@ use reference::replay::replay;
 use std::collections::BTreeMap;
 use std::fs;
 use std::io;
-use std::path::Path;
+use std::path::{Path, PathBuf};
 use std::process::ExitCode;
 
 fn main() -> ExitCode {
     let words: Vec<String> = std::env::args().skip(1).collect();
     let words: Vec<&str> = words.iter().map(String::as_str).collect();
-    let (check, folder) = match words[..] {
-        ["--check", folder] => (true, Path::new(folder)),
-        [folder] => (false, Path::new(folder)),
+    let (check, folder, audit) = match words[..] {
+        ["--check", folder, audit] => (true, Path::new(folder), Path::new(audit)),
+        [folder, audit] => (false, Path::new(folder), Path::new(audit)),
         _ => {
-            eprintln!("usage: make_tapes [--check] FOLDER");
+            eprintln!("usage: make_tapes [--check] FOLDER AUDIT");
             return ExitCode::from(2);
         }
     };
@@ -31,7 +32,7 @@ fn main() -> ExitCode {
         coverage.count(tape, output);
     }
     let missing = coverage.report();
-    let differing = if check { differing_files(folder, &tapes) } else { write_files(folder, &tapes) };
+    let differing = if check { differing_files(folder, audit, &tapes) } else { write_files(folder, audit, &tapes) };
     match differing {
         Ok(0) if missing == 0 => {
             println!("{} tapes {}", tapes.len(), if check { "as generated" } else { "written" });
@@ -56,8 +57,23 @@ fn tapes() -> BTreeMap<String, (Vec<u8>, Vec<u8>)> {
 
 type Tapes = BTreeMap<String, (Vec<u8>, Vec<u8>)>;
 
-fn write_files(folder: &Path, tapes: &Tapes) -> io::Result<usize> {
+/// What the gate runs the audit program on, and what it must print: a tape that is longer than what the program holds of one, with its answers.
+fn audit_files(audit: &Path, tapes: &Tapes) -> [(PathBuf, Vec<u8>); 3] {
+    let (calls, answers) = &tapes["mixed-1"];
+    let data = audit.join("data");
+    [
+        (data.join("calls.tape"), calls.clone()),
+        (data.join("answers.tape"), answers.clone()),
+        (audit.join("stdout"), b"agrees\n".to_vec()),
+    ]
+}
+
+fn write_files(folder: &Path, audit: &Path, tapes: &Tapes) -> io::Result<usize> {
     fs::create_dir_all(folder)?;
+    fs::create_dir_all(audit.join("data"))?;
+    for (file, bytes) in audit_files(audit, tapes) {
+        fs::write(file, bytes)?;
+    }
     for (name, (tape, output)) in tapes {
         fs::write(folder.join(format!("{name}.tape")), tape)?;
         fs::write(folder.join(format!("{name}.out")), output)?;
@@ -66,7 +82,7 @@ fn write_files(folder: &Path, tapes: &Tapes) -> io::Result<usize> {
 }
 
 /// How many files are missing, differ or are too many.
-fn differing_files(folder: &Path, tapes: &Tapes) -> io::Result<usize> {
+fn differing_files(folder: &Path, audit: &Path, tapes: &Tapes) -> io::Result<usize> {
     let mut differing = 0;
     let mut say = |name: &str| {
         println!("DIFFERS {name}");
@@ -77,6 +93,11 @@ fn differing_files(folder: &Path, tapes: &Tapes) -> io::Result<usize> {
             if fs::read(folder.join(&file)).ok().as_ref() != Some(bytes) {
                 say(&file);
             }
+        }
+    }
+    for (file, bytes) in audit_files(audit, tapes) {
+        if fs::read(&file).ok() != Some(bytes) {
+            say(&file.display().to_string());
         }
     }
     for entry in fs::read_dir(folder)? {
