@@ -19,7 +19,8 @@ use Rattle.tape.specs.Pieces.{turned, Input, unread, next, past, turnsFo
 use Rattle.tape.specs.Audit.{Verdict, starts, against, verdict, closing, Finding, findingBy, auditBy, audits, AuditsHoweverCut}
 use Rattle.tape.proofs.BoundLaws.{answer-most}
 use Rattle.tape.proofs.StepLaws.{whole-held, more-wanting}
-use Rattle.tape.proofs.PieceLaws.{content, Lawful, cost, cost-least, none-left, next-content, next-lawful, next-cost, past-content, past-cost, played-known, played-whole}
+use Rattle.tape.proofs.PieceLaws.{content, Lawful, cost, cost-least, none-left, next-content, next-lawful, next-cost, past-content, past-cost}
+use Rattle.tape.proofs.PieceLaws.{played-known, played-whole}
 use Rattle.tape.proofs.StartLaws.{starts-long, starts-further}
 use Rattle.tape.proofs.VerdictLaws.{against-same, against-other}
 
@@ -105,7 +106,8 @@ module _ (t n : ℕ) (l m : List ℕ) (c a : Input) where
 -- ---- all turns
 
 abbrev Judges : (turns : ℕ) → Type 0
-Judges t = (n : ℕ) (l m : List ℕ) (c a : Input) → Lawful c → Lawful a → cost c + cost a ≤ t → audits t n l m c a ≡ against n (played l m (content c)) (content a)
+Judges t = (n : ℕ) (l m : List ℕ) (c a : Input) → Lawful c → Lawful a → cost c + cost a ≤ t
+    → audits t n l m c a ≡ against n (played l m (content c)) (content a)
 
 module _ (t : ℕ) (later : Judges t) (n : ℕ) (l m : List ℕ) (c a : Input) (lc : Lawful c) (la : Lawful a) (few : cost c + cost a ≤ suc t) where
   wants-answers : a .ended ≡ false → audits t n l m c (next a) ≡ against n (played l m (content c)) (content a)
@@ -148,7 +150,9 @@ module _ (t : ℕ) (later : Judges t) (n : ℕ) (l m : List ℕ) (c a : Input) (
   step-at held Step.More e = wants-calls (more-wanting (c .held) (c .ended) e .1)
 
   turn-same : (b : Bool) → (a .ended || leb 135 (length (a .held))) ≡ b → audits (suc t) n l m c a ≡ against n (played l m (content c)) (content a)
-  turn-same true e = turn-at t n l m c a true (stepOf (c .held) (c .ended)) e refl ∙ step-at (enough (a .ended) (length (a .held)) e) (stepOf (c .held) (c .ended)) refl
+  turn-same true e =
+      turn-at t n l m c a true (stepOf (c .held) (c .ended)) e refl
+      ∙ step-at (enough (a .ended) (length (a .held)) e) (stepOf (c .held) (c .ended)) refl
   turn-same false e = turn-at t n l m c a false (stepOf (c .held) (c .ended)) e refl ∙ wants-answers (not-ended (a .ended) e)
     where
       not-ended : (x : Bool) → (x || leb 135 (length (a .held))) ≡ false → x ≡ false

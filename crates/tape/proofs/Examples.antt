@@ -1,5 +1,5 @@
--- Document 01's whole case, the ends of a tape, and the edges of a header, computed. Assumes nothing.
-use mathlib.Core.Path.{_≡_, refl, ap}
+-- Document 01's whole case, the ends of a tape, the edges of a header, and verdicts, computed. Assumes nothing.
+use mathlib.Core.Path.{_≡_, refl, sym, ap}
 use mathlib.Core.Bool.{true}
 use mathlib.Core.List.{List, [], _∷_, _++_, flatten}
 use Prim.Native.Nat.{ℕ}
@@ -19,7 +19,9 @@ use Rattle.rules.specs.Call.{Call}
 use Rattle.rules.specs.Calls.{checks, controlChecks, statusOf, bufferAfter}
 use Rattle.rules.specs.Control.{commandChecks, commandAck}
 use Rattle.tape.specs.declared.Header.the-variants.{Record, Bad, Cut}
-use Rattle.tape.specs.Tape.{headerOf, stepOf, answerRecord, answerTo, play, records, tapeAck, tapeMemory, output}
+use Rattle.tape.specs.Tape.{headerOf, stepOf, answerRecord, answerTo, play, records, tapeAck, tapeMemory, badRecord, output}
+use Rattle.tape.specs.Audit.{Verdict, starts, against, verdict}
+use Rattle.tape.proofs.VerdictLaws.{agrees-output}
 
 -- 52 4B 01 00 02 00 06 04
 abbrev wholeCase : List ℕ
@@ -49,3 +51,15 @@ header-edges = (refl, refl, refl, refl, refl, refl, refl, refl)
 pub empty-tape : output [] ≡ []
 unfolding output records play flatten
 empty-tape = refl
+
+-- ---- verdicts
+
+pub whole-case-agrees : verdict tapeMemory wholeCase (114 ∷ 107 ∷ 0 ∷ 0 ∷ 5 ∷ 0 ∷ 0 ∷ 0 ∷ 0 ∷ 0 ∷ 0 ∷ []) ≡ Verdict.agrees
+whole-case-agrees = agrees-output wholeCase _ .1 (sym whole-case)
+
+-- no calls: no answer is due, and a byte is record 0; a bad record: its answer is record 0, and a byte behind it record 1
+pub verdict-edges : (verdict tapeMemory [] [] ≡ Verdict.agrees) × (verdict tapeMemory [] (0 ∷ []) ≡ Verdict.differs 0)
+    × (verdict tapeMemory (0 ∷ []) badRecord ≡ Verdict.agrees) × (verdict tapeMemory (0 ∷ []) [] ≡ Verdict.differs 0)
+    × (verdict tapeMemory (0 ∷ []) (114 ∷ 107 ∷ 14 ∷ []) ≡ Verdict.differs 0) × (verdict tapeMemory (0 ∷ []) (badRecord ++ (0 ∷ [])) ≡ Verdict.differs 1)
+unfolding verdict against starts records play stepOf headerOf
+verdict-edges = (refl, refl, refl, refl, refl, refl)

@@ -34,13 +34,15 @@ module _ {out : List ℕ} {r : Turn} {l′ m′ out′ : List ℕ} (g : List ℕ
       let ew : w ≡ length b = cc in
       let f : take w out′ ≡ b = ap (λ (j : ℕ). take j out′) ew ∙ written b out out′ (t .bytes) in
       finds l m (turned (Step.Whole k n s) l m i) t g q
-      (p ∙ ap (λ (y : List ℕ). cond (starts y g) (Found.Same u (length y)) (Found.Differs 0)) f ∙ ap (λ (y : ℕ). cond (starts b g) (Found.Same y (length b)) (Found.Differs 0)) eu)
+      (p ∙ ap (λ (y : List ℕ). cond (starts y g) (Found.Same u (length y)) (Found.Differs 0)) f
+      ∙ ap (λ (y : ℕ). cond (starts b g) (Found.Same y (length b)) (Found.Differs 0)) eu)
   found-answered Step.Fault l m i t e p = absurd (let says : r ≡ Turn.Fault = t .says in let z : _≡_ {A = ℕ} 0 1 = cc in omega arith)
   found-answered Step.End l m i t e p = absurd (let says : r ≡ Turn.End = t .says in let z : _≡_ {A = ℕ} 0 1 = cc in omega arith)
   found-answered Step.More l m i t e p = absurd (let says : r ≡ Turn.More = t .says in let z : _≡_ {A = ℕ} 0 1 = cc in omega arith)
 
   pub found-fault : (x : Step) (l m i : List ℕ) → Leaves (turned x l m i) out r l′ m′ out′ → r ≡ Turn.Fault
-      → q ≡ cond (starts (take 6 out′) g) (closing 1 (length g - length (take 6 out′))) (Found.Differs 0) → Finds (findingBy true l m (turned x l m i) g) q l′ m′
+      → q ≡ cond (starts (take 6 out′) g) (closing 1 (length g - length (take 6 out′))) (Found.Differs 0)
+      → Finds (findingBy true l m (turned x l m i) g) q l′ m′
   found-fault (Step.Whole k n s) l m i t e p =
       absurd (let says : r ≡ Turn.Answered (6 + s) (length (answerTo l (callAt k n s m i))) = t .says in let z : _≡_ {A = ℕ} 0 1 = cc in omega arith)
   found-fault Step.Fault l m i t e p =
@@ -66,7 +68,8 @@ module _ (l m i : List ℕ) (e : Bool) (g : List ℕ) (f : Bool) where
 
   pub found-wants : (f || leb 135 (length g)) ≡ false → Finds (findingOf l m i e g f) Found.Answers l m
   found-wants h =
-      subst (λ (b : Bool). Finds (findingBy b l m (turned (stepOf i e) l m i) g) Found.Answers l m) (sym h) (record { found = refl; state = refl; memory = refl })
+      subst (λ (b : Bool). Finds (findingBy b l m (turned (stepOf i e) l m i) g) Found.Answers l m) (sym h)
+      (record { found = refl; state = refl; memory = refl })
 
 -- ---- bytes used are among those held
 

@@ -83,7 +83,8 @@ first-from n k [] [] e = absurd (let z : _≡_ {A = ℕ} 0 1 = cc in omega arith
 first-from n k [] (b ∷ g) e = here n k [] (b ∷ g) e (λ w. let z : _≡_ {A = ℕ} 0 1 = cc in omega arith)
 first-from n k (r ∷ rs) g e = by (starts r g) refl (first-from (suc n) k rs (drop (length r) g))
   where
-    by : (b : Bool) → starts r g ≡ b → (against (suc n) rs (drop (length r) g) ≡ Verdict.differs k → From (suc n) k rs (drop (length r) g)) → From n k (r ∷ rs) g
+    by : (b : Bool) → starts r g ≡ b → (against (suc n) rs (drop (length r) g) ≡ Verdict.differs k → From (suc n) k rs (drop (length r) g))
+        → From n k (r ∷ rs) g
     by true h later = further n k r rs g h (later (sym (against-same n r rs g h) ∙ e))
     by false h later = here n k (r ∷ rs) g (sym (against-other n r rs g h) ∙ e) h
 

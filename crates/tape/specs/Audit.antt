@@ -70,7 +70,7 @@ mostAnswer = 135
 abbrev pub closing : (later left : ℕ) → Found
 closing later left = cond (eqb left 0) Found.Agrees (Found.Differs later)
 
--- a turn on the calls that answers by those bytes, and the answers held: "the answer to a bad record" is one, and nothing is due after it
+-- a turn on the calls that answers by those bytes, and the answers held; the answer to a bad record is a record, and nothing is due after it
 abbrev pub foundBy : Turn → (bytes given : List ℕ) → Found
 foundBy (Turn.Answered u w) r g = cond (starts r g) (Found.Same u w) (Found.Differs 0)
 foundBy Turn.Fault r g = cond (starts r g) (closing 1 (length g - length r)) (Found.Differs 0)
@@ -100,7 +100,8 @@ pub record Finds (x : Finding) (r : Found) (l′ m′ : List ℕ) : Type 0 where
 -- ---- the program
 
 -- Its verdict from a turn on that found x, n records in; `more` gives that of the turns after it.
-abbrev pub auditBy : (more : (n : ℕ) → (l m : List ℕ) → (calls answers : Input) → Verdict) → (n : ℕ) → Found → (l m : List ℕ) → (calls answers : Input) → Verdict
+abbrev pub auditBy : (more : (n : ℕ) → (l m : List ℕ) → (calls answers : Input) → Verdict) → (n : ℕ) → Found → (l m : List ℕ)
+    → (calls answers : Input) → Verdict
 auditBy more n Found.Calls l m c a = more n l m (next c) a
 auditBy more n Found.Answers l m c a = more n l m c (next a)
 auditBy more n (Found.Same u w) l m c a = more (suc n) l m (past u c) (past w a)

@@ -33,9 +33,10 @@ same-length-2 c = search needs
 
 returns : tie.Need-returns
 returns c =
-    let a = c .before .before .before .before .before .before .before .before .before .before .before .before .before .before .before .args in
+    let e = c .before .before .before .before .before .before .before .before .before .before .before .before .before .before .before in
+    let a = e .args in
     let f = c .before .before .before .before .audit .ensures in
-    (f, finds-used (now (a .state)) (now (a .memory)) (now (a .calls)) (now (a .answers)) (a .place) (c .before .before .before .before .before .before .before .before .before .before .before .before .before .before .before .pre) f)
+    (f, finds-used (now (a .state)) (now (a .memory)) (now (a .calls)) (now (a .answers)) (a .place) (e .pre) f)
 
 pub find-spec : {M : Type 1} → statement M
 find-spec =

@@ -50,8 +50,9 @@ loop-less c = search needs
 
 loop-again : tie.Need-loop-again Inv-loop μ-loop
 loop-again c =
-    let i = c .before .before .before .before .before .before .before .before .before .before .before .before .before .before .before .before .before .loop .inv .5 in
-    let g = rw (c .before .next .given .1) at (c .before .before .before .before .before .before .before .before .before .before .before .turn .ensures .1) in
+    let d = c .before .before .before .before .before .before .before .before .before .before .before in
+    let i = d .before .before .before .before .before .before .loop .inv .5 in
+    let g = rw (c .before .next .given .1) at (d .turn .ensures .1) in
     (search needs, search needs, search needs, search needs, g .0, let n = g .1 in omega arith)
 
 same-length-5 : tie.Need-same-length-5 Inv-loop μ-loop

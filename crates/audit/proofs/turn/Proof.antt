@@ -25,9 +25,13 @@ enum-known-used c = search needs
 
 pass-requires : tie.Need-pass-requires
 pass-requires c κs =
-    let e = c .before .before .before .before .before .before .before .before .before .before .before .before .before .before .before .before .before .before in
-    let a = e .args in
-    (used-same (now (a .state)) (now (a .memory)) (now (a .calls)) (now (a .answers)) (a .place) (e .pre .0) (c .before .before .before .before .before .before .before .find .ensures .0) (c .before .used .given .1), e .pre .1)
+    let d = c .before .before .before .before .before .before .before in
+    let e = d .before .before .before .before .before .before .before .before .before .before .before in
+    let a = e .args in (
+      used-same (now (a .state)) (now (a .memory)) (now (a .calls)) (now (a .answers)) (a .place) (e .pre .0)
+          (d .find .ensures .0) (c .before .used .given .1),
+      e .pre .1,
+    )
 
 enum-told-3 : tie.Need-enum-told-3
 enum-told-3 c = search needs
@@ -37,9 +41,11 @@ enum-known-later c = search needs
 
 add-t33 : tie.Need-add-t33
 add-t33 c =
-    let e = c .before .before .before .before .before .before .before .before .before .before .before .before .before .before .before .before .before .before in
+    let d = c .before .before .before .before .before .before .before in
+    let e = d .before .before .before .before .before .before .before .before .before .before .before in
     let a = e .args in
-    let k = later-most (now (a .state)) (now (a .memory)) (now (a .calls)) (now (a .answers)) (a .place) (e .pre .0) (c .before .before .before .before .before .before .before .find .ensures .0) (c .before .later .given .1) in
+    let k = later-most (now (a .state)) (now (a .memory)) (now (a .calls)) (now (a .answers)) (a .place) (e .pre .0)
+    (d .find .ensures .0) (c .before .later .given .1) in
     omega arith
 
 same-length : tie.Need-same-length
@@ -56,9 +62,12 @@ same-length-4 c = search needs
 
 returns : tie.Need-returns
 returns c =
-    let e = c .before .before .before .before .before .before .before .before .before .before .before .before .before .before .before .before .before .before .before .before .before .before in
+    let d = c .before .before .before .before .before .before .before .before .before .before .before in
+    let e = d .before .before .before .before .before .before .before .before .before .before .before in
     let a = e .args in
-    does-calls (now (a .state)) (now (a .memory)) (now (a .calls)) (now (a .answers)) (a .place) (e .pre .0) (c .before .before .before .before .before .before .before .before .before .before .before .find .ensures .0) (c .before .before .before .before .before .enum-told .given .1) (c .before .before .more .result) (c .before .before .more .ensures)
+    does-calls (now (a .state)) (now (a .memory)) (now (a .calls)) (now (a .answers)) (a .place) (e .pre .0)
+    (d .find .ensures .0) (c .before .before .before .before .before .enum-told .given .1)
+    (c .before .before .more .result) (c .before .before .more .ensures)
 
 same-length-5 : tie.Need-same-length-5
 same-length-5 c = search needs
@@ -74,9 +83,12 @@ same-length-8 c = search needs
 
 returns-2 : tie.Need-returns-2
 returns-2 c =
-    let e = c .before .before .before .before .before .before .before .before .before .before .before .before .before .before .before .before .before .before .before .before .before .before in
+    let d = c .before .before .before .before .before .before .before .before .before .before .before in
+    let e = d .before .before .before .before .before .before .before .before .before .before .before in
     let a = e .args in
-    does-answers (now (a .state)) (now (a .memory)) (now (a .calls)) (now (a .answers)) (a .place) (e .pre .0) (c .before .before .before .before .before .before .before .before .before .before .before .find .ensures .0) (c .before .before .before .before .before .enum-told2 .given .1) (c .before .before .more2 .result) (c .before .before .more2 .ensures)
+    does-answers (now (a .state)) (now (a .memory)) (now (a .calls)) (now (a .answers)) (a .place) (e .pre .0)
+    (d .find .ensures .0) (c .before .before .before .before .before .enum-told2 .given .1)
+    (c .before .before .more2 .result) (c .before .before .more2 .ensures)
 
 same-length-9 : tie.Need-same-length-9
 same-length-9 c = search needs
@@ -92,9 +104,11 @@ same-length-12 c = search needs
 
 returns-3 : tie.Need-returns-3
 returns-3 c =
-    let e = c .before .before .before .before .before .before .before .before .before .before .before .before .before .before .before .before .before .before .before in
+    let d = c .before .before .before .before .before .before .before .before in
+    let e = d .before .before .before .before .before .before .before .before .before .before .before in
     let a = e .args in
-    does-same (now (a .state)) (now (a .memory)) (now (a .calls)) (now (a .answers)) (a .place) (e .pre .0) (c .before .before .before .before .before .before .before .before .find .ensures .0) (c .before .before .used .given .1) (c .pass .ensures)
+    does-same (now (a .state)) (now (a .memory)) (now (a .calls)) (now (a .answers)) (a .place) (e .pre .0)
+    (d .find .ensures .0) (c .before .before .used .given .1) (c .pass .ensures)
 
 same-length-13 : tie.Need-same-length-13
 same-length-13 c = search needs
@@ -110,9 +124,11 @@ same-length-16 c = search needs
 
 returns-4 : tie.Need-returns-4
 returns-4 c =
-    let e = c .before .before .before .before .before .before .before .before .before .before .before .before .before .before .before .before .before in
+    let d = c .before .before .before .before .before .before in
+    let e = d .before .before .before .before .before .before .before .before .before .before .before in
     let a = e .args in
-    does-agrees (now (a .state)) (now (a .memory)) (now (a .calls)) (now (a .answers)) (a .place) (e .pre .0) (c .before .before .before .before .before .before .find .ensures .0) (c .enum-told3 .given .1)
+    does-agrees (now (a .state)) (now (a .memory)) (now (a .calls)) (now (a .answers)) (a .place) (e .pre .0)
+    (d .find .ensures .0) (c .enum-told3 .given .1)
 
 same-length-17 : tie.Need-same-length-17
 same-length-17 c = search needs
@@ -128,9 +144,11 @@ same-length-20 c = search needs
 
 returns-5 : tie.Need-returns-5
 returns-5 c =
-    let e = c .before .before .before .before .before .before .before .before .before .before .before .before .before .before .before .before .before .before in
+    let d = c .before .before .before .before .before .before .before in
+    let e = d .before .before .before .before .before .before .before .before .before .before .before in
     let a = e .args in
-    does-differs (now (a .state)) (now (a .memory)) (now (a .calls)) (now (a .answers)) (a .place) (e .pre .0) (c .before .before .before .before .before .before .before .find .ensures .0) (c .before .later .given .1)
+    does-differs (now (a .state)) (now (a .memory)) (now (a .calls)) (now (a .answers)) (a .place) (e .pre .0)
+    (d .find .ensures .0) (c .before .later .given .1)
 
 pub turn-spec : {M : Type 1} → statement M
 turn-spec =

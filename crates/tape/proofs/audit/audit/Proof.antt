@@ -21,7 +21,8 @@ returns : tie.Need-returns
 returns c =
     let a = c .before .before .before .before .before .before .before .before .before .before .before .before .args in
     let h : (a .answers-ended || leb 135 (length (now (a .answers)))) ≡ true = cc in
-    found-held (now (a .state)) (now (a .memory)) (now (a .calls)) (a .calls-ended) (now (a .answers)) (a .answers-ended) h (c .before .before .before .before .judge .ensures)
+    found-held (now (a .state)) (now (a .memory)) (now (a .calls)) (a .calls-ended) (now (a .answers)) (a .answers-ended) h
+    (c .before .before .before .before .judge .ensures)
 
 returns-2 : tie.Need-returns-2
 returns-2 c =

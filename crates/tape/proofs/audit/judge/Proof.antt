@@ -21,7 +21,8 @@ room c =
 within : (c : tie.After-used) → c .used .given .0 .1 .0 ≤ 135
 within c =
     let a = c .before .before .before .before .before .before .before .before .before .before .before .before .before .before .args in
-    answered-within (now (a .calls)) (a .ended) (now (a .state)) (now (a .memory)) (sym (c .before .before .before .before .before .before .turn .ensures .says) ∙ c .used .given .1) .1
+    answered-within (now (a .calls)) (a .ended) (now (a .state)) (now (a .memory))
+    (sym (c .before .before .before .before .before .before .turn .ensures .says) ∙ c .used .given .1) .1
 
 turn-requires : tie.Need-turn-requires
 turn-requires c κs = search needs
@@ -33,7 +34,10 @@ array-share-prefix-out : tie.Need-array-share-prefix-out
 array-share-prefix-out c = let r = room (c .before .before .before .before .before .before .before) in let w = within (c .before) in omega arith
 
 slice-aggregate-judge-answer : tie.Need-slice-aggregate-judge-answer
-slice-aggregate-judge-answer c = let r = room (c .before .before .before .before .before .before .before .before) in let w = within (c .before .before) in simp length-take (omega arith)
+slice-aggregate-judge-answer c =
+    let r = room (c .before .before .before .before .before .before .before .before) in
+    let w = within (c .before .before) in
+    simp length-take (omega arith)
 
 judge-answer-requires : tie.Need-judge-answer-requires
 judge-answer-requires c κs = search needs
@@ -69,7 +73,8 @@ returns : tie.Need-returns
 returns c =
     let d = c .before .before .before .before .before .before .before .before .before in
     let a = d .before .before .before .before .before .before .before .before .args in
-    found-answered (now (a .given)) (c .judge-answer .result) (stepOf (now (a .calls)) (a .ended)) (now (a .state)) (now (a .memory)) (now (a .calls)) (d .turn .ensures) (c .before .before .before .used .given .1) (c .judge-answer .ensures)
+    found-answered (now (a .given)) (c .judge-answer .result) (stepOf (now (a .calls)) (a .ended)) (now (a .state)) (now (a .memory)) (now (a .calls))
+    (d .turn .ensures) (c .before .before .before .used .given .1) (c .judge-answer .ensures)
 
 same-length-3 : tie.Need-same-length-3
 same-length-3 c = search needs
@@ -81,7 +86,8 @@ returns-2 : tie.Need-returns-2
 returns-2 c =
     let d = c .before .before .before .before .before .before .before .before in
     let a = d .before .before .before .before .before .before .before .before .args in
-    found-fault (now (a .given)) (c .judge-fault .result) (stepOf (now (a .calls)) (a .ended)) (now (a .state)) (now (a .memory)) (now (a .calls)) (d .turn .ensures) (c .before .before .enum-told .given .1) (c .judge-fault .ensures)
+    found-fault (now (a .given)) (c .judge-fault .result) (stepOf (now (a .calls)) (a .ended)) (now (a .state)) (now (a .memory)) (now (a .calls))
+    (d .turn .ensures) (c .before .before .enum-told .given .1) (c .judge-fault .ensures)
 
 same-length-5 : tie.Need-same-length-5
 same-length-5 c = search needs
@@ -93,7 +99,8 @@ returns-3 : tie.Need-returns-3
 returns-3 c =
     let d = c .before .before .before .before .before .before .before in
     let a = d .before .before .before .before .before .before .before .before .args in
-    found-end (now (a .given)) (c .closing .result) (stepOf (now (a .calls)) (a .ended)) (now (a .state)) (now (a .memory)) (now (a .calls)) (d .turn .ensures) (c .before .enum-told2 .given .1) (c .closing .ensures)
+    found-end (now (a .given)) (c .closing .result) (stepOf (now (a .calls)) (a .ended)) (now (a .state)) (now (a .memory)) (now (a .calls))
+    (d .turn .ensures) (c .before .enum-told2 .given .1) (c .closing .ensures)
 
 same-length-7 : tie.Need-same-length-7
 same-length-7 c = search needs
@@ -105,7 +112,8 @@ returns-4 : tie.Need-returns-4
 returns-4 c =
     let d = c .before .before .before .before .before .before in
     let a = d .before .before .before .before .before .before .before .before .args in
-    found-more (now (a .given)) Found.Calls (stepOf (now (a .calls)) (a .ended)) (now (a .state)) (now (a .memory)) (now (a .calls)) (d .turn .ensures) (c .enum-told3 .given .1) refl
+    found-more (now (a .given)) Found.Calls (stepOf (now (a .calls)) (a .ended)) (now (a .state)) (now (a .memory)) (now (a .calls))
+    (d .turn .ensures) (c .enum-told3 .given .1) refl
 
 pub judge-spec : {M : Type 1} → statement M
 judge-spec =
