@@ -90,7 +90,7 @@ enum {
 
 /* Query device has no data. What the card is, by 001's names, which are those of ibv_device_attr; its reserved bytes are written as 0 and not
  * read. The card says of itself: no flags; max_mr_size the memory's length; page_size_cap 4096; hw_ver 1; max_qp_wr 4, max_send_sge 4,
- * max_recv_sge 2, max_sge_rd 4, max_cqe 16, max_mr 32, max_pd 8, max_qp_rd_atom 1, max_qp_init_rd_atom 1, max_ah 0; no delay. */
+ * max_recv_sge 2, max_sge_rd 4, max_cqe 16, max_mr 256, max_pd 8, max_qp_rd_atom 1, max_qp_init_rd_atom 1, max_ah 0; no delay. */
 struct lesungkap_query_device_ack {
     uint64_t device_cap_flags;
     uint64_t max_mr_size;

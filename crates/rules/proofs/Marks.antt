@@ -1,98 +1,155 @@
 -- P1 to P11 hold. Assumes nothing.
-use mathlib.Core.Path.{_≡_, refl, ap, ap₂, fun-ext, _∙_}
-use mathlib.Core.Bool.{true}
+use mathlib.Core.Path.{_≡_, refl, sym, ap, ap₂, fun-ext, _∙_}
+use mathlib.Core.Bool.{true, false, cond, not}
 use mathlib.Core.List.{List, [], _∷_, _++_}
 use mathlib.Core.Option.{none}
-use Prim.Native.Nat.{ℕ, zero, suc, _+_, _≤_, _<_}
+use Prim.Native.Nat.{ℕ, zero, suc, _+_, _-_, _≤_, _<_}
+use native.Mathlib.Decide.{decLe}
 use native.Mathlib.Omega.{arith}
 use lib.ListN.{drop}
-use borrow.Author.Tests.{lt-leb}
+use lib.Dec.{eqb, ltb}
+use borrow.Author.Tests.{lt-leb, lt-ltb, le-ltb, eqb-false, ne-eqb}
 use Rattle.wire.specs.Checks.{refusal}
 use Rattle.wire.specs.Scan.{lowest, lowestFrom, anyBelow, all}
 use Rattle.wire.specs.Slots.{upd}
-use Rattle.wire.proofs.SlotLaws.{split, upd-twice}
-use Rattle.tables.specs.Card.{Card, freeMr, withMr}
+use Rattle.wire.proofs.SlotLaws.{split, same, upd-twice}
+use Rattle.tables.specs.Card.{Card, Mr, freeMr, withMr}
 use Rattle.tables.specs.Commands.{Command, numbersOf}
+use Rattle.tables.specs.Limits.{mrCount}
 use Rattle.validate.specs.Search.{freeMrn}
 use Rattle.rules.specs.Lists.{All}
+use Rattle.rules.proofs.Free.{lowest-is}
 use Rattle.rules.specs.Touch.{range, byteOf}
 use Rattle.rules.specs.Permit.{keyOf, permits, permitsAll, place, lookup, covers}
 use Rattle.rules.specs.Control.{nextVariant, commandChecks, commandAck, commandEffect}
-use Rattle.rules.specs.Marks.{obeyed, after, region, platform, renewed, registrations, rounds, nearlyFull, Verdict, ask, Question, table, Marks}
+use Rattle.rules.specs.Marks.{obeyed, after, region, platform, renewed, registrations, rounds, nearlyUsed, next, Verdict, ask, Question, table, Marks}
 
--- ---- P9: the slots before 31 are taken, and 31 is free with the variant v
+-- ---- P9: cards that differ from the platform in their regions alone
 
-unfoldable filled : Card
-filled = after platform (registrations 30)
+abbrev regioned : (ℕ → Mr) → Card
+regioned f = withMr platform f
 
-abbrev last : ℕ → Card
-last v = withMr filled (upd (filled .mr) 31 (freeMr v))
+-- a slot that is taken, with the variant v
+abbrev held : ℕ → Mr
+held v = record { live = true; variant = v; reg = region 256 4096 }
 
-last-free : (v : ℕ) → freeMrn (last v) ≡ 31
-unfolding filled platform registrations after commandChecks commandEffect lowest lowestFrom
-last-free v = refl
+domain : platform .pd 0 ≡ true
+unfolding platform after commandChecks commandEffect lowest lowestFrom
+domain = refl
 
-abbrev taken : ℕ → Card
-taken v = withMr filled (upd (filled .mr) 31 (record { live = true; variant = v; reg = region 256 4096 }))
+memory : platform .memory ≡ 4096
+unfolding platform after commandChecks commandEffect lowest lowestFrom
+memory = refl
 
-last-passes : (v : ℕ) → refusal (commandChecks (last v) (Command.register (region 256 4096))) ≡ none
-unfolding filled platform registrations after commandChecks commandEffect lowest lowestFrom
-last-passes v = refl
+module _ (f : ℕ → Mr) (s : ℕ) (inside : s < mrCount) (free : f s .live ≡ false) (least : (k : ℕ) → k < s → f k .live ≡ true) where
+  found : freeMrn (regioned f) ≡ s
+  found = lowest-is mrCount (λ i. not (f i .live)) s inside (rw free) (λ k h. rw (least k h))
 
-taken-after : (v : ℕ) → v < 255 → after (last v) (Command.register (region 256 4096) ∷ []) ≡ taken (v + 1)
-unfolding after commandEffect
-taken-after v h =
-    rw (last-passes v, last-free v, lt-leb 255 v h)
-    (ap (withMr filled) (upd-twice (filled .mr) 31 (freeMr v) (record { live = true; variant = v + 1; reg = region 256 4096 })))
+  passes : refusal (commandChecks (regioned f) (Command.register (region 256 4096))) ≡ none
+  unfolding commandChecks
+  passes = rw (domain, memory, found, lt-leb mrCount s inside)
 
-dropped-after : (v : ℕ) → after (taken v) (Command.deregister 31 ∷ []) ≡ last v
-unfolding after commandChecks commandEffect
-dropped-after v = ap (withMr filled) (upd-twice (filled .mr) 31 (record { live = true; variant = v; reg = region 256 4096 }) (freeMr v))
+  registered : after (regioned f) (Command.register (region 256 4096) ∷ []) ≡ regioned (upd f s (held (nextVariant (f s .variant))))
+  unfolding after commandEffect
+  registered = rw (passes, found)
+
+  acked : numbersOf (commandAck (regioned f) (Command.register (region 256 4096)))
+      ≡ s ∷ keyOf s (nextVariant (f s .variant)) ∷ keyOf s (nextVariant (f s .variant)) ∷ []
+  unfolding commandAck
+  acked = rw found
 
 after-join : (c : Card) (ks js : List Command) → after c (ks ++ js) ≡ after (after c ks) js
 unfolding after
 after-join c [] js = refl
 after-join c (k ∷ ks) js = after-join (obeyed (refusal (commandChecks c k)) c k) ks js
 
--- a round takes the next variant
-next-round : (v : ℕ) → v < 255 → after (last v) (rounds 1) ≡ last (v + 1)
-unfolding rounds
-next-round v h =
-    after-join (last v) (Command.register (region 256 4096) ∷ []) (Command.deregister 31 ∷ [])
-    ∙ ap (λ (c : Card). after c (Command.deregister 31 ∷ [])) (taken-after v h) ∙ dropped-after (v + 1)
+-- ---- the slots before k are taken
 
-all-rounds : (n v : ℕ) → n + v ≤ 254 → after (last v) (rounds n) ≡ last (n + v)
-unfolding after rounds
-all-rounds zero v h = ap last (omega arith)
-all-rounds (suc n) v h =
-    after-join (last v) (rounds 1) (rounds n)
-    ∙ ap (λ (c : Card). after c (rounds n)) (next-round v (omega arith)) ∙ all-rounds n (v + 1) (omega arith) ∙ ap last (omega arith)
+abbrev fills : ℕ → ℕ → Mr
+fills k i = cond (ltb i k) (held 1) (freeMr 0)
 
-never-used : filled .mr 31 ≡ freeMr 0
-unfolding filled platform registrations after commandChecks commandEffect lowest lowestFrom
-never-used = refl
+one-more : (i k : ℕ) → eqb k i ≡ false → ltb i (k + 1) ≡ ltb i k
+one-more i k e =
+    elim (decLe (i + 1) k) [
+      | yes h ↦ lt-ltb i (k + 1) (omega arith) ∙ sym (lt-ltb i k (omega arith))
+      | no h ↦ let n : ¬ (k ≡ i) = eqb-false k i e in le-ltb i (k + 1) (omega arith) ∙ sym (le-ltb i k (omega arith))
+    ]
 
-first : filled ≡ last 0
-first =
-    ap (withMr filled) {x = filled .mr} {y = upd (filled .mr) 31 (freeMr 0)}
-    (fun-ext (split 31 (λ i. filled .mr i ≡ upd (filled .mr) 31 (freeMr 0) i) never-used (λ i e. rw e)))
+fill-one : (k : ℕ) → k < mrCount → after (regioned (fills k)) (Command.register (region 256 4096) ∷ []) ≡ regioned (fills (k + 1))
+fill-one k h =
+    let out : ltb k k ≡ false = le-ltb k k (omega arith) in
+    registered (fills k) k h (rw out) (λ j b. rw (lt-ltb j k b))
+    ∙ ap regioned (fun-ext (split k (λ i. upd (fills k) k (held (nextVariant (fills k k .variant))) i ≡ fills (k + 1) i)
+    (rw (same k, out, lt-ltb k (k + 1) (omega arith)))
+    (λ i e. rw (e, one-more i k e))))
 
-nearly-full : nearlyFull ≡ last 254
-unfolding nearlyFull filled
-nearly-full = ap (λ (c : Card). after c (rounds 254)) first ∙ all-rounds 254 0 (omega arith)
+fill : (n k : ℕ) → n + k ≤ mrCount → after (regioned (fills k)) (registrations n) ≡ regioned (fills (n + k))
+unfolding after registrations
+fill zero k h = ap (λ (x : ℕ). regioned (fills x)) (omega arith)
+fill (suc n) k h =
+    after-join (regioned (fills k)) (Command.register (region 256 4096) ∷ []) (registrations n)
+    ∙ ap (λ (c : Card). after c (registrations n)) (fill-one k (omega arith))
+    ∙ fill n (k + 1) (omega arith) ∙ ap (λ (x : ℕ). regioned (fills x)) (omega arith)
 
--- the ack of the next registration
-last-ack : (v : ℕ) → numbersOf (commandAck (last v) (Command.register (region 256 4096))) ≡ 31 ∷ keyOf 31 (nextVariant v) ∷ keyOf 31 (nextVariant v) ∷ []
-unfolding commandAck
-last-ack v = rw (last-free v)
+platform-fills : platform ≡ regioned (fills 1)
+unfolding platform after commandChecks commandEffect lowest lowestFrom
+platform-fills =
+    ap (withMr platform) {x = platform .mr} {y = fills 1}
+    (fun-ext (split 0 (λ i. platform .mr i ≡ fills 1 i) refl (λ i e. let n : ¬ (0 ≡ i) = eqb-false 0 i e in rw (e, le-ltb i 1 (omega arith)))))
 
-p9 : ask Question.wrapped ≡ Verdict.keys (8191 ∷ 8191 ∷ []) (7937 ∷ 7937 ∷ [])
-unfolding rounds
-p9 =
-    rw nearly-full
-    (ap₂ (λ (x y : List ℕ). Verdict.keys (drop 1 x) (drop 1 y)) (last-ack 254)
-    (ap (λ (c : Card). numbersOf (commandAck c (Command.register (region 256 4096)))) (next-round 254 (omega arith)) ∙ last-ack 255))
+-- ---- all slots but s are taken
+
+module _ (s : ℕ) (inside : s < mrCount) where
+  abbrev used : ℕ → Card
+  used v = regioned (upd (fills mrCount) s (held v))
+
+  abbrev dropped : ℕ → Card
+  dropped v = regioned (upd (fills mrCount) s (freeMr v))
+
+  drops : (v : ℕ) → after (used v) (Command.deregister s ∷ []) ≡ dropped v
+  unfolding after commandChecks commandEffect
+  drops v =
+      let p : refusal (commandChecks (used v) (Command.deregister s)) ≡ none = rw (same s) in
+      rw (p, same s) (ap regioned (upd-twice (fills mrCount) s (held v) (freeMr v)))
+
+  others : (v k : ℕ) → k < s → upd (fills mrCount) s (freeMr v) k .live ≡ true
+  others v k h = let n : ¬ (s ≡ k) = omega arith in rw (ne-eqb s k n, lt-ltb k mrCount (omega arith))
+
+  takes : (v : ℕ) → after (dropped v) (Command.register (region 256 4096) ∷ []) ≡ used (nextVariant v)
+  takes v =
+      registered (upd (fills mrCount) s (freeMr v)) s inside (rw (same s)) (others v)
+      ∙ rw (same s) (ap regioned (upd-twice (fills mrCount) s (freeMr v) (held (nextVariant v))))
+
+  round : (v : ℕ) → after (used v) (rounds s 1) ≡ used (nextVariant v)
+  unfolding rounds
+  round v =
+      after-join (used v) (Command.deregister s ∷ []) (Command.register (region 256 4096) ∷ [])
+      ∙ ap (λ (c : Card). after c (Command.register (region 256 4096) ∷ [])) (drops v) ∙ takes v
+
+  many : (n v : ℕ) → n + v ≤ 255 → after (used v) (rounds s n) ≡ used (n + v)
+  unfolding after rounds
+  many zero v h = ap used (omega arith)
+  many (suc n) v h =
+      after-join (used v) (rounds s 1) (rounds s n)
+      ∙ ap (λ (c : Card). after c (rounds s n)) (round v ∙ rw (lt-leb 255 v (omega arith))) ∙ many n (v + 1) (omega arith) ∙ ap used (omega arith)
+
+  full : after platform (registrations (mrCount - 1)) ≡ used 1
+  full =
+      ap (λ (c : Card). after c (registrations (mrCount - 1))) platform-fills ∙ fill (mrCount - 1) 1 (omega arith)
+      ∙ ap regioned {x = fills mrCount} {y = upd (fills mrCount) s (held 1)}
+      (fun-ext (split s (λ i. fills mrCount i ≡ upd (fills mrCount) s (held 1) i) (rw (same s, lt-ltb s mrCount inside)) (λ i e. rw e)))
+
+  nearly : nearlyUsed s ≡ used 254
+  unfolding nearlyUsed
+  nearly = ap (λ (c : Card). after c (rounds s 253)) full ∙ many 253 1 (omega arith)
+
+  next-keys : (v : ℕ) → next (used v) s ≡ keyOf s (nextVariant v) ∷ keyOf s (nextVariant v) ∷ []
+  next-keys v =
+      rw (drops v, acked (upd (fills mrCount) s (freeMr v)) s inside (rw (same s)) (others v)) (rw (same s))
+
+  p9 : ask (Question.last s) ≡ Verdict.keys (keyOf s 255 ∷ keyOf s 255 ∷ []) (keyOf s 1 ∷ keyOf s 1 ∷ [])
+  p9 = rw (nearly, round 254) (ap₂ Verdict.keys (next-keys 254) (next-keys 255))
 
 pub marks : Marks
 unfolding Marks All all table after platform renewed range byteOf permits permitsAll place lookup covers commandChecks commandAck commandEffect lowest lowestFrom anyBelow
-marks = (refl, (refl, (refl, (refl, (refl, (refl, (refl, (refl, (refl, (p9, (refl, (refl, (refl, (refl, tt))))))))))))))
+marks = (refl, (refl, (refl, (refl, (refl, (refl, (refl, (refl, (refl, (p9 31 (omega arith), (p9 255 (omega arith), (refl, (refl, (refl, (refl, tt)))))))))))))))

@@ -131,12 +131,12 @@ pub deliveries : (moved (request 0 1 (piece 0 4 ∷ [])) noReceive
 unfolding delivered message total ownBytes farBytes range sgeBytes sgeTotal stored
 deliveries = refl
 
--- 02, M-100: what a card reports that was reset to 1,048,576 bytes; "flags 0, largest region the memory length, page size mask 4096, version 1, then in 001's
--- order 4, 4, 2, 4, 16, 32, 8, 1, 1, 0, delay 0, rest zero"
-pub device-reported : bufferAfter (fresh 1048576) (Call.control (6 ∷ 0 ∷ []) (replicate 130 99))
-    ≡ 0 ∷ 0 ∷ 0 ∷ 0 ∷ 0 ∷ 0 ∷ 0 ∷ 0 ∷ 0 ∷ 0 ∷ 0 ∷ 16 ∷ 0 ∷ 0 ∷ 0 ∷ 0 ∷ 0 ∷ 0 ∷ 16 ∷ 0 ∷ 0 ∷ 0 ∷ 0 ∷ 0 ∷ 0 ∷ 1 ∷ 0 ∷ 0 ∷ 0 ∷
+-- 02, M-100: what a card reports that was reset to 16,777,216 bytes; "flags 0, largest region the memory length, page size mask 4096, version 1, then in 001's
+-- order 4, 4, 2, 4, 16, 32, 8, 1, 1, 0, delay 0, rest zero"; M-106: "A query reports 256."
+pub device-reported : bufferAfter (fresh 16777216) (Call.control (6 ∷ 0 ∷ []) (replicate 130 99))
+    ≡ 0 ∷ 0 ∷ 0 ∷ 0 ∷ 0 ∷ 0 ∷ 0 ∷ 0 ∷ 0 ∷ 0 ∷ 0 ∷ 0 ∷ 1 ∷ 0 ∷ 0 ∷ 0 ∷ 0 ∷ 0 ∷ 16 ∷ 0 ∷ 0 ∷ 0 ∷ 0 ∷ 0 ∷ 0 ∷ 1 ∷ 0 ∷ 0 ∷ 0 ∷
     4 ∷ 0 ∷ 0 ∷ 0 ∷ 4 ∷ 0 ∷ 0 ∷ 0 ∷ 2 ∷ 0 ∷ 0 ∷ 0 ∷ 4 ∷ 0 ∷ 0 ∷ 0 ∷ 16 ∷ 0 ∷ 0 ∷ 0 ∷
-    32 ∷ 0 ∷ 0 ∷ 0 ∷ 8 ∷ 0 ∷ 0 ∷ 0 ∷ 1 ∷ 0 ∷ 0 ∷ 0 ∷ 1 ∷ 0 ∷ 0 ∷ 0 ∷ 0 ∷ 0 ∷ 0 ∷ 0 ∷ 0 ∷ (replicate 59 0 ++ (99 ∷ []))
+    0 ∷ 1 ∷ 0 ∷ 0 ∷ 8 ∷ 0 ∷ 0 ∷ 0 ∷ 1 ∷ 0 ∷ 0 ∷ 0 ∷ 1 ∷ 0 ∷ 0 ∷ 0 ∷ 0 ∷ 0 ∷ 0 ∷ 0 ∷ 0 ∷ (replicate 59 0 ++ (99 ∷ []))
 unfolding bufferAfter commandOf commandAck deviceOf deviceCodec putFields putLe leAt
 device-reported = refl
 

@@ -27,7 +27,7 @@ use Rattle.rules.specs.Call.{Call, memoryOf, Outcome}
 
 -- ---- the tests
 
--- "Reset takes the memory length, 1 to 1,048,576, else answer 11"
+-- "Reset takes the memory length, 1 to .., else answer 11"; 02, M-106: to 16,777,216
 unfoldable pub resetChecks : ℕ → List Check
 resetChecks n = 11 if not (memoryOk n) ∷ []
 

@@ -1,4 +1,4 @@
--- Document 01, "Marked platform positions": the table of marks, and how each question is asked of the rules. Assumes nothing.
+-- Document 01, "Marked platform positions", and slot 255 of 02, M-106: the table of marks, and how each question is asked of the rules. Assumes nothing.
 use mathlib.Core.Path.{_≡_}
 use mathlib.Core.Bool.{Bool, cond, not}
 use mathlib.Core.List.{List, [], _∷_, map}
@@ -9,6 +9,7 @@ use Rattle.wire.specs.Scan.{all}
 use Rattle.wire.specs.Checks.{refusal}
 use Rattle.tables.specs.Card.{Card, fresh}
 use Rattle.tables.specs.Commands.{Command, numbersOf}
+use Rattle.tables.specs.Limits.{mrCount}
 use Rattle.tables.specs.declared.Registration.{Registration}
 use Rattle.rules.specs.Lists.{All}
 use Rattle.rules.specs.Touch.{Byte, range}
@@ -46,14 +47,18 @@ unfoldable pub registrations : ℕ → List Command
 registrations zero = []
 registrations (suc n) = Command.register (region 256 4096) ∷ registrations n
 
--- n registrations in slot 31, each dropped before the next
-unfoldable pub rounds : ℕ → List Command
-rounds zero = []
-rounds (suc n) = Command.register (region 256 4096) ∷ Command.deregister 31 ∷ rounds n
+-- the region in the slot dropped and registered again, n times
+unfoldable pub rounds : (slot n : ℕ) → List Command
+rounds s zero = []
+rounds s (suc n) = Command.deregister s ∷ Command.register (region 256 4096) ∷ rounds s n
 
--- all slots before 31 are taken, and 31 last had the variant 254
-unfoldable pub nearlyFull : Card
-nearlyFull = after (after platform (registrations 30)) (rounds 254)
+-- every slot is taken, and the one named has the variant 254
+unfoldable pub nearlyUsed : (slot : ℕ) → Card
+nearlyUsed s = after (after platform (registrations (mrCount - 1))) (rounds s 253)
+
+-- what a registration writes once the region in the slot is dropped
+abbrev pub next : Card → (slot : ℕ) → List ℕ
+next c s = drop 1 (numbersOf (commandAck (after c (Command.deregister s ∷ [])) (Command.register (region 256 4096))))
 
 -- ---- questions and results
 
@@ -64,8 +69,8 @@ pub data Question : Type 0 where
   byte : (address key : ℕ) → Question
   -- does the key stand after the region was dropped and registered again
   stands : (key : ℕ) → Question
-  -- the keys of a registration in slot 31 at variant 255, and of the next one there
-  wrapped : Question
+  -- the keys of a registration in the slot at variant 255, and of the next one there, where all other slots are taken
+  last : (slot : ℕ) → Question
   registers : (start virt : ℕ) → Question
 
 pub data Verdict : Type 0 where
@@ -96,9 +101,7 @@ abbrev pub ask : Question → Verdict
 ask (bytes a n k) = verdict platform (range a k n) permitted
 ask (byte a k) = verdict platform (range a k 1) (at (place platform (record { address = a; key = k })))
 ask (stands k) = verdict renewed (range 4096 k 1) permitted
-ask wrapped =
-    let k = Command.register (region 256 4096) in
-    keys (drop 1 (numbersOf (commandAck nearlyFull k))) (drop 1 (numbersOf (commandAck (after nearlyFull (k ∷ Command.deregister 31 ∷ [])) k)))
+ask (last s) = keys (next (nearlyUsed s) s) (next (after (nearlyUsed s) (rounds s 1)) s)
 ask (registers s v) = answer (refusal (commandChecks platform (Command.register (region s v))))
 
 -- ---- the table
@@ -122,7 +125,8 @@ table =
     mark 7 (bytes 4096 1 2) no ∷
     mark 8 (stands 2) permitted ∷
     mark 8 (stands 1) no ∷
-    mark 9 wrapped (keys (8191 ∷ 8191 ∷ []) (7937 ∷ 7937 ∷ [])) ∷
+    mark 9 (last 31) (keys (8191 ∷ 8191 ∷ []) (7937 ∷ 7937 ∷ [])) ∷
+    mark 9 (last 255) (keys (65535 ∷ 65535 ∷ []) (65281 ∷ 65281 ∷ [])) ∷
     mark 10 (registers 3996 4096) done ∷
     mark 10 (registers 3997 4096) (refused 11) ∷
     mark 11 (registers 256 (2 ^ 64 - 101)) done ∷

@@ -151,5 +151,5 @@ waiting-row = record { read = refl; wrote = refl }
 
 -- where each table begins, and the state's length: docs/STATE.md
 pub bases : pdFlagBase ∷ cqFlagBase ∷ cqBase ∷ entryBase ∷ mrFlagBase ∷ mrBase ∷ qpFlagBase ∷ qpBase ∷ waitingBase ∷ receiveBase ∷ stateSize ∷ []
-    ≡ 16 ∷ 24 ∷ 32 ∷ 64 ∷ 3136 ∷ 3168 ∷ 4192 ∷ 4200 ∷ 4264 ∷ 4280 ∷ 6072 ∷ []
+    ≡ 16 ∷ 24 ∷ 32 ∷ 64 ∷ 3136 ∷ 3392 ∷ 11584 ∷ 11592 ∷ 11656 ∷ 11672 ∷ 13464 ∷ []
 bases = refl

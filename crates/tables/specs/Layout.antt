@@ -147,7 +147,7 @@ waitingBase = qpBase + qpCount * 8
 abbrev pub receiveBase : ℕ
 receiveBase = waitingBase + qpCount * 2
 
--- the state's length in bytes, 6,072
+-- the state's length in bytes, 13,464
 abbrev pub stateSize : ℕ
 stateSize = receiveBase + receiveCount * 56
 

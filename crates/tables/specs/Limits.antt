@@ -1,7 +1,7 @@
--- Document 01's limits. Assumes nothing.
+-- Document 01's limits, two of them as 02, M-106, raises them. Assumes nothing.
 use Prim.Native.Nat.{ℕ, _-_, _^_}
 
--- the tables: "8 domains (PD), 8 completion queues (CQ) of 1 to 16 places, 32 regions (MR), 8 queue pairs (QP), each with up to 4 waiting receives"
+-- the tables: "8 domains (PD), 8 completion queues (CQ) of 1 to 16 places, .. regions (MR), 8 queue pairs (QP), each with up to 4 waiting receives"
 abbrev pub pdCount : ℕ
 pdCount = 8
 
@@ -11,8 +11,9 @@ cqCount = 8
 abbrev pub mostPlaces : ℕ
 mostPlaces = 16
 
+-- 02, M-106: "Raise regions from 32 to 256"
 abbrev pub mrCount : ℕ
-mrCount = 32
+mrCount = 256
 
 abbrev pub qpCount : ℕ
 qpCount = 8
@@ -20,9 +21,9 @@ qpCount = 8
 abbrev pub mostWaiting : ℕ
 mostWaiting = 4
 
--- "the memory length, 1 to 1,048,576"
+-- 02, M-106: "and memory from 1,048,576 to 16,777,216 bytes"
 abbrev pub mostMemory : ℕ
-mostMemory = 1048576
+mostMemory = 16777216
 
 -- "virt + length over 2^64 − 1"
 abbrev pub mostAddress : ℕ

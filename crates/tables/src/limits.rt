@@ -1,4 +1,4 @@
-// Document 01's limits, bits, states, opcodes and statuses, by name.
+// The papers' limits, bits, states, opcodes and statuses, by name.
 
 // ---- tables and lengths
 pub const PD_COUNT: usize = 8;
@@ -7,13 +7,13 @@ pub const CQ_COUNT: usize = 8;
 
 pub const MOST_PLACES: usize = 16;
 
-pub const MR_COUNT: usize = 32;
+pub const MR_COUNT: usize = 256;
 
 pub const QP_COUNT: usize = 8;
 
 pub const MOST_WAITING: usize = 4;
 
-pub const MOST_MEMORY: u64 = 1048576;
+pub const MOST_MEMORY: u64 = 16777216;
 
 pub const MOST_ADDRESS: u64 = 0xffff_ffff_ffff_ffff;
 

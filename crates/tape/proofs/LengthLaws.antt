@@ -10,8 +10,7 @@ use lib.ListN.{length, drop, getD, drop-of-length-le}
 use lib.Seq.{drop-cons}
 use borrow.Author.Tests.{le-leb, lt-leb, leb-true}
 use Rattle.wire.proofs.ScanLaws.{and-left, and-right}
-use Rattle.tables.specs.Limits.{mostMemory}
-use Rattle.tape.specs.Length.{isDigit, withDigit, valueOf, lengthOf}
+use Rattle.tape.specs.Length.{mostLength, isDigit, withDigit, valueOf, lengthOf}
 
 -- what a digit is worth
 pub digit-most : (b : ℕ) → isDigit b ≡ true → (48 ≤ b) × (b ≤ 57)
@@ -21,7 +20,7 @@ module _ (t : List ℕ) (v i : ℕ) (within : i < length t) where
   abbrev byte : ℕ
   byte = getD t i 0
 
-  unroll : valueOf v (drop i t) ≡ cond (isDigit byte && leb (withDigit v byte) mostMemory) (valueOf (withDigit v byte) (drop (i + 1) t)) 0
+  unroll : valueOf v (drop i t) ≡ cond (isDigit byte && leb (withDigit v byte) mostLength) (valueOf (withDigit v byte) (drop (i + 1) t)) 0
   unfolding valueOf
   unroll = ap (valueOf v) (drop-cons t i 0 within ∙ ap (λ (k : ℕ). byte ∷ drop k t) (sym (add-one i)))
 
@@ -29,11 +28,11 @@ module _ (t : List ℕ) (v i : ℕ) (within : i < length t) where
   value-other h = unroll ∙ rw h
 
   module _ (digit : isDigit byte ≡ true) where
-    pub value-long : mostMemory < withDigit v byte → valueOf v (drop i t) ≡ 0
-    value-long h = unroll ∙ rw (digit, lt-leb (withDigit v byte) mostMemory h)
+    pub value-long : mostLength < withDigit v byte → valueOf v (drop i t) ≡ 0
+    value-long h = unroll ∙ rw (digit, lt-leb (withDigit v byte) mostLength h)
 
-    pub value-more : withDigit v byte ≤ mostMemory → valueOf v (drop i t) ≡ valueOf (withDigit v byte) (drop (i + 1) t)
-    value-more h = unroll ∙ rw (digit, le-leb (withDigit v byte) mostMemory h)
+    pub value-more : withDigit v byte ≤ mostLength → valueOf v (drop i t) ≡ valueOf (withDigit v byte) (drop (i + 1) t)
+    value-more h = unroll ∙ rw (digit, le-leb (withDigit v byte) mostLength h)
 
 pub value-end : (t : List ℕ) (v i : ℕ) → length t ≤ i → valueOf v (drop i t) ≡ v
 unfolding valueOf

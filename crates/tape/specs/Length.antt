@@ -3,7 +3,10 @@ use mathlib.Core.Bool.{Bool, cond, _&&_}
 use mathlib.Core.List.{List, [], _∷_}
 use Prim.Native.Nat.{ℕ, _+_, _-_, _*_}
 use lib.Dec.{leb}
-use Rattle.tables.specs.Limits.{mostMemory}
+
+-- the longest memory that a program takes, though a card takes more; 02, M-106: "The program keeps its 4,096 bytes."
+abbrev pub mostLength : ℕ
+mostLength = 1048576
 
 -- '0' to '9'
 abbrev pub isDigit : ℕ → Bool
@@ -16,7 +19,7 @@ withDigit v b = v * 10 + (b - 48)
 -- the value of the text, behind digits that are worth v: 0, which no reset takes, where a byte is no digit or it passes the longest memory
 unfoldable pub valueOf : (v : ℕ) → (text : List ℕ) → ℕ
 valueOf v [] = v
-valueOf v (b ∷ t) = cond (isDigit b && leb (withDigit v b) mostMemory) (valueOf (withDigit v b) t) 0
+valueOf v (b ∷ t) = cond (isDigit b && leb (withDigit v b) mostLength) (valueOf (withDigit v b) t) 0
 
 unfoldable pub lengthOf : (text : List ℕ) → ℕ
 lengthOf t = valueOf 0 t

@@ -1,14 +1,15 @@
 // The card of a tape: its reset, and its memory's length as an argument says it.
 use rules::Answer;
-use tables::limits::MOST_MEMORY;
 ghost use mathlib.Core.Path.{_≡_};
 ghost use mathlib.Core.Bool.{cond};
 ghost use Prim.Native.Nat.{_≤_};
 ghost use lib.ListN.{length};
-ghost use Rattle.tables.specs.Limits.{mostMemory};
 ghost use Rattle.tables.specs.Reset.{resetBytes};
-ghost use Rattle.tape.specs.Length.{isDigit, lengthOf};
+ghost use Rattle.tape.specs.Length.{mostLength, isDigit, lengthOf};
 ghost use Rattle.tape.specs.Tape.{resets};
+
+// The longest memory that a program takes.
+const MOST_LENGTH: u64 = 1048576;
 
 // Resets the card to a memory of the given length; false, with the state as it was, where no reset takes it.
 pub fn start(state: &mut [u8], memory: u64) -> bool
@@ -31,7 +32,7 @@ fn is_digit(byte: u8) -> bool
 // The length that decimal digits say; 0 where they say none from 1 to 1,048,576.
 pub fn memory_length(text: &[u8]) -> u64
     ensures { λ r. ⌜ r ≡ lengthOf (now (text .entry)) ⌝ }
-    ensures { λ r. ⌜ r ≤ mostMemory ⌝ }
+    ensures { λ r. ⌜ r ≤ mostLength ⌝ }
 {
     let mut value: u64 = 0;
     let mut i = 0;
@@ -41,7 +42,7 @@ pub fn memory_length(text: &[u8]) -> u64
             return 0;
         }
         value = value * 10 + (byte - 48) as u64;
-        if MOST_MEMORY < value {
+        if MOST_LENGTH < value {
             return 0;
         }
         i += 1;
@@ -49,9 +50,9 @@ pub fn memory_length(text: &[u8]) -> u64
     value
 }
 
-// The memory's length that argument i, the last, asks for, 4,096 where there is none; 0 where it asks for none that a card takes.
+// The memory's length that argument i, the last, asks for, 4,096 where there is none; 0 where it asks for none that the programs take.
 pub fn length_asked(i: usize) -> u64
-    ensures { λ r. ⌜ r ≤ mostMemory ⌝ }
+    ensures { λ r. ⌜ r ≤ mostLength ⌝ }
 {
     let count = os::arg_count();
     if count <= i {

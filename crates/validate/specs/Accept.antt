@@ -21,7 +21,7 @@ use Rattle.tables.specs.declared.ReceiveRecord.{ReceiveRecord}
 use Rattle.tables.specs.declared.Region.{Region}
 use Rattle.tables.specs.declared.WaitingHead.{WaitingHead}
 
--- "1 to 1,048,576"
+-- 02, M-106: 1 to 16,777,216
 abbrev pub memoryOk : ℕ → Bool
 memoryOk n = leb 1 n && leb n mostMemory
 

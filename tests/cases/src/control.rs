@@ -76,7 +76,7 @@ fn records() -> Vec<Case> {
 fn queries() -> Case {
     let mut script = Script::new();
     script.queries().create(create_domain(), 0).queries();
-    for n in 0..32 {
+    for n in 0..256 {
         script.register(0, 7, 0, 1, 0, 256 * n + 1);
     }
     script.queries().refused(vec![6, 0, 0], 1).refused(vec![6, 1, 0], 1).queries();
@@ -161,6 +161,22 @@ fn registrations() -> Vec<Case> {
     cases
 }
 
+/// Every slot is taken, and the named one dropped and taken again up to its variant 255, and once more.
+fn last_variant(slot: u32, last: u32, next: u32) -> Script {
+    let mut script = Script::new();
+    script.create(create_domain(), 0);
+    for n in 0..256 {
+        script.register(0, 7, 0, 1, 0, 256 * n + 1);
+    }
+    script.refused(register(0, 7, 0, 1, 0), 8);
+    for variant in 2..=254 {
+        script.done(deregister(slot)).register(0, 7, 0, 1, 0, 256 * slot + variant);
+    }
+    script.done(deregister(slot)).register(0, 7, 0, 1, 0, last);
+    script.done(deregister(slot)).register(0, 7, 0, 1, 0, next);
+    script
+}
+
 fn keys() -> Vec<Case> {
     let mut again = Script::joined();
     again.done(deregister(0)).refused(deregister(0), 2).register(0, 7, 256, 100, 4096, 2);
@@ -171,31 +187,22 @@ fn keys() -> Vec<Case> {
     for n in 0..260u32 {
         wrap.register(0, 7, 0, 1, 0, n % 255 + 1).done(deregister(0));
     }
-    let mut slot31 = Script::new();
-    slot31.create(create_domain(), 0);
-    for n in 0..32 {
-        slot31.register(0, 7, 0, 1, 0, 256 * n + 1);
-    }
-    slot31.refused(register(0, 7, 0, 1, 0), 8);
-    for variant in 2..=255 {
-        slot31.done(deregister(31)).register(0, 7, 0, 1, 0, 256 * 31 + variant);
-    }
-    slot31.done(deregister(31)).register(0, 7, 0, 1, 0, 7937);
     let mut unused = Script::joined();
     unused.done(deregister(0)).refused(register(0, 8, 0, 1, 0), 4).refused(register(0, 7, 0, 0, 0), 11);
     unused.refused(register(0, 2, 0, 1, 0), 4).refused(register(9, 7, 0, 1, 0), 2).register(0, 7, 0, 1, 0, 2);
     let mut lowest = Script::joined();
-    for n in 2..32 {
+    for n in 2..256 {
         lowest.register(0, 7, 0, 1, 0, 256 * n + 1);
     }
-    lowest.refused(register(0, 7, 0, 1, 0), 8).done(deregister(31)).done(deregister(4));
-    lowest.register(0, 7, 0, 1, 0, 256 * 4 + 2).register(0, 7, 0, 1, 0, 256 * 31 + 2).refused(register(0, 7, 0, 1, 0), 8);
+    lowest.refused(register(0, 7, 0, 1, 0), 8).done(deregister(255)).done(deregister(4));
+    lowest.register(0, 7, 0, 1, 0, 256 * 4 + 2).register(0, 7, 0, 1, 0, 256 * 255 + 2).refused(register(0, 7, 0, 1, 0), 8);
     vec![
         again.named("p8-dropped-and-registered-again"),
         wrap.named("variants-past-255"),
-        slot31.named("p9-slot-31-variant-255"),
+        last_variant(31, 8191, 7937).named("p9-slot-31-variant-255"),
+        last_variant(255, 65535, 65281).named("p9-slot-255-variant-255"),
         unused.named("refused-registration-takes-no-variant"),
-        lowest.named("regions-33rd-is-8-lowest-free"),
+        lowest.named("regions-257th-is-8-lowest-free"),
     ]
 }
 
@@ -334,15 +341,15 @@ fn freed_numbers() -> Case {
     for n in 0..8 {
         script.create(create_domain(), n).create(create_queue(1), n);
     }
-    for n in 0..32 {
+    for n in 0..256 {
         script.register(0, 7, 0, 1, 0, 256 * n + 1);
     }
     for n in 0..8 {
         script.create(create_pair(0, 2, 0, 0, 0), n);
     }
-    let mut variants = [1; 32];
-    let together = [vec![0, 31], vec![6, 7], vec![7, 8], vec![15, 24], vec![8, 16, 23]];
-    for freed in (0..32).map(|slot| vec![slot]).chain(together) {
+    let mut variants = [1; 256];
+    let together = [vec![0, 255], vec![31, 32], vec![6, 7], vec![7, 8], vec![15, 24], vec![8, 16, 23], vec![127, 128, 254]];
+    for freed in (0..256).map(|slot| vec![slot]).chain(together) {
         for &slot in freed.iter().rev() {
             script.done(deregister(slot));
         }

@@ -12,7 +12,7 @@ type Check = (&'static str, fn(&dyn Card));
 
 /// Every check by its name.
 pub const CHECKS: [Check; 13] = [
-    ("reset_takes_1_to_1048576", reset_takes_1_to_1048576),
+    ("reset_takes_1_to_16777216", reset_takes_1_to_16777216),
     ("ack_needs_13_bytes", ack_needs_13_bytes),
     ("queries_need_129_or_33_bytes", queries_need_129_or_33_bytes),
     ("queries_report_the_card", queries_report_the_card),
@@ -52,8 +52,8 @@ fn sample(card: &dyn Card) -> Vec<u8> {
     state
 }
 
-pub fn reset_takes_1_to_1048576(card: &dyn Card) {
-    for (length, wanted) in [(0, 11), (1, 0), (4096, 0), (1 << 20, 0), ((1 << 20) + 1, 11), (1 << 32, 11), (u64::MAX, 11)] {
+pub fn reset_takes_1_to_16777216(card: &dyn Card) {
+    for (length, wanted) in [(0, 11), (1, 0), (4096, 0), ((1 << 20) + 1, 0), (16_777_215, 0), (16_777_216, 0), (16_777_217, 11), (1 << 32, 11), (u64::MAX, 11)] {
         let mut state = vec![LEFT; STATE_BYTES];
         assert_eq!(card.reset(&mut state, length), answer(wanted), "length {length}");
         assert_eq!(accepts(&state), wanted == 0);
@@ -248,7 +248,7 @@ const FAULTS: [(Fault, usize, &[u8]); 38] = [
     (Fault::CompletionOpcode, completion_row(0, 0) + COMPLETION_OPCODE, &[5]),
     (Fault::CompletionLength, completion_row(0, 0) + COMPLETION_LENGTH, &[1, 16]),
     (Fault::CompletionOwner, completion_row(0, 0) + COMPLETION_OWNER, &[8]),
-    (Fault::RegionFlag, REGION_FLAGS + 31, &[2]),
+    (Fault::RegionFlag, REGION_FLAGS + REGIONS - 1, &[2]),
     (Fault::RegionAccess, region_row(0) + REGION_ACCESS, &[8]),
     (Fault::RegionAccess, region_row(0) + REGION_ACCESS, &[2]),
     (Fault::RegionAccess, region_row(1) + REGION_ACCESS, &[6]),

@@ -239,7 +239,7 @@ pub fn device_ack(memory_length: u64) -> Vec<u8> {
     for number in [0, memory_length, 4096] {
         ack.extend(number.to_le_bytes());
     }
-    for number in [1u32, 4, 4, 2, 4, 16, 32, 8, 1, 1, 0] {
+    for number in [1u32, 4, 4, 2, 4, 16, 256, 8, 1, 1, 0] {
         ack.extend(number.to_le_bytes());
     }
     ack.resize(129, 0);

@@ -18,7 +18,7 @@ fn send(length: u32) -> Send {
 fn orders() -> Vec<Case> {
     let mut region = Script::new();
     region.create(create_domain(), 0);
-    for n in 0..32 {
+    for n in 0..256 {
         region.register(0, 7, 0, 1, 0, 256 * n + 1);
     }
     for access in [2, 6, 8] {

@@ -24,7 +24,7 @@ macro_rules! on_every_card {
 }
 
 on_every_card! {
-    reset_takes_1_to_1048576,
+    reset_takes_1_to_16777216,
     ack_needs_13_bytes,
     queries_need_129_or_33_bytes,
     queries_report_the_card,

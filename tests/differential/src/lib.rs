@@ -61,7 +61,11 @@ impl Run {
                 self.step(&call);
             }
         }
-        let most = if memory_length > 1 << 16 { 60 } else { 600 };
+        let most = match memory_length {
+            0..=65_536 => 600,
+            65_537..=1_048_576 => 60,
+            _ => 20,
+        };
         for _ in 0..most {
             if self.generator.rng().percent(5) {
                 self.rewrite_memory();

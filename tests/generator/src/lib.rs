@@ -55,7 +55,8 @@ impl Generator {
         self.changed = self.rng.pick(&[5, 20, 30, 40]);
         match self.rng.below(20) {
             0 => 1 + self.rng.below(64),
-            1 => MOST_MEMORY - self.rng.below(2),
+            1 if self.rng.percent(10) => MOST_MEMORY - self.rng.below(2),
+            1 => (1 << 20) - self.rng.below(2),
             2..=7 => 4096,
             _ => 4096 + self.rng.below(12288),
         }

@@ -15,7 +15,7 @@ impl Generator {
         match self.rng.below(8) {
             0 => key.wrapping_add(1),
             1 => key.wrapping_sub(1),
-            2 => key.wrapping_add(8192),
+            2 => key.wrapping_add(256 * REGIONS as u32),
             3 => key & !0xff,
             4 => key | 1 << 31,
             5 => self.rng.choose(&self.keys.clone()).unwrap_or(0),

@@ -31,10 +31,11 @@ pub fn compare(both: &mut Both, rng: &mut Rng) {
     }
     for n in 0..REACHED {
         let state = reached_state(rng.word(), if n % 4 == 0 { 20 * n } else { 10 + 5 * n });
-        one(both, &state, true);
+        one(both, &state, Some(&every(REGIONS)));
         each_field(both, &state, &region_slots(rng, &state));
         for n in 0..DAMAGED {
-            one(both, &damage(rng, &state), n % 10 == 0);
+            let slots = region_slots(rng, &state);
+            one(both, &damage(rng, &state), if n % 10 == 0 { Some(&slots) } else { None });
         }
     }
     full_tables(both);
@@ -42,15 +43,21 @@ pub fn compare(both: &mut Both, rng: &mut Rng) {
     random(both, rng);
 }
 
-/// The state test and, on an accepted state, each creation and, if told so, the calls on each object that need no record.
-fn one(both: &mut Both, state: &[u8], objects: bool) {
+/// The state test and, on an accepted state, each creation and, where region slots are given, the calls on each object that need no
+/// record, of regions those of the slots.
+fn one(both: &mut Both, state: &[u8], slots: Option<&[usize]>) {
     accepted(both, state);
     if let Some(card) = Listing::of(state) {
         creations(both, state, &card);
-        if objects {
-            each_object(both, state);
+        if let Some(slots) = slots {
+            each_object(both, state, slots);
         }
     }
+}
+
+/// Every number of a table, and the one past it.
+fn every(count: usize) -> Vec<usize> {
+    (0..=count).collect()
 }
 
 /// A poll without a buffer answers 15 where the state is not accepted, else 12, and changes nothing.
@@ -80,10 +87,10 @@ fn creations(both: &mut Both, state: &[u8], card: &Listing) {
     }
 }
 
-/// Every object, and the number past each table, destroyed, polled and flushed.
-fn each_object(both: &mut Both, state: &[u8]) {
-    for number in 0..=REGIONS as u32 {
-        both.count("destroy", &control(deregister(number)), state, &[]);
+/// Every object, and the number past each table, destroyed, polled and flushed; of regions those of the given slots.
+fn each_object(both: &mut Both, state: &[u8], slots: &[usize]) {
+    for &slot in slots {
+        both.count("destroy", &control(deregister(slot as u32)), state, &[]);
     }
     for number in 0..=QUEUES as u32 {
         both.count("destroy", &control(destroy_domain(number)), state, &[]);
@@ -111,9 +118,10 @@ fn full_tables(both: &mut Both) {
     for (table, (_, count)) in TABLES.into_iter().enumerate() {
         for n in 0..=count {
             let live: Vec<bool> = (0..count).map(|k| k < n).collect();
-            one(both, &with_live(table, &live), true);
+            let slots = [n.saturating_sub(1), n, n + 1];
+            one(both, &with_live(table, &live), Some(&slots));
             let live: Vec<bool> = (0..count).map(|k| k != n).collect();
-            one(both, &with_live(table, &live), true);
+            one(both, &with_live(table, &live), Some(&slots));
         }
     }
 }

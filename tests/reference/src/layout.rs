@@ -1,8 +1,8 @@
-//! Where each table stands in the lent state (docs/STATE.md), and the limits of document 01.
+//! Where each table stands in the lent state (docs/STATE.md), and the limits of documents 01 and 02.
 
 pub const DOMAINS: usize = 8;
 pub const QUEUES: usize = 8;
-pub const REGIONS: usize = 32;
+pub const REGIONS: usize = 256;
 pub const PAIRS: usize = 8;
 pub const MOST_PLACES: usize = 16;
 pub const MOST_WAITING: usize = 4;
@@ -10,7 +10,7 @@ pub const MOST_PIECES: usize = 4;
 pub const MOST_RECEIVE_PIECES: usize = 2;
 pub const MOST_INLINE: usize = 512;
 pub const MOST_MESSAGE: usize = 4096;
-pub const MOST_MEMORY: u64 = 1 << 20;
+pub const MOST_MEMORY: u64 = 1 << 24;
 
 // ---- where each table begins: one block for each kind of object, a column of live flags and then its rows
 

@@ -5,15 +5,14 @@ use native.Mathlib.Omega.{arith}
 use lib.ListN.{length, drop, getD}
 use denote.Ref.{now}
 use borrow.Author.Tests.{not-true, not-false}
-use Rattle.tables.specs.Limits.{mostMemory}
-use Rattle.tape.specs.Length.{isDigit, valueOf, lengthOf}
+use Rattle.tape.specs.Length.{mostLength, isDigit, valueOf, lengthOf}
 use Rattle.tape.proofs.LengthLaws.{digit-most, value-start, value-other, value-long, value-more, value-end}
 use borrow.Author.Needs.{needs}
 use Rattle.tape.proofs.start.memory_length.Statement.{statement}
 use Rattle.tape.proofs.start.memory_length.Tie as tie
 
 abbrev Inv-loop : tie.InvT-loop
-Inv-loop text value₀ i₀ value i = (i ≤ length text) × (value ≤ mostMemory) × (lengthOf text ≡ valueOf value (drop i text))
+Inv-loop text value₀ i₀ value i = (i ≤ length text) × (value ≤ mostLength) × (lengthOf text ≡ valueOf value (drop i text))
 
 abbrev μ-loop : tie.MeasureT-loop
 μ-loop text value₀ i₀ value i = length text - i

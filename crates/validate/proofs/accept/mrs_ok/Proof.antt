@@ -1,6 +1,6 @@
 use borrow.Author.Needs.{needs}
 use denote.Ref.{now}
-use Prim.Native.Nat.{_≤_, _-_, _+_, _*_}
+use Prim.Native.Nat.{_≤_, _-_, _+_, _*_, _/_}
 use mathlib.Core.Path.{_≡_, sym, _∙_}
 use mathlib.Core.Bool.{true, false}
 use native.Mathlib.Omega.{arith}
@@ -15,10 +15,10 @@ use Rattle.validate.proofs.accept.mrs_ok.Statement.{statement}
 use Rattle.validate.proofs.accept.mrs_ok.Tie as tie
 
 abbrev Inv-loop : tie.InvT-loop
-Inv-loop state memory g₀ g = (g ≤ 4) × (allBelow (8 * g) (mrOk state) ≡ true)
+Inv-loop state memory g₀ g = (g ≤ mrCount / 8) × (allBelow (8 * g) (mrOk state) ≡ true)
 
 abbrev μ-loop : tie.MeasureT-loop
-μ-loop state memory g₀ g = 4 - g
+μ-loop state memory g₀ g = mrCount / 8 - g
 
 loop-holds : tie.Need-loop-holds Inv-loop μ-loop
 loop-holds c = (search needs, all-none _)
