@@ -237,7 +237,7 @@ pub fn forged_but_acceptable_states(card: &dyn Card) {
 /// A fault, and the bytes of the sample that make it. A wrong length is made apart.
 const FAULTS: [(Fault, usize, &[u8]); 38] = [
     (Fault::MemoryLength, MEMORY_LENGTH, &[0, 0]),
-    (Fault::MemoryLength, MEMORY_LENGTH + 2, &[17]),
+    (Fault::MemoryLength, MEMORY_LENGTH + 3, &[1]),
     (Fault::DomainFlag, DOMAIN_FLAGS + 5, &[2]),
     (Fault::QueueFlag, QUEUE_FLAGS + 7, &[2]),
     (Fault::QueuePlaces, queue_row(1) + QUEUE_PLACES, &[0]),
