@@ -53,7 +53,17 @@ fn sample(card: &dyn Card) -> Vec<u8> {
 }
 
 pub fn reset_takes_1_to_16777216(card: &dyn Card) {
-    for (length, wanted) in [(0, 11), (1, 0), (4096, 0), ((1 << 20) + 1, 0), (16_777_215, 0), (16_777_216, 0), (16_777_217, 11), (1 << 32, 11), (u64::MAX, 11)] {
+    for (length, wanted) in [
+        (0, 11),
+        (1, 0),
+        (4096, 0),
+        ((1 << 20) + 1, 0),
+        (16_777_215, 0),
+        (16_777_216, 0),
+        (16_777_217, 11),
+        (1 << 32, 11),
+        (u64::MAX, 11),
+    ] {
         let mut state = vec![LEFT; STATE_BYTES];
         assert_eq!(card.reset(&mut state, length), answer(wanted), "length {length}");
         assert_eq!(accepts(&state), wanted == 0);

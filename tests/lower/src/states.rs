@@ -39,6 +39,7 @@ pub fn compare(both: &mut Both, rng: &mut Rng) {
         }
     }
     full_tables(both);
+    one(both, &flush_without_a_place(), Some(&[0]));
     lengths(both, &reached_state(rng.word(), 400));
     random(both, rng);
 }
@@ -148,6 +149,15 @@ fn with_live(table: usize, live: &[bool]) -> Vec<u8> {
             _ => state[pair_row(n) + PAIR_DESTINATION] = NO_DESTINATION,
         }
     }
+    state
+}
+
+/// A pair in error with a receive waiting, and no place for its completion.
+fn flush_without_a_place() -> Vec<u8> {
+    let mut state = with_live(3, &[true]);
+    state[pair_row(0) + PAIR_STATE] = ERROR;
+    state[waiting_row(0) + WAITING_COUNT] = 1;
+    state[queue_row(0) + QUEUE_COUNT] = 1;
     state
 }
 
