@@ -3,7 +3,7 @@ use mathlib.Core.Path.{_≡_, refl, sym, ap, _∙_}
 use mathlib.Core.Bool.{Bool, true, false, _&&_, true≢false}
 use mathlib.Core.List.{List, [], _∷_}
 use mathlib.Core.Option.{Option, none, some}
-use Prim.Native.Nat.{ℕ, zero, suc, _≤_, _<_}
+use Prim.Native.Nat.{ℕ, zero, suc, _+_, _*_, _/_, _%_, _≤_, _<_}
 use native.Mathlib.Omega.{arith}
 use lib.Dec.{eqb, leb}
 use lib.ListN.{length, getD}
@@ -11,21 +11,23 @@ use borrow.Author.Tests.{ne-eqb, eqb-true, leb-true, le-leb}
 use Rattle.wire.specs.Checks.{refusal}
 use Rattle.wire.proofs.ScanLaws.{and-left, and-right, both-true}
 use Rattle.wire.specs.Scan.{all}
-use Rattle.wire.proofs.SlotLaws.{same}
-use Rattle.tables.specs.Card.{Card, Qp, tail}
+use Rattle.wire.specs.Slots.{upd}
+use Rattle.wire.proofs.SlotLaws.{split, same}
+use Rattle.tables.specs.Card.{Card, Mr, Qp, freeMr, tail}
 use Rattle.tables.specs.Commands.{Command}
+use Rattle.tables.specs.declared.Registration.{Registration}
 use Rattle.validate.specs.Search.{freeMrn}
 use Rattle.rules.specs.declared.Answer.the-variants.{Done}
 use Rattle.rules.specs.Answer.{isDone}
 use Rattle.rules.specs.Call.{Call}
 use Rattle.rules.specs.Calls.{checks, effect, statusOf, memoryAfter, settled, step}
 use Rattle.rules.specs.Touch.{Request, requestOf, fills, takes, total, sgeTotal, farBytes}
-use Rattle.rules.specs.Permit.{keyOf, lookup, covers, permits, permitsAll}
+use Rattle.rules.specs.Permit.{keyOf, found, lookup, covers, permits, permitsAll}
 use Rattle.rules.specs.Control.{commandEffect, newVariant}
 use Rattle.rules.specs.Send.{deliveryChecks, ready, peerOf, takenBy, farUse, errorIf, consumeIf, sendStatus, sendMemory, sendQps, sendPuts, sendEffect}
 use Rattle.rules.proofs.Answers.{answered-not-done}
-use Rattle.rules.proofs.Variants.{next-small, slot}
-use Rattle.rules.specs.Dropped.{Fails, Denied, LostBy, Lost, Reaches, farKey, StaleFails, DroppedRegion, HeldStays, KeysDropped, OldKeyStale, NewKeyStands}
+use Rattle.rules.proofs.Variants.{new-small, slot}
+use Rattle.rules.specs.Dropped.{Fails, Denied, LostBy, Lost, Reaches, farKey, StaleFails, DroppedRegion, HeldStays, KeysDropped, Spent, OldKeysGone, OldKeyStale, NewKeyStands}
 
 and-false : (b : Bool) → (b && false) ≡ false
 and-false true = refl
@@ -161,5 +163,47 @@ old-key-stale c g k e h = rw (e, same (freeMrn c), ne-eqb (keyOf (freeMrn c) (ne
 
 pub new-key-stands : NewKeyStands
 unfolding NewKeyStands commandEffect lookup
-new-key-stands c g =
-    (rw (slot (freeMrn c) (newVariant c) (next-small (c .mr (freeMrn c) .variant)), same (freeMrn c), same (keyOf (freeMrn c) (newVariant c))), refl)
+new-key-stands c g h =
+    (rw (slot (freeMrn c) (newVariant c) (new-small c h), same (freeMrn c), same (keyOf (freeMrn c) (newVariant c))), refl)
+
+-- ---- a key that was handed out and dropped
+
+module _ (c : Card) (k : ℕ) (s : Spent c k) where
+  -- the slot of the key, by its number
+  at-slot : (j : ℕ) → k / 256 ≡ j → (k % 256 ≤ c .mr j .variant) × (found (c .mr j) j k ≡ none)
+  unfolding lookup
+  at-slot j e = rw (← e) (s .handed, s .gone)
+
+  spent-registers : (g : Registration) → Spent (commandEffect c (Command.register g)) k
+  unfolding commandEffect lookup
+  spent-registers g =
+      let i : ℕ = freeMrn c in
+      let new : Mr = record { live = true; variant = newVariant c; reg = g } in
+      let both =
+      split i (λ j. k / 256 ≡ j → (k % 256 ≤ upd (c .mr) i new j .variant) × (found (upd (c .mr) i new j) j k ≡ none))
+      (λ e. (let h = at-slot i e .0 in rw (same i) (omega arith, rw (ne-eqb (keyOf i (newVariant c)) k (λ p. omega arith)))))
+      (λ j n e. rw n (at-slot j e)) (k / 256) refl in
+      record { handed = both .0; gone = both .1 }
+
+  spent-deregisters : (i : ℕ) → Spent (commandEffect c (Command.deregister i)) k
+  unfolding commandEffect lookup
+  spent-deregisters i =
+      let both =
+      split i (λ j. k / 256 ≡ j → (k % 256 ≤ upd (c .mr) i (freeMr (c .mr i .variant)) j .variant) × (found (upd (c .mr) i (freeMr (c .mr i .variant)) j) j k ≡ none))
+      (λ e. rw (same i) (at-slot i e .0, refl))
+      (λ j n e. rw n (at-slot j e)) (k / 256) refl in
+      record { handed = both .0; gone = both .1 }
+
+pub old-keys-gone : OldKeysGone
+unfolding OldKeysGone commandEffect
+old-keys-gone c k Command.queryDevice p s = s
+old-keys-gone c k Command.queryPort p s = s
+old-keys-gone c k (Command.createCq n) p s = record { handed = s .handed; gone = s .gone }
+old-keys-gone c k (Command.destroyCq n) p s = record { handed = s .handed; gone = s .gone }
+old-keys-gone c k Command.createPd p s = record { handed = s .handed; gone = s .gone }
+old-keys-gone c k (Command.destroyPd n) p s = record { handed = s .handed; gone = s .gone }
+old-keys-gone c k (Command.register g) p s = spent-registers c k s g
+old-keys-gone c k (Command.deregister n) p s = spent-deregisters c k s n
+old-keys-gone c k (Command.createQp r) p s = record { handed = s .handed; gone = s .gone }
+old-keys-gone c k (Command.modifyQp r) p s = record { handed = s .handed; gone = s .gone }
+old-keys-gone c k (Command.destroyQp q) p s = record { handed = s .handed; gone = s .gone }

@@ -2,7 +2,6 @@
 use mathlib.Core.Path.{_≡_, refl, sym, ap, _∙_}
 use mathlib.Core.Bool.{Bool, true, false, not}
 use Prim.Native.Nat.{ℕ, zero, suc, _≤_, _<_}
-use native.Mathlib.Decide.{decLe}
 use native.Mathlib.Omega.{arith}
 use lib.Dec.{leb}
 use borrow.Author.Tests.{leb-true, leb-false}
@@ -25,15 +24,3 @@ full-exactly n p = go (leb n (lowest n p)) refl
     go false e =
         let h : lowest n p < n = leb-false n (lowest n p) e in
         sym (ap not (any-here n p (lowest n p) h (lowest-passes n p h)))
-
--- a number that passes, where none below it does
-pub lowest-is : (n : ℕ) (p : ℕ → Bool) (s : ℕ) → s < n → p s ≡ true → ((k : ℕ) → k < s → p k ≡ false) → lowest n p ≡ s
-lowest-is n p s h e least =
-    elim (decLe s (lowest n p)) [
-      | yes a ↦
-          elim (decLe (lowest n p) s) [
-            | yes b ↦ omega arith
-            | no b ↦ let z : true ≡ false = sym e ∙ lowest-least n p s (omega arith) in (cc)
-          ]
-      | no a ↦ let z : true ≡ false = sym (lowest-passes n p (omega arith)) ∙ least (lowest n p) (omega arith) in (cc)
-    ]

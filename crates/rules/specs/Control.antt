@@ -20,12 +20,9 @@ use Rattle.rules.specs.Permit.{keyOf}
 
 -- ---- keys
 
--- "A slot's first variant after reset is 1; each registration in it takes the next, and 1 follows 255"
-abbrev pub nextVariant : ℕ → ℕ
-nextVariant v = cond (leb 255 v) 1 (v + 1)
-
+-- "A slot's first variant after reset is 1; each registration in it takes the next"; 02, M-109: none follows 255
 abbrev pub newVariant : Card → ℕ
-newVariant c = nextVariant (c .mr (freeMrn c) .variant)
+newVariant c = c .mr (freeMrn c) .variant + 1
 
 -- ---- queue pair states
 

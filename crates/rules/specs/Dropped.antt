@@ -5,11 +5,12 @@ use mathlib.Core.Logic.{_≢_}
 use mathlib.Core.Bool.{Bool, true, false}
 use mathlib.Core.List.{List, [], _∷_}
 use mathlib.Core.Option.{none, some}
-use Prim.Native.Nat.{ℕ, _/_, _≤_, _<_}
+use Prim.Native.Nat.{ℕ, _/_, _%_, _≤_, _<_}
 use lib.Dec.{eqb, leb}
 use lib.ListN.{length, getD}
+use Rattle.wire.specs.Checks.{Passed}
 use Rattle.wire.specs.Slots.{upd}
-use Rattle.tables.specs.Limits.{mostMessage}
+use Rattle.tables.specs.Limits.{mrCount, mostMessage}
 use Rattle.tables.specs.Card.{Card, Mr, freeMr, tail}
 use Rattle.tables.specs.Commands.{Command}
 use Rattle.validate.specs.Search.{freeMrn}
@@ -19,7 +20,7 @@ use Rattle.rules.specs.declared.Answer.the-variants.{Done}
 use Rattle.rules.specs.Answer.{isDone}
 use Rattle.rules.specs.Touch.{Request, requestOf, fills, total, sgeTotal, ownBytes, farBytes}
 use Rattle.rules.specs.Permit.{keyOf, lookup, permitsAll}
-use Rattle.rules.specs.Control.{commandEffect, newVariant}
+use Rattle.rules.specs.Control.{commandChecks, commandEffect, newVariant}
 use Rattle.rules.specs.Send.{peerOf, takenBy, ownUse, senderPut, receiverPut, putAll}
 use Rattle.rules.specs.Call.{Call}
 use Rattle.rules.specs.Calls.{step}
@@ -101,15 +102,24 @@ KeysDropped =
     (c : Card) (n k : ℕ) → k / 256 ≡ n →
     (lookup (commandEffect c (Command.deregister n) .mr) k ≡ none) × (commandEffect c (Command.deregister n) .qp ≡ c .qp)
 
--- another region in the slot has the new key alone: no earlier key of the slot comes back with it
+-- a key that its slot has handed out, this variant or a later one, and that finds no region
+pub record Spent (c : Card) (k : ℕ) : Type 0 where
+  pub handed : k % 256 ≤ c .mr (k / 256) .variant
+  pub gone : lookup (c .mr) k ≡ none
+
+-- 02, M-109, "Never hand out an old key": whatever command follows, no such key, however old, finds one again
+unfoldable pub OldKeysGone : Type 0
+OldKeysGone = (c : Card) (k : ℕ) (x : Command) → Passed (commandChecks c x) → Spent c k → Spent (commandEffect c x) k
+
+-- another region in the slot has the new key alone
 unfoldable pub OldKeyStale : Type 0
 OldKeyStale =
     (c : Card) (g : Registration) (k : ℕ) → k / 256 ≡ freeMrn c → k ≢ keyOf (freeMrn c) (newVariant c) →
     lookup (commandEffect c (Command.register g) .mr) k ≡ none
 
--- and that stands at once, also for a receive that was posted before
+-- and that stands at once, also for a receive that was posted before, where a slot could be taken
 unfoldable pub NewKeyStands : Type 0
 NewKeyStands =
-    (c : Card) (g : Registration) →
+    (c : Card) (g : Registration) → freeMrn c < mrCount →
     (lookup (commandEffect c (Command.register g) .mr) (keyOf (freeMrn c) (newVariant c)) ≡ some g) ×
     (commandEffect c (Command.register g) .qp ≡ c .qp)

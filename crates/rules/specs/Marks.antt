@@ -56,9 +56,14 @@ rounds s (suc n) = Command.deregister s ∷ Command.register (region 256 4096) �
 unfoldable pub nearlyUsed : (slot : ℕ) → Card
 nearlyUsed s = after (after platform (registrations (mrCount - 1))) (rounds s 253)
 
--- what a registration writes once the region in the slot is dropped
-abbrev pub next : Card → (slot : ℕ) → List ℕ
-next c s = drop 1 (numbersOf (commandAck (after c (Command.deregister s ∷ [])) (Command.register (region 256 4096))))
+-- the keys that a registration hands out, if it is not refused
+abbrev pub keysOf : Card → Option ℕ → Option (List ℕ)
+keysOf c none = some (drop 1 (numbersOf (commandAck c (Command.register (region 256 4096)))))
+keysOf c (some n) = none
+
+-- those of one that follows once the region in the slot is dropped
+abbrev pub next : Card → (slot : ℕ) → Option (List ℕ)
+next c s = let d = after c (Command.deregister s ∷ []) in keysOf d (refusal (commandChecks d (Command.register (region 256 4096))))
 
 -- ---- questions and results
 
@@ -77,8 +82,8 @@ pub data Verdict : Type 0 where
   permitted : Verdict
   at : (place : ℕ) → Verdict
   no : Verdict
-  -- lkey and rkey of both
-  keys : (first next : List ℕ) → Verdict
+  -- lkey and rkey of both; 02, M-109: "P9's "next" entries become none"
+  keys : (first next : Option (List ℕ)) → Verdict
   done : Verdict
   refused : (number : ℕ) → Verdict
   -- permitted for one use and not for another: the region has every right, so that this never happens
@@ -125,8 +130,8 @@ table =
     mark 7 (bytes 4096 1 2) no ∷
     mark 8 (stands 2) permitted ∷
     mark 8 (stands 1) no ∷
-    mark 9 (last 31) (keys (8191 ∷ 8191 ∷ []) (7937 ∷ 7937 ∷ [])) ∷
-    mark 9 (last 255) (keys (65535 ∷ 65535 ∷ []) (65281 ∷ 65281 ∷ [])) ∷
+    mark 9 (last 31) (keys (some (8191 ∷ 8191 ∷ [])) none) ∷
+    mark 9 (last 255) (keys (some (65535 ∷ 65535 ∷ [])) none) ∷
     mark 10 (registers 3996 4096) done ∷
     mark 10 (registers 3997 4096) (refused 11) ∷
     mark 11 (registers 256 (2 ^ 64 - 101)) done ∷

@@ -6,11 +6,12 @@ use tables::limits::QP_COUNT;
 use tables::rows;
 ghost use mathlib.Core.Path.{_≡_};
 ghost use lib.ListN.{length};
-ghost use Rattle.wire.specs.Scan.{anyBelow};
+ghost use Prim.Native.Nat.{_<_, _≤_, _+_, _*_};
+ghost use Rattle.wire.specs.Scan.{lowest, anyBelow};
 ghost use Rattle.tables.specs.State.{card};
 ghost use Rattle.tables.specs.Layout.{stateSize};
 ghost use Rattle.tables.specs.Limits.{mrCount, qpCount};
-ghost use Rattle.validate.specs.Search.{freePdn, freeCqn, freeMrn, freeQpn, mrNames, qpNames, pdInUse, cqInUse};
+ghost use Rattle.validate.specs.Search.{vacant, freePdn, freeCqn, freeMrn, freeQpn, mrNames, qpNames, pdInUse, cqInUse};
 
 pub fn free_pdn(state: &[u8]) -> usize
     requires { ⌜ length (now state) ≡ stateSize ⌝ }
@@ -26,11 +27,48 @@ pub fn free_cqn(state: &[u8]) -> usize
     wire::lowest_clear(state, rows::CQ_FLAGS, CQ_COUNT / 8)
 }
 
+// The last variant of a slot's keys.
+const LAST_VARIANT: u8 = 255;
+
+// Whether a registration may take slot n: it is free, and not retired.
+fn is_vacant(state: &[u8], n: usize) -> bool
+    requires { ⌜ (n < mrCount) × (length (now state) ≡ stateSize) ⌝ }
+    ensures { λ r. ⌜ r ≡ vacant (card (now (state .entry)) .mr n) ⌝ }
+{
+    let live = rows::load_mr_flag(state, n);
+    let r = rows::load_mr(state, n);
+    !(live == 1) & (r.variant < LAST_VARIANT)
+}
+
+// The first of the eight slots from 8 g on that a registration may take, counted from there; 8 where there is none.
+fn vacant_of_eight(state: &[u8], g: usize) -> usize
+    requires { ⌜ (8 * g + 8 ≤ mrCount) × (length (now state) ≡ stateSize) ⌝ }
+    ensures { λ r. ⌜ r ≡ lowest 8 (λ i. vacant (card (now (state .entry)) .mr (8 * g + i))) ⌝ }
+{
+    let mut i = wire::lowest_clear(state, rows::MR_FLAGS + 8 * g, 1);
+    while i < 8 {
+        if is_vacant(state, 8 * g + i) {
+            return i;
+        }
+        i += 1;
+    }
+    8
+}
+
+// Eight slots that are all live are passed at once.
 pub fn free_mrn(state: &[u8]) -> usize
     requires { ⌜ length (now state) ≡ stateSize ⌝ }
     ensures { λ r. ⌜ r ≡ freeMrn (card (now (state .entry))) ⌝ }
 {
-    wire::lowest_clear(state, rows::MR_FLAGS, MR_COUNT / 8)
+    let mut g = 0;
+    while g < MR_COUNT / 8 {
+        let i = vacant_of_eight(state, g);
+        if i < 8 {
+            return 8 * g + i;
+        }
+        g += 1;
+    }
+    MR_COUNT
 }
 
 pub fn free_qpn(state: &[u8]) -> usize

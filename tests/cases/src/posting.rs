@@ -200,7 +200,7 @@ fn marked_positions() -> Vec<Case> {
 
 fn local_pieces() -> Vec<Case> {
     let end = A_VIRT + u64::from(REGION);
-    let local: [(&str, u64, u32, u32, u8); 15] = [
+    let local: [(&str, u64, u32, u32, u8); 14] = [
         ("whole-region", A_VIRT, REGION, A_KEY, 0),
         ("one-past-the-end", A_VIRT, REGION + 1, A_KEY, 3),
         ("last-byte", end - 1, 1, A_KEY, 0),
@@ -212,7 +212,6 @@ fn local_pieces() -> Vec<Case> {
         ("key-0", A_VIRT, 1, 0, 3),
         ("key-variant-0", A_VIRT, 1, 256, 3),
         ("key-next-variant", A_VIRT, 1, A_KEY + 1, 3),
-        ("key-8192-on", A_VIRT, 1, 8192 + A_KEY, 3),
         ("key-65536-on", A_VIRT, 1, 65536 + A_KEY, 3),
         ("key-high-bits", A_VIRT, 1, 1 << 31 | A_KEY, 3),
         ("other-domains-key", B_VIRT, 1, B_KEY, 3),

@@ -44,7 +44,7 @@ impl Generator {
     pub fn begin(&mut self) -> u64 {
         self.keys.clear();
         self.goal = match self.rng.below(12) {
-            0 => Goal { domains: DOMAINS, queues: QUEUES, regions: REGIONS, pairs: PAIRS },
+            0 => Goal { domains: DOMAINS, queues: QUEUES, regions: self.rng.pick(&[32, REGIONS]), pairs: PAIRS },
             _ => Goal {
                 domains: 1 + self.rng.index(3),
                 queues: 1 + self.rng.index(4),
