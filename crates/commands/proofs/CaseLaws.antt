@@ -17,13 +17,14 @@ use Rattle.tables.specs.Limits.{pdCount, cqCount, mrCount, mostPlaces, mostAddr
 use Rattle.tables.proofs.ObjectLaws.{memory-is, mr-variant}
 use Rattle.tables.specs.Commands.{Command}
 use Rattle.validate.specs.Accept.{accessOk}
-use Rattle.validate.specs.Search.{freePdn, freeCqn, freeMrn}
+use Rattle.validate.specs.Search.{lastVariant, freePdn, freeCqn, freeMrn}
 use Rattle.tables.specs.declared.Ack.the-variants as ack
 use Rattle.tables.specs.declared.Device.{Device}
 use Rattle.tables.specs.declared.Port.{Port}
 use Rattle.tables.specs.declared.Registration.{Registration}
 use Rattle.rules.specs.Permit.{keyOf}
-use Rattle.rules.specs.Control.{commandChecks, commandAck, deviceOf, portOf, nextVariant, newVariant}
+use Rattle.rules.proofs.Variants.{new-small}
+use Rattle.rules.specs.Control.{commandChecks, commandAck, deviceOf, portOf, newVariant}
 use Rattle.rules.specs.Bytes.{commandBytes}
 use Rattle.commands.specs.Control.{Ran, bare, inRange, destroyOf, liveOf, usedOf}
 use Rattle.commands.specs.declared.Kind.{Kind}
@@ -147,8 +148,12 @@ module _ (l : List ℕ) where
         (ap (λ (x : ℕ). Done (ack.Number x)) is) (s ∙ ap (λ (x : ℕ). putRow pdFlagT l x 1) is)
 
   -- ---- register
-  pub new-variant : (n : ℕ) → n ≡ freeMrn (card l) → n < mrCount → nextVariant (rowAt mrT l n .variant) ≡ newVariant (card l)
-  new-variant n is h = ap nextVariant (sym (mr-variant l n h) ∙ ap (λ (x : ℕ). card l .mr x .variant) is)
+  pub new-variant : (n : ℕ) → n ≡ freeMrn (card l) → n < mrCount → rowAt mrT l n .variant + 1 ≡ newVariant (card l)
+  new-variant n is h = ap (λ (x : ℕ). x + 1) (sym (mr-variant l n h) ∙ ap (λ (x : ℕ). card l .mr x .variant) is)
+
+  -- it is a byte
+  pub variant-left : (n : ℕ) → n ≡ freeMrn (card l) → n < mrCount → rowAt mrT l n .variant + 1 ≤ lastVariant
+  variant-left n is h = let b : freeMrn (card l) < mrCount = omega arith in rw (new-variant n is h) (new-small (card l) b)
 
   module _ (g : Registration) where
     -- the tests of answer 11 are one

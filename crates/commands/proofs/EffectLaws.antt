@@ -34,8 +34,8 @@ use Rattle.tables.proofs.StoreLaws as store
 use Rattle.tables.specs.declared.QueueHead.{QueueHead}
 use Rattle.tables.specs.declared.Region.{Region}
 use Rattle.tables.specs.declared.Registration.{Registration}
-use Rattle.rules.proofs.Variants.{next-small}
-use Rattle.rules.specs.Control.{commandChecks, commandEffect, nextVariant, newVariant}
+use Rattle.rules.proofs.Variants.{new-small}
+use Rattle.rules.specs.Control.{commandChecks, commandEffect, newVariant}
 use Rattle.rules.specs.Bytes.{commandBytes, emptyQueue, regionRow}
 
 -- what a command that is done leaves of an accepted state
@@ -174,14 +174,7 @@ module _ (l : List ℕ) (ok : Accepted l) where
     space = ltb-false mostAddress (g .virt + g .length) (tests .1 .1 .1 .1 .0)
 
     variant : (1 ≤ v) × (v ≤ 255)
-    variant = (first (card l .mr n .variant), next-small (card l .mr n .variant))
-      where
-        first : (w : ℕ) → 1 ≤ nextVariant w
-        first w = by (leb 255 w)
-          where
-            by : (b : Bool) → 1 ≤ cond b 1 (w + 1)
-            by true = omega arith
-            by false = omega arith
+    variant = (omega arith, new-small (card l) below)
 
     fits : Fits regionCodec row
     unfolding regionCodec Fit

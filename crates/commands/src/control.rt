@@ -46,7 +46,7 @@ ghost use Rattle.tables.specs.Commands.{Command, ackNeed};
 ghost use Rattle.rules.specs.Bytes.{commandBytes};
 ghost use Rattle.rules.specs.Call.{Call};
 ghost use Rattle.rules.specs.Contract.{Owes};
-ghost use Rattle.rules.specs.Control.{nextVariant, newVariant};
+ghost use Rattle.rules.specs.Control.{newVariant};
 ghost use Rattle.rules.specs.Permit.{keyOf};
 ghost use Rattle.commands.specs.Control.{Ran, Chosen, Classed, numbered, registering, bare, inRange, outcomeAck, outcomeAnswer};
 
@@ -148,20 +148,6 @@ fn in_range(memory: u64, g: Registration) -> bool
     !(g.length == 0) & in_memory & in_space
 }
 
-// The variants of a slot's keys.
-const FIRST_VARIANT: u8 = 1;
-
-const LAST_VARIANT: u8 = 255;
-
-fn next_variant(v: u8) -> u8
-    ensures { λ r. ⌜ r ≡ nextVariant v ⌝ }
-{
-    if LAST_VARIANT <= v {
-        return FIRST_VARIANT;
-    }
-    v + 1
-}
-
 fn key_of(n: usize, variant: u8) -> u32
     requires { ⌜ n < mrCount ⌝ }
     ensures { λ r. ⌜ r ≡ keyOf n variant ⌝ }
@@ -175,7 +161,7 @@ fn put_region(state: &mut [u8], n: usize, g: Registration) -> u8
         × (accessOk (g .access) ≡ true) × (card (now state) .pd (g .pd) ≡ true) ⌝ }
     ensures { λ r. ⌜ (r ≡ newVariant (card (now (state .entry)))) × (now (state .exit) ≡ commandBytes (now (state .entry)) (Command.register g)) ⌝ }
 {
-    let variant = next_variant(rows::load_mr(state, n).variant);
+    let variant = rows::load_mr(state, n).variant + 1;
     let row = Region {
         access: g.access as u8,
         variant: variant,

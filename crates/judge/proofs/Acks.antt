@@ -14,7 +14,7 @@ use Rattle.tables.specs.Commands.{Command, ackFields, ackLeast, encodeAck, numb
 use Rattle.validate.specs.Search.{freePdn, freeCqn, freeMrn, freeQpn}
 use Rattle.rules.specs.Permit.{keyOf}
 use Rattle.rules.specs.Control.{commandChecks, commandAck, newVariant}
-use Rattle.rules.proofs.Variants.{next-small}
+use Rattle.rules.proofs.Variants.{new-small}
 use Rattle.judge.specs.Log.{ackData}
 
 module _ (a : List ℕ) (h : ackLeast ≤ length a) where
@@ -43,7 +43,7 @@ module _ (a : List ℕ) (h : ackLeast ≤ length a) where
   ack-back c (Command.destroyPd n) p = none-written
   ack-back c (Command.register g) p =
       let i : freeMrn c < mrCount = leb-false mrCount (freeMrn c) (p .1 .1 .1 .1 .1 .0) in
-      let v = next-small (c .mr (freeMrn c) .variant) in
+      let v = new-small c i in
       let k : keyOf (freeMrn c) (newVariant c) < 256 ^ 4 = omega arith in
       three-written (freeMrn c) (keyOf (freeMrn c) (newVariant c)) (keyOf (freeMrn c) (newVariant c)) (omega arith) k k
   ack-back c (Command.deregister n) p = none-written

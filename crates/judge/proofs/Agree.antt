@@ -7,9 +7,9 @@ use Prim.Native.Nat.{ℕ, _+_, _<_, _≤_}
 use native.Mathlib.Omega.{arith}
 use lib.Dec.{eqb}
 use lib.ListN.{length}
-use borrow.Author.Tests.{eqb-true, leb-false, ltb-false, not-true, not-false}
+use borrow.Author.Tests.{eqb-true, leb-false, ltb-false, not-false}
 use Rattle.wire.specs.Checks.{Passed}
-use Rattle.wire.proofs.ScanLaws.{lowest-passes, and-left, and-off}
+use Rattle.wire.proofs.ScanLaws.{and-left, and-off}
 use Rattle.wire.proofs.SlotLaws.{split, same}
 use Rattle.tables.specs.Limits.{mrCount, qpCount, mostAddress}
 use Rattle.tables.specs.Card.{Card, Mr, Qp, fresh}
@@ -26,8 +26,10 @@ use Rattle.rules.specs.Call.{Call}
 use Rattle.rules.specs.Calls.{checks, controlChecks, effect, statusOf, bufferAfter}
 use Rattle.rules.specs.declared.Answer.the-variants.{Done}
 use Rattle.rules.proofs.Tests.{passed-before, passed-after}
+use Rattle.rules.proofs.Variants.{slot-free}
 use Rattle.judge.specs.Log.{Log, PairNote, noteCommand, fed, ackData, Note}
 use Rattle.judge.specs.Judge.{Standing, standing, told, domain, peer, accepted, taken}
+use Rattle.judge.specs.Distinct.{handed, Distinct}
 use Rattle.judge.specs.Dropped.{dropped}
 use Rattle.judge.proofs.Acks.{ack-back}
 use Rattle.judge.proofs.Keys
@@ -37,18 +39,18 @@ use Rattle.judge.proofs.Pairs.{Pair, Said, said, saidBy}
 use Rattle.wire.specs.Codec.{putFields}
 
 -- the tables agree with what a log says. The parameters are functions, so that where a call changes none of them the old agreement is the new one.
-pub record Agreed (n : ℕ) (mr : ℕ → Mr) (qp : ℕ → Qp) (st : ℕ → Option Standing) (dr : ℕ → Bool) (sd : ℕ → Said) : Type 0 where
-  pub keys : Keys n mr st dr
+pub record Agreed (n : ℕ) (mr : ℕ → Mr) (qp : ℕ → Qp) (st : ℕ → Option Standing) (dr hd : ℕ → Bool) (D : Type 0) (sd : ℕ → Said) : Type 0 where
+  pub keys : Keys n mr st dr hd D
   pub pairs : (q : ℕ) → Pair (qp q) (sd q)
 
 abbrev pub Agree : Card → Log → Type 0
-Agree c l = Agreed (c .memory) (c .mr) (c .qp) (standing l) (dropped l) (said l)
+Agree c l = Agreed (c .memory) (c .mr) (c .qp) (standing l) (dropped l) (handed l) (Distinct l) (said l)
 
 -- ---- control commands
 
 module _ (c : Card) (l : Log) (a : Agree c l) where
   command : (k : Command) → Passed (commandChecks c k) → Agree (commandEffect c k) (noteCommand k (numbersOf (commandAck c k)) ∷ l)
-  unfolding commandChecks commandEffect commandAck standing dropped told domain peer accepted taken
+  unfolding commandChecks commandEffect commandAck standing dropped handed Distinct told domain peer accepted taken
   command Command.queryDevice p = a
   command Command.queryPort p = a
   command (Command.createCq n) p = a
@@ -59,14 +61,13 @@ module _ (c : Card) (l : Log) (a : Agree c l) where
       let i : freeMrn c < mrCount = leb-false mrCount (freeMrn c) (p .1 .1 .1 .1 .1 .0) in
       record {
         keys =
-            Keys.registers (c .memory) (c .mr) (standing l) (dropped l) (a .keys) (freeMrn c) g
-            (not-true (c .mr (freeMrn c) .live) (lowest-passes mrCount (λ i. not (c .mr i .live)) i))
+            Keys.registers (c .memory) (c .mr) (standing l) (dropped l) (handed l) (Distinct l) (a .keys) (freeMrn c) g (slot-free c i .0) (slot-free c i .1)
             (Keys.flat-inside (c .memory) g (ltb-false (c .memory) (g .start + g .length) (p .1 .1 .1 .0))
             (ltb-false mostAddress (g .virt + g .length) (p .1 .1 .1 .1 .0)));
         pairs = a .pairs;
       }
   command (Command.deregister n) p =
-      record { keys = Keys.deregisters (c .memory) (c .mr) (standing l) (dropped l) (a .keys) n; pairs = a .pairs }
+      record { keys = Keys.deregisters (c .memory) (c .mr) (standing l) (dropped l) (handed l) (Distinct l) (a .keys) n; pairs = a .pairs }
   command (Command.createQp r) p =
       record {
         keys = a .keys;
@@ -81,10 +82,18 @@ module _ (c : Card) (l : Log) (a : Agree c l) where
       record { keys = a .keys; pairs = split q _ (rw same (λ e. absurd (false≢true e))) (λ j e. rw e (a .pairs j)) }
 
 pub start : (n : ℕ) → Agree (fresh n) []
-unfolding standing dropped told domain peer accepted taken
+unfolding standing dropped handed Distinct told domain peer accepted taken
 start n =
     record {
-      keys = record { finds = λ k. refl; gone = λ k e. refl; inside = λ i e. absurd (false≢true e); small = λ i. omega arith };
+      keys = record {
+        finds = λ k. refl;
+        gone = λ k e. refl;
+        given = λ k e. absurd (false≢true e);
+        spent = λ k e. absurd (false≢true e);
+        distinct = tt;
+        inside = λ i e. absurd (false≢true e);
+        small = λ i. omega arith;
+      };
       pairs = λ q e. absurd (false≢true e);
     }
 
@@ -143,7 +152,7 @@ sent-pairs c q r l s p a j =
 -- ---- every accepted call
 
 pub accepted-call : (c : Card) (k : Call) (l : Log) → Passed (checks c k) → Agree c l → Agree (effect c k) (fed l k (Done (statusOf c k)) (bufferAfter c k))
-unfolding checks controlChecks flushChecks effect sendEffect joined flushed polled statusOf bufferAfter fed standing dropped told domain peer accepted taken
+unfolding checks controlChecks flushChecks effect sendEffect joined flushed polled statusOf bufferAfter fed standing dropped handed Distinct told domain peer accepted taken
 accepted-call c (Call.reset n) l p a = start n
 accepted-call c (Call.control k b) l p a =
     known (commandOf k) (passed-after (controlChecks k b) (maybe [] (commandChecks c) (commandOf k)) p)

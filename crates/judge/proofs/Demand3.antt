@@ -16,6 +16,7 @@ use Rattle.rules.specs.Send.{peerOf, takenBy, ownUse, farUse, statusBy, sendSta
 use Rattle.judge.specs.Log.{Log}
 use Rattle.judge.specs.Judge.{Right, passes, placed, party, peer, waiting, standing, Work, Source, filled, farRight, near, far, allPass, fitsReceive, nearPasses, farPasses, judge, readSide, writtenSide, sources, valueOf, judgedMemory}
 use Rattle.judge.specs.Demand3.{Correct, WorkClaim}
+use Rattle.judge.specs.Distinct.{handed, Distinct}
 use Rattle.judge.specs.Dropped.{dropped}
 use Rattle.judge.proofs.Rights.{needs-right, own-right, far-right, same-fills}
 use Rattle.judge.proofs.Keys
@@ -67,11 +68,11 @@ module _ (c : Card) (l : Log) (a : Agree c l) where
   same-passes : (q : ℕ) (u : Use) → c .qp q .live ≡ true → passes l (party l (some q)) (needs-right u) ≡ permits c q u
   unfolding passes permits
   same-passes q u h =
-      fun-ext (λ b. rw (a .pairs q h .domain) (Keys.same-covers (c .memory) (c .mr) (standing l) (dropped l) (a .keys) (b .key) (c .qp q .pd) u (b .address)))
+      fun-ext (λ b. rw (a .pairs q h .domain) (Keys.same-covers (c .memory) (c .mr) (standing l) (dropped l) (handed l) (Distinct l) (a .keys) (b .key) (c .qp q .pd) u (b .address)))
 
   pub same-place : placed l ≡ place c
   unfolding placed place
-  same-place = fun-ext (λ b. Keys.same-place (c .memory) (c .mr) (standing l) (dropped l) (a .keys) (b .key) (b .address))
+  same-place = fun-ext (λ b. Keys.same-place (c .memory) (c .mr) (standing l) (dropped l) (handed l) (Distinct l) (a .keys) (b .key) (b .address))
 
   module _ (q : ℕ) (r : Request) {m : List ℕ} (p : Sendable c q r m) where
     pub same-peer : peer l q ≡ some (peerOf c q)
@@ -131,5 +132,5 @@ correct c l a q r m p =
     record {
       verdict = verdict c l a q r p;
       memory = rw (verdict c l a q r p, same-delivered l q r m, same-filled c l a q r p, same-place c l a);
-      inside = λ x u b. rw (p .whole) (Keys.all-inside (c .memory) (c .mr) (standing l) (dropped l) (a .keys) (b .key) x u (b .address));
+      inside = λ x u b. rw (p .whole) (Keys.all-inside (c .memory) (c .mr) (standing l) (dropped l) (handed l) (Distinct l) (a .keys) (b .key) x u (b .address));
     }

@@ -1,22 +1,22 @@
 -- The region table against the log: a key finds the same registration in both. Assumes nothing.
-use mathlib.Core.Path.{_≡_, refl, sym, subst, _∙_}
-use mathlib.Core.Bool.{Bool, true, false, cond, not, _&&_, _||_, false≢true}
+use mathlib.Core.Path.{_≡_, refl, sym, ap, subst, _∙_}
+use mathlib.Core.Bool.{Bool, true, false, cond, _&&_, _||_, false≢true}
 use mathlib.Core.Option.{Option, none, some, Option·some-ne-none}
-use Prim.Native.Nat.{ℕ, _+_, _/_, _^_, _≤_, _<_}
+use Prim.Native.Nat.{ℕ, _+_, _/_, _%_, _^_, _≤_, _<_}
 use native.Mathlib.Omega.{arith}
 use lib.Dec.{eqb, leb, ltb}
 use borrow.Author.Tests.{eq-eqb, ne-eqb, eqb-true, eqb-false, leb-true, ltb-true}
 use Rattle.wire.specs.Slots.{upd}
 use Rattle.wire.proofs.SlotLaws.{split, same}
-use Rattle.wire.proofs.ScanLaws.{and-left, and-right}
+use Rattle.wire.proofs.ScanLaws.{and-left, and-right, or-true}
 use Rattle.tables.specs.Limits.{mostAddress}
 use Rattle.tables.specs.Card.{Mr, freeMr}
 use Rattle.tables.specs.declared.Registration.{Registration}
 use Rattle.rules.specs.Lists.{names}
 use Rattle.rules.specs.Touch.{byteOf}
 use Rattle.rules.specs.Permit.{keyOf, lookup, covers, placeIn, Use}
-use Rattle.rules.specs.Control.{nextVariant}
-use Rattle.rules.proofs.Variants.{next-small, slot}
+use Rattle.validate.specs.Search.{lastVariant}
+use Rattle.rules.proofs.Variants.{slot}
 use Rattle.judge.specs.Judge.{Standing, Party, Right, grants, unless, passesBy, placeBy}
 use Rattle.judge.proofs.Rights.{needs-right, same-right}
 
@@ -35,10 +35,14 @@ flat-inside n g h b a v w = (omega arith, omega arith)
 abbrev pub heldAt : Mr → (i k : ℕ) → Option Standing
 heldAt s i k = cond (s .live && eqb (keyOf i (s .variant)) k) (some (record { mrn = i; reg = s .reg })) none
 
--- the table mr agrees with what the log says of each key: its standing registration, and whether it is dropped
-pub record Keys (n : ℕ) (mr : ℕ → Mr) (st : ℕ → Option Standing) (dr : ℕ → Bool) : Type 0 where
+-- the table mr agrees with what the log says of each key: its standing registration, whether it is dropped, and whether it was handed out;
+-- D says that no key was handed out twice
+pub record Keys (n : ℕ) (mr : ℕ → Mr) (st : ℕ → Option Standing) (dr hd : ℕ → Bool) (D : Type 0) : Type 0 where
   pub finds : (k : ℕ) → heldAt (mr (k / 256)) (k / 256) k ≡ st k
   pub gone : (k : ℕ) → dr k ≡ true → st k ≡ none
+  pub given : (k : ℕ) → dr k ≡ true → hd k ≡ true
+  pub spent : (k : ℕ) → hd k ≡ true → k % 256 ≤ mr (k / 256) .variant
+  pub distinct : D
   pub inside : (i : ℕ) → mr i .live ≡ true → Inside n (mr i .reg)
   pub small : (i : ℕ) → mr i .variant ≤ 255
 
@@ -70,49 +74,78 @@ unless-other : (i j : ℕ) (g : Registration) → eqb i j ≡ false → (b : Boo
 unless-other i j g e true = rw e
 unless-other i j g e false = refl
 
-module _ (n : ℕ) (mr : ℕ → Mr) (st : ℕ → Option Standing) (dr : ℕ → Bool) (agree : Keys n mr st dr) (i : ℕ) where
+module _ (n : ℕ) (mr : ℕ → Mr) (st : ℕ → Option Standing) (dr hd : ℕ → Bool) (D : Type 0) (agree : Keys n mr st dr hd D) (i : ℕ) where
   in-slot : (j k : ℕ) → k / 256 ≡ j → heldAt (mr j) j k ≡ st k
   in-slot j k e = subst (λ x. heldAt (mr x) x k ≡ st k) e (agree .finds k)
 
-  -- a free slot takes a registration, under the next variant
-  pub registers : (g : Registration) → mr i .live ≡ false → Inside n g →
-      let v = nextVariant (mr i .variant) in
-      Keys n (upd mr i (record { live = true; variant = v; reg = g }))
-      (λ k. cond (eqb (keyOf i v) k || eqb (keyOf i v) k) (some (record { mrn = i; reg = g })) (st k))
-      (λ k. not (eqb (keyOf i v) k || eqb (keyOf i v) k) && dr k)
-  registers g free fits =
+  -- a free slot with a variant left takes a registration, under the next one
+  pub registers : (g : Registration) → mr i .live ≡ false → mr i .variant < lastVariant → Inside n g →
+      let k₁ = keyOf i (mr i .variant + 1) in
+      Keys n (upd mr i (record { live = true; variant = mr i .variant + 1; reg = g }))
+      (λ k. cond (eqb k₁ k || eqb k₁ k) (some (record { mrn = i; reg = g })) (st k)) dr (λ k. eqb k₁ k || eqb k₁ k || hd k)
+      ((((hd k₁ ≡ false) × (hd k₁ ≡ false))) × D)
+  registers g free left fits =
       record {
-        finds = λ k. rw (or-same (eqb (keyOf i v) k)) (finds′ k);
-        gone = λ k. still-gone (eqb (keyOf i v) k || eqb (keyOf i v) k) k;
+        finds = λ k. rw (or-same (eqb k₁ k)) (finds′ k);
+        gone = λ k h. rw (or-same (eqb k₁ k)) (still-gone k h (eqb k₁ k) refl);
+        given = λ k h. rw (agree .given k h) (or-true (eqb k₁ k || eqb k₁ k));
+        spent = λ k. rw (or-same (eqb k₁ k)) (spent′ k (eqb k₁ k) refl);
+        distinct = ((unheard (hd k₁) refl, unheard (hd k₁) refl), agree .distinct);
         inside = split i _ (rw same (λ e. fits)) (λ j e. rw e (agree .inside j));
         small = split i _ (rw same small′) (λ j e. rw e (agree .small j));
       }
     where
-      v : ℕ
-      v = nextVariant (mr i .variant)
+      k₁ : ℕ
+      k₁ = keyOf i (mr i .variant + 1)
 
       new : Mr
-      new = record { live = true; variant = v; reg = g }
+      new = record { live = true; variant = mr i .variant + 1; reg = g }
 
-      still-gone : (b : Bool) (k : ℕ) → (not b && dr k) ≡ true → cond b (some (record { mrn = i; reg = g })) (st k) ≡ none
-      still-gone true k e = absurd (false≢true e)
-      still-gone false k e = agree .gone k e
+      small′ : mr i .variant + 1 ≤ 255
+      small′ = omega arith
 
-      small′ : v ≤ 255
-      small′ = next-small (mr i .variant)
+      -- its key was never handed out: the slot's variant would be as large
+      unheard : (b : Bool) → hd k₁ ≡ b → b ≡ false
+      unheard true e =
+          let h : k₁ % 256 ≤ mr i .variant = rw (slot i (mr i .variant + 1) small′) at (agree .spent k₁ e) in absurd (omega arith)
+      unheard false e = refl
 
-      finds′ : (k : ℕ) → heldAt (upd mr i new (k / 256)) (k / 256) k ≡ cond (eqb (keyOf i v) k) (some (record { mrn = i; reg = g })) (st k)
+      still-gone : (k : ℕ) → dr k ≡ true → (b : Bool) → eqb k₁ k ≡ b → cond b (some (record { mrn = i; reg = g })) (st k) ≡ none
+      still-gone k h true e =
+          let q : hd k₁ ≡ true = ap hd (eqb-true k₁ k e) ∙ agree .given k h in absurd (false≢true (sym (unheard (hd k₁) refl) ∙ q))
+      still-gone k h false e = agree .gone k h
+
+      spent′ : (k : ℕ) (b : Bool) → eqb k₁ k ≡ b → (b || hd k) ≡ true → k % 256 ≤ upd mr i new (k / 256) .variant
+      spent′ k b e h =
+          split i (λ j. k / 256 ≡ j → k % 256 ≤ upd mr i new j .variant)
+          (λ p. rw (same i) (here b e h p))
+          (λ j d p. rw d (subst (λ x. k % 256 ≤ mr x .variant) p (agree .spent k (there b e h (subst (λ x. eqb i x ≡ false) (sym p) d)))))
+          (k / 256) refl
+        where
+          here : (b : Bool) → eqb k₁ k ≡ b → (b || hd k) ≡ true → k / 256 ≡ i → k % 256 ≤ mr i .variant + 1
+          here true e h p = let q : k₁ ≡ k = eqb-true k₁ k e in omega arith
+          here false e h p = let q : k % 256 ≤ mr i .variant = rw p at (agree .spent k h) in omega arith
+
+          there : (b : Bool) → eqb k₁ k ≡ b → (b || hd k) ≡ true → eqb i (k / 256) ≡ false → hd k ≡ true
+          there true e h d = absurd (false≢true (sym (other-key i (mr i .variant + 1) k small′ d) ∙ e))
+          there false e h d = h
+
+      finds′ : (k : ℕ) → heldAt (upd mr i new (k / 256)) (k / 256) k ≡ cond (eqb k₁ k) (some (record { mrn = i; reg = g })) (st k)
       finds′ k =
-          split i (λ j. k / 256 ≡ j → heldAt (upd mr i new j) j k ≡ cond (eqb (keyOf i v) k) (some (record { mrn = i; reg = g })) (st k))
+          split i (λ j. k / 256 ≡ j → heldAt (upd mr i new j) j k ≡ cond (eqb k₁ k) (some (record { mrn = i; reg = g })) (st k))
           (λ e. rw (same i, sym (in-slot i k e) ∙ dead (mr i) i k free) refl)
-          (λ j e p. rw (e, other-key i v k small′ (subst (λ x. eqb i x ≡ false) (sym p) e)) (in-slot j k p))
+          (λ j e p. rw (e, other-key i (mr i .variant + 1) k small′ (subst (λ x. eqb i x ≡ false) (sym p) e)) (in-slot j k p))
           (k / 256) refl
 
   -- a slot is dropped
-  pub deregisters : Keys n (upd mr i (freeMr (mr i .variant))) (λ k. unless i (st k)) (λ k. eqb i (k / 256) || dr k)
+  pub deregisters : Keys n (upd mr i (freeMr (mr i .variant))) (λ k. unless i (st k)) (λ k. eqb i (k / 256) && hd k || dr k) hd D
   deregisters =
       record {
-        gone = λ k. now-gone k (eqb i (k / 256)) refl;
+        gone = λ k. now-gone k (eqb i (k / 256)) refl (hd k);
+        given = λ k. was k (eqb i (k / 256)) (hd k) refl;
+        spent = λ k h. split i (λ j. k / 256 ≡ j → k % 256 ≤ upd mr i (freeMr (mr i .variant)) j .variant)
+            (λ p. rw (same i, ← p) (agree .spent k h)) (λ j d p. rw (d, ← p) (agree .spent k h)) (k / 256) refl;
+        distinct = agree .distinct;
         finds = λ k. split i (λ j. k / 256 ≡ j → heldAt (upd mr i (freeMr (mr i .variant)) j) j k ≡ unless i (st k))
             (λ e. rw (same i, ← in-slot i k e) (unless-same i (mr i .reg) (mr i .live && eqb (keyOf i (mr i .variant)) k)))
             (λ j e p. rw (e, ← in-slot j k p) (unless-other i j (mr j .reg) e (mr j .live && eqb (keyOf j (mr j .variant)) k)))
@@ -121,14 +154,19 @@ module _ (n : ℕ) (mr : ℕ → Mr) (st : ℕ → Option Standing) (dr : ℕ �
         small = split i _ (rw same (agree .small i)) (λ j e. rw e (agree .small j));
       }
     where
-      now-gone : (k : ℕ) (b : Bool) → eqb i (k / 256) ≡ b → (b || dr k) ≡ true → unless i (st k) ≡ none
-      now-gone k true e h =
+      now-gone : (k : ℕ) (b : Bool) → eqb i (k / 256) ≡ b → (g : Bool) → (b && g || dr k) ≡ true → unless i (st k) ≡ none
+      now-gone k true e g h =
           rw (← in-slot i k (sym (eqb-true i (k / 256) e))) (sym (unless-same i (mr i .reg) (mr i .live && eqb (keyOf i (mr i .variant)) k)))
-      now-gone k false e h = rw (agree .gone k h)
+      now-gone k false e g h = rw (agree .gone k h)
+
+      was : (k : ℕ) (b g : Bool) → hd k ≡ g → (b && g || dr k) ≡ true → hd k ≡ true
+      was k true true e h = e
+      was k true false e h = agree .given k h
+      was k false g e h = agree .given k h
 
 -- ---- what a key permits
 
-module _ (n : ℕ) (mr : ℕ → Mr) (st : ℕ → Option Standing) (dr : ℕ → Bool) (agree : Keys n mr st dr) where
+module _ (n : ℕ) (mr : ℕ → Mr) (st : ℕ → Option Standing) (dr hd : ℕ → Bool) (D : Type 0) (agree : Keys n mr st dr hd D) where
   pub same-covers : (k pd : ℕ) (u : Use) (a : ℕ) → passesBy (st k) (record { domain = some pd }) (needs-right u) a ≡ covers (lookup mr k) pd u a
   unfolding lookup covers
   same-covers k pd u a = rw (← agree .finds k) (go (mr (k / 256) .live && eqb (keyOf (k / 256) (mr (k / 256) .variant)) k))
@@ -185,6 +223,6 @@ found-inside n s i k p u a f = go (s .live && eqb (keyOf i (s .variant)) k) refl
     go true e = placed-inside n held p u a (f (and-left (s .live) (eqb (keyOf i (s .variant)) k) e))
     go false e = λ h. absurd (false≢true h)
 
-pub all-inside : (n : ℕ) (mr : ℕ → Mr) (st : ℕ → Option Standing) (dr : ℕ → Bool) → Keys n mr st dr →
+pub all-inside : (n : ℕ) (mr : ℕ → Mr) (st : ℕ → Option Standing) (dr hd : ℕ → Bool) (D : Type 0) → Keys n mr st dr hd D →
     (k : ℕ) (p : Party) (u : Right) (a : ℕ) → passesBy (st k) p u a ≡ true → (placeBy (st k) a < n) × (a < 2 ^ 64)
-all-inside n mr st dr agree k p u a = rw (← agree .finds k) (found-inside n (mr (k / 256)) (k / 256) k p u a (agree .inside (k / 256)))
+all-inside n mr st dr hd D agree k p u a = rw (← agree .finds k) (found-inside n (mr (k / 256)) (k / 256) k p u a (agree .inside (k / 256)))

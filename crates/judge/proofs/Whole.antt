@@ -15,13 +15,14 @@ use Rattle.rules.specs.Call.{leaving}
 use Rattle.rules.specs.Calls.{owed, Meets}
 use Rattle.rules.proofs.Answers.{code-back}
 use Rattle.rules.proofs.Exported.{met}
-use Rattle.judge.specs.Demand3.{Seen, Correct, Bytewise}
+use Rattle.judge.specs.Demand3.{Seen, heard, Correct, Bytewise}
 use Rattle.judge.specs.Apart.{Apart}
 use Rattle.judge.specs.Count.{Puts}
+use Rattle.judge.specs.Distinct.{Distinct}
 use Rattle.judge.specs.Dropped.{Gone, Loses, Fruitless}
 use Rattle.judge.specs.Whole.{Met, Whole, FromC}
 use Rattle.judge.proofs.Demand3.{correct}
-use Rattle.judge.proofs.Run.{of-cards, every, every-work, resumed, steady}
+use Rattle.judge.proofs.Run.{still-agrees, of-cards, every, every-work, resumed, steady}
 use Rattle.judge.proofs.Dropped.{fruitless, stays-held}
 use Rattle.judge.proofs.Bytes.{bytewise}
 use Rattle.judge.proofs.Apart.{apart}
@@ -39,6 +40,7 @@ of-all Made met =
       apart = every-work Made card accepts met Apart apart;
       resumed = resumed Made card accepts met;
       steady = steady Made card accepts met accepted-length;
+      distinct = every Made card accepts met (λ st l x. Distinct (heard l x)) (λ st l x a h. still-agrees card accepts st l x a h .keys .distinct);
       gone = every Made card accepts met Gone (λ st l x a h. a .keys .gone);
       fruitless = every Made card accepts met (Fruitless card) (of-cards card accepts Loses fruitless);
       held = stays-held card accepts Made met;

@@ -1,7 +1,7 @@
 -- A region dropped under a waiting receive, or under a remote key, along the list of calls: whatever calls stand between, the work request
--- that touches it gets what the rules say, and no key of the slot comes back but by a registration that hands it out. Assumes nothing.
+-- that touches it gets what the rules say, and its key never comes back. Assumes nothing.
 use mathlib.Core.Path.{_≡_}
-use mathlib.Core.Bool.{Bool, true, false, not, _&&_, _||_}
+use mathlib.Core.Bool.{Bool, true, false, _&&_, _||_}
 use mathlib.Core.List.{List, [], _∷_}
 use mathlib.Core.Option.{none, some}
 use Prim.Native.Nat.{ℕ, _/_, _<_}
@@ -14,21 +14,22 @@ use Rattle.rules.specs.Call.{Call, memoryOf}
 use Rattle.rules.specs.declared.Answer.the-variants.{Done}
 use Rattle.rules.specs.Dropped.{Lost}
 use Rattle.judge.specs.Log.{Log, Note, KeyNote}
+use Rattle.judge.specs.Distinct.{handed}
 use Rattle.judge.specs.Judge.{standing, Work, far, fitsReceive, nearPasses}
 use Rattle.judge.specs.Demand3.{noByte, Seen, Claim, work, Ran, Linked}
 
--- the slot of the key k, which is k / 256, was dropped, and no registration since then handed the key out
-abbrev pub droppedBy : KeyNote → (k : ℕ) → Bool → Bool
-droppedBy (KeyNote.registered m lkey rkey g) k b = not (eqb lkey k || eqb rkey k) && b
-droppedBy (KeyNote.deregistered m) k b = eqb m (k / 256) || b
+-- the key k was handed out, and then its slot, which is k / 256, was dropped
+abbrev pub droppedBy : KeyNote → (k : ℕ) → (given : Bool) → Bool → Bool
+droppedBy (KeyNote.registered m lkey rkey g) k given b = b
+droppedBy (KeyNote.deregistered m) k given b = eqb m (k / 256) && given || b
 
 unfoldable pub dropped : Log → (k : ℕ) → Bool
 dropped [] k = false
-dropped (Note.ofKey n ∷ l) k = droppedBy n k (dropped l k)
+dropped (Note.ofKey n ∷ l) k = droppedBy n k (handed l k) (dropped l k)
 dropped (Note.ofPair q n ∷ l) k = dropped l k
 dropped (Note.other ∷ l) k = dropped l k
 
--- at each call of the list, such a key's registration does not stand
+-- at each call of the list, such a key's registration does not stand: however old the key is, it stays so to the next reset
 abbrev pub Gone : Claim
 Gone st l x = (k : ℕ) → dropped l k ≡ true → standing l k ≡ none
 

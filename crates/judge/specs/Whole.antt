@@ -9,9 +9,10 @@ use Rattle.tables.specs.State.{card}
 use Rattle.rules.specs.Answer.{answerIn}
 use Rattle.rules.specs.Calls.{Meets}
 use Rattle.rules.specs.Contract.{Exports}
-use Rattle.judge.specs.Demand3.{Seen, Bytewise, OfWork, Every, Demand3, Resumed, Steady}
+use Rattle.judge.specs.Demand3.{Seen, heard, Bytewise, OfWork, Every, Demand3, Resumed, Steady}
 use Rattle.judge.specs.Apart.{Apart}
 use Rattle.judge.specs.Count.{Puts, Counted}
+use Rattle.judge.specs.Distinct.{Distinct}
 use Rattle.judge.specs.Dropped.{Gone, Fruitless, StaysHeld}
 
 -- The call x met its contract on the state st.
@@ -37,6 +38,8 @@ pub record Whole (Made : (st : List ℕ) → Seen → Type 0) : Type 0 where
   pub resumed : Resumed Made card
   -- no call of the list finds its state unacceptable
   pub steady : Every Made (Steady accepts)
+  -- no key is handed out twice
+  pub distinct : Every Made (λ st l x. Distinct (heard l x))
   -- the keys of a dropped region stay gone, and a work request that needs one fails as the rules say
   pub gone : Every Made Gone
   pub fruitless : Every Made (Fruitless card)

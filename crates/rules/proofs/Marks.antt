@@ -167,8 +167,11 @@ module _ (s : ℕ) (inside : s < mrCount) where
 
   no-keys : next (used 255) s ≡ none
   no-keys =
-      rw (drops 255, refused (upd (fills mrCount) s (freeMr 255))
-      (split s (λ k. k < mrCount → vacant (upd (fills mrCount) s (freeMr 255) k) ≡ false) (rw (same s) (λ h. refl)) (λ k e h. rw (others 255 k h e))))
+      rw (
+        drops 255,
+        refused (upd (fills mrCount) s (freeMr 255))
+            (split s (λ k. k < mrCount → vacant (upd (fills mrCount) s (freeMr 255) k) ≡ false) (rw (same s) (λ h. refl)) (λ k e h. rw (others 255 k h e))),
+      )
 
   p9 : ask (Question.last s) ≡ Verdict.keys (some (keyOf s 255 ∷ keyOf s 255 ∷ [])) none
   p9 = rw (nearly, round 254 (omega arith)) (ap₂ Verdict.keys last-keys no-keys)
