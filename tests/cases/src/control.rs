@@ -161,8 +161,8 @@ fn registrations() -> Vec<Case> {
     cases
 }
 
-/// Every slot is taken, and the named one dropped and taken again up to its variant 255, and once more.
-fn last_variant(slot: u32, last: u32, next: u32) -> Script {
+/// Every slot is taken, and the named one dropped and taken again up to its variant 255; then it is retired.
+fn last_variant(slot: u32, last: u32) -> Script {
     let mut script = Script::new();
     script.create(create_domain(), 0);
     for n in 0..256 {
@@ -173,7 +173,7 @@ fn last_variant(slot: u32, last: u32, next: u32) -> Script {
         script.done(deregister(slot)).register(0, 7, 0, 1, 0, 256 * slot + variant);
     }
     script.done(deregister(slot)).register(0, 7, 0, 1, 0, last);
-    script.done(deregister(slot)).register(0, 7, 0, 1, 0, next);
+    script.done(deregister(slot)).refused(register(0, 7, 0, 1, 0), 8).refused(register(0, 2, 0, 1, 0), 4);
     script
 }
 
@@ -185,7 +185,7 @@ fn keys() -> Vec<Case> {
     let mut wrap = Script::new();
     wrap.create(create_domain(), 0);
     for n in 0..260u32 {
-        wrap.register(0, 7, 0, 1, 0, n % 255 + 1).done(deregister(0));
+        wrap.register(0, 7, 0, 1, 0, 256 * (n / 255) + n % 255 + 1).done(deregister(n / 255));
     }
     let mut unused = Script::joined();
     unused.done(deregister(0)).refused(register(0, 8, 0, 1, 0), 4).refused(register(0, 7, 0, 0, 0), 11);
@@ -196,11 +196,20 @@ fn keys() -> Vec<Case> {
     }
     lowest.refused(register(0, 7, 0, 1, 0), 8).done(deregister(255)).done(deregister(4));
     lowest.register(0, 7, 0, 1, 0, 256 * 4 + 2).register(0, 7, 0, 1, 0, 256 * 255 + 2).refused(register(0, 7, 0, 1, 0), 8);
+    // slot 0 is joined's first region: its last key works while it is live, and then the slot is passed over
+    let mut retired = Script::joined();
+    for variant in 2..=255 {
+        retired.done(deregister(0)).register(0, 7, 256, 100, 4096, variant);
+    }
+    retired.send(0, key(255).remote(B_VIRT, B_KEY), 0, 0).done(deregister(0)).register(0, 7, 256, 100, 4096, 513);
+    retired.done(deregister(2)).register(0, 7, 256, 100, 4096, 514).register(0, 7, 256, 100, 4096, 769);
+    retired.send(0, key(514).remote(B_VIRT, B_KEY), 0, 0).send(0, key(255).remote(B_VIRT, B_KEY), 0, 3);
     vec![
+        retired.named("retired-slot-is-passed-over"),
         again.named("p8-dropped-and-registered-again"),
         wrap.named("variants-past-255"),
-        last_variant(31, 8191, 7937).named("p9-slot-31-variant-255"),
-        last_variant(255, 65535, 65281).named("p9-slot-255-variant-255"),
+        last_variant(31, 8191).named("p9-slot-31-variant-255"),
+        last_variant(255, 65535).named("p9-slot-255-variant-255"),
         unused.named("refused-registration-takes-no-variant"),
         lowest.named("regions-257th-is-8-lowest-free"),
     ]

@@ -11,7 +11,7 @@ const LEFT: u8 = 0xa5;
 type Check = (&'static str, fn(&dyn Card));
 
 /// Every check by its name.
-pub const CHECKS: [Check; 13] = [
+pub const CHECKS: [Check; 14] = [
     ("reset_takes_1_to_16777216", reset_takes_1_to_16777216),
     ("ack_needs_13_bytes", ack_needs_13_bytes),
     ("queries_need_129_or_33_bytes", queries_need_129_or_33_bytes),
@@ -23,6 +23,7 @@ pub const CHECKS: [Check; 13] = [
     ("a_reset_mends_a_damaged_state", a_reset_mends_a_damaged_state),
     ("forged_but_acceptable_states", forged_but_acceptable_states),
     ("each_fault_is_found", each_fault_is_found),
+    ("retired_slots_are_passed_over", retired_slots_are_passed_over),
     ("a_state_without_a_fault_is_taken", a_state_without_a_fault_is_taken),
     ("a_refused_reset_leaves_the_card", a_refused_reset_leaves_the_card),
 ];
@@ -336,6 +337,34 @@ pub fn a_state_without_a_fault_is_taken(card: &dyn Card) {
             tested_calls().map(|call| call.make(card, &mut lent.clone(), &mut [0; 4096], &mut vec![LEFT; call.buffer()]).answer);
         assert_eq!(answers, [0, 0, 0, 3, 0], "{}", card.name());
     }
+}
+
+/// A free slot with variant 255 is retired, whatever its row holds: a registration goes past it, 8 comes where no other is free, and a
+/// reset ends it.
+pub fn retired_slots_are_passed_over(card: &dyn Card) {
+    let mut retired = sample(card);
+    for slot in 2..REGIONS {
+        retired[region_row(slot) + REGION_VARIANT] = LAST_VARIANT;
+    }
+    let registers = |state: &mut [u8]| {
+        let mut ack = [LEFT; 13];
+        let outcome = card.control(state, &register(0, 7, 0, 1, 0), &mut ack);
+        (outcome.answer, if outcome.answer == 0 { get32(&ack, 5) } else { 0 })
+    };
+    let mut state = retired.clone();
+    assert_eq!(registers(&mut state), (8, 0));
+    assert!(state == retired);
+    for (slot, last, key) in [(2, 254, 767), (77, 0, 77 * 256 + 1), (255, 254, 65_535)] {
+        let mut state = retired.clone();
+        state[region_row(slot) + REGION_VARIANT] = last;
+        assert_eq!(registers(&mut state), (0, key));
+        assert_eq!(registers(&mut state), (8, 0));
+        assert_eq!(card.control(&mut state, &deregister(slot as u32), &mut [LEFT; 13]), answer(0));
+        assert_eq!(registers(&mut state), if last == 254 { (8, 0) } else { (0, key + 1) });
+    }
+    assert_eq!(card.reset(&mut retired, 4096), answer(0));
+    assert_eq!(card.control(&mut retired, &create_domain(), &mut [LEFT; 13]), answer(0));
+    assert_eq!(registers(&mut retired), (0, 1));
 }
 
 /// A refused reset in the middle of other calls changes nothing of what they find.

@@ -35,6 +35,7 @@ on_every_card! {
     a_reset_mends_a_damaged_state,
     forged_but_acceptable_states,
     each_fault_is_found,
+    retired_slots_are_passed_over,
     a_state_without_a_fault_is_taken,
     a_refused_reset_leaves_the_card,
 }

@@ -62,12 +62,12 @@ impl Generator {
         }
     }
 
-    /// Calls that register and deregister one slot more often than it has variants.
+    /// Calls that register and deregister the lowest slot up to its last variant, and then the next.
     pub fn many_variants(&mut self) -> Vec<Call> {
         let mut calls = vec![control(build::create_domain())];
-        for _ in 0..260 {
+        for n in 0..260 {
             calls.push(control(build::register(0, 7, 0, 1, self.rng.word() >> 1)));
-            calls.push(control(build::deregister(0)));
+            calls.push(control(build::deregister(n / 255)));
         }
         calls
     }

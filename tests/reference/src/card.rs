@@ -135,8 +135,22 @@ impl<'a> Card<'a> {
         live(number, REGIONS, |n| self.live_region(n))
     }
 
+    /// Whether the slot's last variant was handed out and dropped.
+    fn retired(&self, number: usize) -> bool {
+        !self.live_region(number) && self.region(number).variant == LAST_VARIANT
+    }
+
+    fn vacant(&self, number: usize) -> bool {
+        !self.live_region(number) && !self.retired(number)
+    }
+
+    /// Of a vacant slot.
+    pub fn next_variant(&self, number: usize) -> u8 {
+        self.region(number).variant + 1
+    }
+
     pub fn free_region(&self) -> Option<usize> {
-        (0..REGIONS).find(|&n| !self.live_region(n))
+        (0..REGIONS).find(|&n| self.vacant(n))
     }
 
     /// What the slot holds, live or not: its variant always has a meaning.

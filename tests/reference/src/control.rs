@@ -134,10 +134,7 @@ fn register(card: &mut Card, domain: u32, access: u32, start: u64, length: u64, 
         return Err(Refusal::Range);
     }
     let number = card.free_region().ok_or(Refusal::Full)?;
-    let variant = match card.region(number).variant {
-        255 => 1,
-        last => last + 1,
-    };
+    let variant = card.next_variant(number);
     card.create_region(number, &Region { access: access as u8, variant, domain: domain as u8, start, length, virt });
     Ok(Ack::Keys { number, key: 256 * number as u32 + u32::from(variant) })
 }

@@ -4,6 +4,8 @@ pub const DOMAINS: usize = 8;
 pub const QUEUES: usize = 8;
 pub const REGIONS: usize = 256;
 pub const PAIRS: usize = 8;
+/// The last variant of a slot's keys.
+pub const LAST_VARIANT: u8 = 255;
 pub const MOST_PLACES: usize = 16;
 pub const MOST_WAITING: usize = 4;
 pub const MOST_PIECES: usize = 4;
