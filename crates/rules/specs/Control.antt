@@ -78,7 +78,8 @@ commandChecks c (Command.destroyQp q) = 2 if not (c .qp q .live) ∷ []
 
 -- ---- the acks: 01's column "ack data", and what a query reports
 
--- "Device: flags 0, largest region the memory length, page size mask 4096, version 1, then in 001's order 4, 4, 2, 4, 16, 32, 8, 1, 1, 0, delay 0"; M-106: "256"
+-- "Device: flags 0, largest region the memory length, page size mask 4096, version 1, then in 001's order 4, 4, 2, 4, 16, 32, 8, 1, 1, 0,
+-- delay 0"; for 32 regions, M-106: "A query reports 256."
 unfoldable pub deviceOf : Card → Device
 deviceOf c =
     record {

@@ -66,7 +66,7 @@ pub fn length_asked(i: usize) -> u64
     memory_length(&text[..n])
 }
 
-// The longest memory, all zeros.
+// The longest memory that a program takes, all zeros.
 pub fn memory() -> [u8; 1048576]
     ensures { λ r. ⌜ 1048576 ≡ length r ⌝ }
 {

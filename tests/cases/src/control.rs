@@ -177,6 +177,12 @@ fn last_variant(slot: u32, last: u32) -> Script {
     script
 }
 
+/// A byte of operator A at 4,096 is read and written under the key, by A itself and by B.
+fn used(script: &mut Script, key: u32) {
+    script.send(0, Send::new(1, 4).piece(4096, 1, key).remote(B_VIRT, B_KEY), 0, 0);
+    script.send(1, Send::new(1, 0).inline(&[7]).remote(4096, key), 0, 0);
+}
+
 fn keys() -> Vec<Case> {
     let mut again = Script::joined();
     again.done(deregister(0)).refused(deregister(0), 2).register(0, 7, 256, 100, 4096, 2);
@@ -204,7 +210,19 @@ fn keys() -> Vec<Case> {
     retired.send(0, key(255).remote(B_VIRT, B_KEY), 0, 0).done(deregister(0)).register(0, 7, 256, 100, 4096, 513);
     retired.done(deregister(2)).register(0, 7, 256, 100, 4096, 514).register(0, 7, 256, 100, 4096, 769);
     retired.send(0, key(514).remote(B_VIRT, B_KEY), 0, 0).send(0, key(255).remote(B_VIRT, B_KEY), 0, 3);
+    let mut found = Script::joined();
+    for n in 2..256 {
+        found.register(0, 7, 0, 1, 4096, 256 * n + 1);
+    }
+    used(&mut found, 31 * 256 + 1);
+    used(&mut found, 32 * 256 + 1);
+    for variant in 2..=255 {
+        found.done(deregister(255)).register(0, 7, 0, 1, 4096, 255 * 256 + variant);
+    }
+    used(&mut found, 65535);
+    found.send(0, key(65534).remote(B_VIRT, B_KEY), 0, 3);
     vec![
+        found.named("keys-up-to-65535-are-found"),
         retired.named("retired-slot-is-passed-over"),
         again.named("p8-dropped-and-registered-again"),
         wrap.named("variants-past-255"),

@@ -69,6 +69,7 @@ pub fn reset_takes_1_to_16777216(card: &dyn Card) {
         assert_eq!(card.reset(&mut state, length), answer(wanted), "length {length}");
         assert_eq!(accepts(&state), wanted == 0);
         assert_eq!(state == vec![LEFT; STATE_BYTES], wanted != 0);
+        assert_eq!(card.flush(&mut state, 0), answer(if wanted == 0 { 2 } else { 15 }), "after length {length}");
     }
     for state_length in [0, 1, STATE_BYTES - 1, STATE_BYTES + 1, 2 * STATE_BYTES] {
         for length in [0, 4096] {
