@@ -11,9 +11,9 @@
 /* The minor number grows by one with each landing that changes what a call answers or does, a record or the state's layout, its length
  * included; a state and a tape belong to one minor number. */
 #define LESUNGKAP_VERSION_MAJOR 0
-#define LESUNGKAP_VERSION_MINOR 4
+#define LESUNGKAP_VERSION_MINOR 5
 #define LESUNGKAP_VERSION_PATCH 0
-#define LESUNGKAP_VERSION "0.4.0"
+#define LESUNGKAP_VERSION "0.5.0"
 
 #ifdef __cplusplus
 extern "C" {

@@ -11,3 +11,4 @@ pub mod Count
 pub mod Dropped
 pub mod Whole
 pub mod Example
+pub mod Pinned

@@ -1,33 +1,34 @@
 -- What a dropped region means for a receive that waits on it, and for a remote key. Assumes nothing.
 use mathlib.Core.Path.{_≡_, refl, sym, ap, _∙_}
-use mathlib.Core.Bool.{Bool, true, false, _&&_, true≢false}
+use mathlib.Core.Bool.{Bool, true, false, not, _&&_, true≢false}
 use mathlib.Core.List.{List, [], _∷_}
 use mathlib.Core.Option.{Option, none, some}
 use Prim.Native.Nat.{ℕ, zero, suc, _+_, _*_, _/_, _%_, _≤_, _<_}
 use native.Mathlib.Omega.{arith}
 use lib.Dec.{eqb, leb}
 use lib.ListN.{length, getD}
-use borrow.Author.Tests.{ne-eqb, eqb-true, leb-true, le-leb}
-use Rattle.wire.specs.Checks.{refusal}
+use borrow.Author.Tests.{ne-eqb, eqb-true, leb-true, leb-false, le-leb}
+use Rattle.wire.specs.Checks.{refusal, Passed}
 use Rattle.wire.proofs.ScanLaws.{and-left, and-right, both-true}
 use Rattle.wire.specs.Scan.{all}
 use Rattle.wire.specs.Slots.{upd}
 use Rattle.wire.proofs.SlotLaws.{split, same}
+use Rattle.tables.specs.Limits.{mrCount}
 use Rattle.tables.specs.Card.{Card, Mr, Qp, freeMr, tail}
 use Rattle.tables.specs.Commands.{Command}
 use Rattle.tables.specs.declared.Registration.{Registration}
-use Rattle.validate.specs.Search.{freeMrn}
+use Rattle.validate.specs.Search.{lastVariant, retired, freeMrn}
 use Rattle.rules.specs.declared.Answer.the-variants.{Done}
 use Rattle.rules.specs.Answer.{isDone}
 use Rattle.rules.specs.Call.{Call}
 use Rattle.rules.specs.Calls.{checks, effect, statusOf, memoryAfter, settled, step}
 use Rattle.rules.specs.Touch.{Request, requestOf, fills, takes, total, sgeTotal, farBytes}
 use Rattle.rules.specs.Permit.{keyOf, found, lookup, covers, permits, permitsAll}
-use Rattle.rules.specs.Control.{commandEffect, newVariant}
+use Rattle.rules.specs.Control.{commandChecks, commandEffect, newVariant}
 use Rattle.rules.specs.Send.{deliveryChecks, ready, peerOf, takenBy, farUse, errorIf, consumeIf, sendStatus, sendMemory, sendQps, sendPuts, sendEffect}
 use Rattle.rules.proofs.Answers.{answered-not-done}
-use Rattle.rules.proofs.Variants.{new-small, slot}
-use Rattle.rules.specs.Dropped.{Fails, Denied, LostBy, Lost, Reaches, farKey, StaleFails, DroppedRegion, HeldStays, KeysDropped, Spent, OldKeysGone, OldKeyStale, NewKeyStands}
+use Rattle.rules.proofs.Variants.{slot-free, new-small, slot}
+use Rattle.rules.specs.Dropped.{Fails, Denied, LostBy, Lost, Reaches, farKey, StaleFails, DroppedRegion, HeldStays, KeysDropped, HandedOut, Spent, DropSpends, OldKeysGone, DropRetires, StaysRetired, OldKeyStale, NewKeyStands}
 
 and-false : (b : Bool) → (b && false) ≡ false
 and-false true = refl
@@ -168,42 +169,94 @@ new-key-stands c g h =
 
 -- ---- a key that was handed out and dropped
 
-module _ (c : Card) (k : ℕ) (s : Spent c k) where
+module _ (c : Card) (k : ℕ) where
   -- the slot of the key, by its number
-  at-slot : (j : ℕ) → k / 256 ≡ j → (k % 256 ≤ c .mr j .variant) × (found (c .mr j) j k ≡ none)
+  at-slot : Spent c k → (j : ℕ) → k / 256 ≡ j → (k % 256 ≤ c .mr j .variant) × (found (c .mr j) j k ≡ none)
   unfolding lookup
-  at-slot j e = rw (← e) (s .handed, s .gone)
+  at-slot s j e = rw (← e) (s .handed .1, s .gone)
 
-  spent-registers : (g : Registration) → Spent (commandEffect c (Command.register g)) k
+  spent-registers : (g : Registration) → Spent c k → Spent (commandEffect c (Command.register g)) k
   unfolding commandEffect lookup
-  spent-registers g =
+  spent-registers g s =
       let i : ℕ = freeMrn c in
       let new : Mr = record { live = true; variant = newVariant c; reg = g } in
       let both =
       split i (λ j. k / 256 ≡ j → (k % 256 ≤ upd (c .mr) i new j .variant) × (found (upd (c .mr) i new j) j k ≡ none))
-      (λ e. (let h = at-slot i e .0 in rw (same i) (omega arith, rw (ne-eqb (keyOf i (newVariant c)) k (λ p. omega arith)))))
-      (λ j n e. rw n (at-slot j e)) (k / 256) refl in
-      record { handed = both .0; gone = both .1 }
+      (λ e. (let h = at-slot s i e .0 in rw (same i) (omega arith, rw (ne-eqb (keyOf i (newVariant c)) k (λ p. omega arith)))))
+      (λ j n e. rw n (at-slot s j e)) (k / 256) refl in
+      record { handed = (s .handed .0, both .0); gone = both .1 }
 
-  spent-deregisters : (i : ℕ) → Spent (commandEffect c (Command.deregister i)) k
+  spent-deregisters : (i : ℕ) → Spent c k → Spent (commandEffect c (Command.deregister i)) k
   unfolding commandEffect lookup
-  spent-deregisters i =
+  spent-deregisters i s =
       let both =
       split i (λ j. k / 256 ≡ j → (k % 256 ≤ upd (c .mr) i (freeMr (c .mr i .variant)) j .variant) × (found (upd (c .mr) i (freeMr (c .mr i .variant)) j) j k ≡ none))
-      (λ e. rw (same i) (at-slot i e .0, refl))
-      (λ j n e. rw n (at-slot j e)) (k / 256) refl in
-      record { handed = both .0; gone = both .1 }
+      (λ e. rw (same i) (at-slot s i e .0, refl))
+      (λ j n e. rw n (at-slot s j e)) (k / 256) refl in
+      record { handed = (s .handed .0, both .0); gone = both .1 }
+
+pub drop-spends : DropSpends
+unfolding DropSpends KeysDropped commandEffect
+drop-spends c k h = record { handed = (h .0, rw (same (k / 256)) (h .1)); gone = keys-dropped c (k / 256) k refl .0 }
 
 pub old-keys-gone : OldKeysGone
 unfolding OldKeysGone commandEffect
-old-keys-gone c k Command.queryDevice p s = s
-old-keys-gone c k Command.queryPort p s = s
-old-keys-gone c k (Command.createCq n) p s = record { handed = s .handed; gone = s .gone }
-old-keys-gone c k (Command.destroyCq n) p s = record { handed = s .handed; gone = s .gone }
-old-keys-gone c k Command.createPd p s = record { handed = s .handed; gone = s .gone }
-old-keys-gone c k (Command.destroyPd n) p s = record { handed = s .handed; gone = s .gone }
-old-keys-gone c k (Command.register g) p s = spent-registers c k s g
-old-keys-gone c k (Command.deregister n) p s = spent-deregisters c k s n
-old-keys-gone c k (Command.createQp r) p s = record { handed = s .handed; gone = s .gone }
-old-keys-gone c k (Command.modifyQp r) p s = record { handed = s .handed; gone = s .gone }
-old-keys-gone c k (Command.destroyQp q) p s = record { handed = s .handed; gone = s .gone }
+old-keys-gone c k Command.queryDevice s = s
+old-keys-gone c k Command.queryPort s = s
+old-keys-gone c k (Command.createCq n) s = record { handed = s .handed; gone = s .gone }
+old-keys-gone c k (Command.destroyCq n) s = record { handed = s .handed; gone = s .gone }
+old-keys-gone c k Command.createPd s = record { handed = s .handed; gone = s .gone }
+old-keys-gone c k (Command.destroyPd n) s = record { handed = s .handed; gone = s .gone }
+old-keys-gone c k (Command.register g) s = spent-registers c k g s
+old-keys-gone c k (Command.deregister n) s = spent-deregisters c k n s
+old-keys-gone c k (Command.createQp r) s = record { handed = s .handed; gone = s .gone }
+old-keys-gone c k (Command.modifyQp r) s = record { handed = s .handed; gone = s .gone }
+old-keys-gone c k (Command.destroyQp q) s = record { handed = s .handed; gone = s .gone }
+
+-- ---- a slot whose last variant was dropped
+
+pub drop-retires : DropRetires
+unfolding DropRetires commandEffect
+drop-retires c n e = rw (same n, e)
+
+stays-registers : (c : Card) (n : ℕ) (g : Registration) → freeMrn c < mrCount → retired (c .mr n) ≡ true →
+    retired (commandEffect c (Command.register g) .mr n) ≡ true
+unfolding commandEffect
+stays-registers c n g b =
+    split (freeMrn c) (λ j. retired (c .mr j) ≡ true → retired (upd (c .mr) (freeMrn c) new j) ≡ true)
+    (λ h. (let last = leb-true lastVariant (taken .variant) (and-right (not (taken .live)) (leb lastVariant (taken .variant)) h) in
+    let left = slot-free c b .1 in absurd (omega arith)))
+    (λ j e h. rw e h) n
+  where
+    taken : Mr
+    taken = c .mr (freeMrn c)
+
+    new : Mr
+    new = record { live = true; variant = newVariant c; reg = g }
+
+stays-deregisters : (c : Card) (n i : ℕ) → not (c .mr i .live) ≡ false → retired (c .mr n) ≡ true →
+    retired (commandEffect c (Command.deregister i) .mr n) ≡ true
+unfolding commandEffect
+stays-deregisters c n i live =
+    split i (λ j. retired (c .mr j) ≡ true → retired (upd (c .mr) i (freeMr (c .mr i .variant)) j) ≡ true)
+    (λ h. absurd (true≢false (sym (and-left (not (c .mr i .live)) (leb lastVariant (c .mr i .variant)) h) ∙ live)))
+    (λ j e h. rw e h) n
+
+-- a registration that passes its tests has a slot
+has-slot : (c : Card) (g : Registration) → Passed (commandChecks c (Command.register g)) → freeMrn c < mrCount
+unfolding commandChecks
+has-slot c g p = let b = leb-false _ (freeMrn c) (p .1 .1 .1 .1 .1 .0) in omega arith
+
+pub stays-retired : StaysRetired
+unfolding StaysRetired commandChecks commandEffect
+stays-retired c n Command.queryDevice p h = h
+stays-retired c n Command.queryPort p h = h
+stays-retired c n (Command.createCq i) p h = h
+stays-retired c n (Command.destroyCq i) p h = h
+stays-retired c n Command.createPd p h = h
+stays-retired c n (Command.destroyPd i) p h = h
+stays-retired c n (Command.register g) p h = stays-registers c n g (has-slot c g p) h
+stays-retired c n (Command.deregister i) p h = stays-deregisters c n i (p .0) h
+stays-retired c n (Command.createQp r) p h = h
+stays-retired c n (Command.modifyQp r) p h = h
+stays-retired c n (Command.destroyQp q) p h = h

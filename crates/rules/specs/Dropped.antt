@@ -13,7 +13,7 @@ use Rattle.wire.specs.Slots.{upd}
 use Rattle.tables.specs.Limits.{mrCount, mostMessage}
 use Rattle.tables.specs.Card.{Card, Mr, freeMr, tail}
 use Rattle.tables.specs.Commands.{Command}
-use Rattle.validate.specs.Search.{freeMrn}
+use Rattle.validate.specs.Search.{lastVariant, retired, freeMrn}
 use Rattle.tables.specs.declared.Registration.{Registration}
 use Rattle.rules.specs.declared.Answer.{Answer}
 use Rattle.rules.specs.declared.Answer.the-variants.{Done}
@@ -102,14 +102,32 @@ KeysDropped =
     (c : Card) (n k : ℕ) → k / 256 ≡ n →
     (lookup (commandEffect c (Command.deregister n) .mr) k ≡ none) × (commandEffect c (Command.deregister n) .qp ≡ c .qp)
 
--- a key that its slot has handed out, this variant or a later one, and that finds no region
+-- a key that its slot has handed out: its variant is at least 1, and the slot has come to it or past it
+abbrev pub HandedOut : Card → (k : ℕ) → Type 0
+HandedOut c k = (1 ≤ k % 256) × (k % 256 ≤ c .mr (k / 256) .variant)
+
+-- and that finds no region
 pub record Spent (c : Card) (k : ℕ) : Type 0 where
-  pub handed : k % 256 ≤ c .mr (k / 256) .variant
+  pub handed : HandedOut c k
   pub gone : lookup (c .mr) k ≡ none
+
+-- every key that a slot has handed out is such a key when its region is dropped
+unfoldable pub DropSpends : Type 0
+DropSpends = (c : Card) (k : ℕ) → HandedOut c k → Spent (commandEffect c (Command.deregister (k / 256))) k
 
 -- 02, M-109, "Never hand out an old key": whatever command follows, no such key, however old, finds one again
 unfoldable pub OldKeysGone : Type 0
-OldKeysGone = (c : Card) (k : ℕ) (x : Command) → Passed (commandChecks c x) → Spent c k → Spent (commandEffect c x) k
+OldKeysGone = (c : Card) (k : ℕ) (x : Command) → Spent c k → Spent (commandEffect c x) k
+
+-- "A slot whose variant 255 was handed out and dropped is retired"
+unfoldable pub DropRetires : Type 0
+DropRetires =
+    (c : Card) (n : ℕ) → c .mr n .variant ≡ lastVariant → retired (commandEffect c (Command.deregister n) .mr n) ≡ true
+
+-- "until reset": a command that passes its tests leaves a retired slot so
+unfoldable pub StaysRetired : Type 0
+StaysRetired =
+    (c : Card) (n : ℕ) (x : Command) → Passed (commandChecks c x) → retired (c .mr n) ≡ true → retired (commandEffect c x .mr n) ≡ true
 
 -- another region in the slot has the new key alone
 unfoldable pub OldKeyStale : Type 0
