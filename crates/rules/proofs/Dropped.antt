@@ -28,7 +28,7 @@ use Rattle.rules.specs.Control.{commandChecks, commandEffect, newVariant
 use Rattle.rules.specs.Send.{deliveryChecks, ready, peerOf, takenBy, farUse, errorIf, consumeIf, sendStatus, sendMemory, sendQps, sendPuts, sendEffect}
 use Rattle.rules.proofs.Answers.{answered-not-done}
 use Rattle.rules.proofs.Variants.{slot-free, new-small, slot}
-use Rattle.rules.specs.Dropped.{Fails, Denied, LostBy, Lost, Reaches, farKey, StaleFails, DroppedRegion, HeldStays, KeysDropped, HandedOut, Spent, DropSpends, OldKeysGone, DropRetires, StaysRetired, OldKeyStale, NewKeyStands}
+use Rattle.rules.specs.Dropped.{Fails, Denied, LostBy, Lost, Reaches, farKey, StaleFails, DroppedRegion, HeldStays, KeysDropped, HandedOut, Spent, DropSpends, OldKeysGone, DropRetires, StaysRetired, LargestKey, OldKeyStale, NewKeyStands}
 
 and-false : (b : Bool) → (b && false) ≡ false
 and-false true = refl
@@ -260,3 +260,7 @@ stays-retired c n (Command.deregister i) p h = stays-deregisters c n i (p .0) h
 stays-retired c n (Command.createQp r) p h = h
 stays-retired c n (Command.modifyQp r) p h = h
 stays-retired c n (Command.destroyQp q) p h = h
+
+pub largest-key : LargestKey
+unfolding LargestKey
+largest-key c g p = let b = has-slot c g p in let v = new-small c b in omega arith

@@ -129,6 +129,11 @@ unfoldable pub StaysRetired : Type 0
 StaysRetired =
     (c : Card) (n : ℕ) (x : Command) → Passed (commandChecks c x) → retired (c .mr n) ≡ true → retired (commandEffect c x .mr n) ≡ true
 
+-- 02, M-106: "The largest key is 65,535", of a registration that passes its tests
+unfoldable pub LargestKey : Type 0
+LargestKey =
+    (c : Card) (g : Registration) → Passed (commandChecks c (Command.register g)) → keyOf (freeMrn c) (newVariant c) ≤ 65535
+
 -- another region in the slot has the new key alone
 unfoldable pub OldKeyStale : Type 0
 OldKeyStale =
