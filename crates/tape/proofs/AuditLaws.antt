@@ -16,7 +16,7 @@ use Rattle.tape.specs.declared.Found.{Found}
 use Rattle.tape.specs.declared.Step.{Step}
 use Rattle.tape.specs.Tape.{stepOf, callAt, memoryLeft, answerTo, badRecord, played, records}
 use Rattle.tape.specs.Pieces.{turned, Input, unread, next, past, turnsFor}
-use Rattle.tape.specs.Audit.{Verdict, starts, against, verdict, closing, Finding, findingBy, auditBy, audits, AuditsHoweverCut}
+use Rattle.tape.specs.Audit.{Verdict, starts, against, verdict, closing, Finding, findingBy, findingOf, auditBy, audits, AuditsHoweverCut}
 use Rattle.tape.proofs.BoundLaws.{answer-most}
 use Rattle.tape.proofs.StepLaws.{whole-held, more-wanting}
 use Rattle.tape.proofs.PieceLaws.{content, Lawful, cost, cost-least, none-left, next-content, next-lawful, next-cost, past-content, past-cost}
@@ -59,7 +59,11 @@ unfolding against
 against-none n [] = refl
 against-none n (b ∷ g) = rw (ne-eqb (length (b ∷ g)) 0 (λ z. omega arith))
 
-module _ (more : (n : ℕ) → (l m : List ℕ) → (calls answers : Input) → Verdict) (n : ℕ) (l m : List ℕ) (c a : Input) where
+-- the verdict from a turn on
+abbrev Audit : Type 0
+Audit = (n : ℕ) → (l m : List ℕ) → (calls answers : Input) → Verdict
+
+module _ (more : Audit) (n : ℕ) (l m : List ℕ) (c a : Input) where
   closed : (later : ℕ) (b : Bool) → auditBy more n (cond b Found.Agrees (Found.Differs later)) l m c a ≡ cond b Verdict.agrees (Verdict.differs (n + later))
   closed later true = refl
   closed later false = refl
@@ -72,19 +76,14 @@ module _ (more : (n : ℕ) → (l m : List ℕ) → (calls answers : Input) → 
       ∙ ap (λ (b : Bool). cond b Verdict.agrees (Verdict.differs (n + later))) (sym (left-held a lawful k left s le held))
       ∙ sym (against-none (n + later) (drop k (content a)))
 
--- ---- a turn
+-- ---- a turn, where `more` gives the verdict of the turns after it
 
 -- the verdict from a turn on, by whether enough of the answers is held and the step on the calls
-abbrev auditAt : (t n : ℕ) (l m : List ℕ) (c a : Input) → Bool → Step → Verdict
-auditAt t n l m c a b x =
-    let y : Finding = findingBy b l m (turned x l m (c .held)) (a .held) in auditBy (audits t) n (y .found) (y .state) (y .memory) c a
+abbrev auditAt : (more : Audit) (n : ℕ) (l m : List ℕ) (c a : Input) → Bool → Step → Verdict
+auditAt more n l m c a b x =
+    let y : Finding = findingBy b l m (turned x l m (c .held)) (a .held) in auditBy more n (y .found) (y .state) (y .memory) c a
 
-module _ (t n : ℕ) (l m : List ℕ) (c a : Input) where
-  turn-at : (b : Bool) (x : Step) → (a .ended || leb 135 (length (a .held))) ≡ b → stepOf (c .held) (c .ended) ≡ x
-      → audits (suc t) n l m c a ≡ auditAt t n l m c a b x
-  unfolding audits
-  turn-at b x p q = ap₂ (auditAt t n l m c a) p q
-
+module _ (more : Audit) (n : ℕ) (l m : List ℕ) (c a : Input) where
   -- an answer that the answers held do not start with
   other-at : Lawful a → Enough a → (r : List ℕ) (rs : List (List ℕ)) → length r ≤ 135 → starts r (a .held) ≡ false
       → Verdict.differs (n + 0) ≡ against n (r ∷ rs) (content a)
@@ -96,33 +95,36 @@ module _ (t n : ℕ) (l m : List ℕ) (c a : Input) where
   same-at lawful held r rs le h = sym (against-same n r rs (content a) (starts-held a lawful r le held ∙ h))
 
   fault-at : Lawful a → Enough a → (b : Bool) → starts badRecord (a .held) ≡ b
-      → auditBy (audits t) n (cond b (closing 1 (length (a .held) - 6)) (Found.Differs 0)) l m c a ≡ against n (badRecord ∷ []) (content a)
+      → auditBy more n (cond b (closing 1 (length (a .held) - 6)) (Found.Differs 0)) l m c a ≡ against n (badRecord ∷ []) (content a)
   fault-at lawful held true h =
-      closing-against (audits t) n l m c a lawful held 6 1 (length (a .held) - 6) refl (omega arith)
+      closing-against more n l m c a lawful held 6 1 (length (a .held) - 6) refl (omega arith)
       ∙ ap (λ (k : ℕ). against k [] (drop 6 (content a))) (add-one n)
       ∙ same-at lawful held badRecord [] (omega arith) h
   fault-at lawful held false h = other-at lawful held badRecord [] (omega arith) h
 
--- ---- all turns
+-- the verdict on what is left of both tapes, n records in
+abbrev pub verdictFrom : Audit
+verdictFrom n l m c a = against n (played l m (content c)) (content a)
 
-abbrev Judges : (turns : ℕ) → Type 0
-Judges t = (n : ℕ) (l m : List ℕ) (c a : Input) → Lawful c → Lawful a → cost c + cost a ≤ t
-    → audits t n l m c a ≡ against n (played l m (content c)) (content a)
+-- `more` gives it of inputs that ask at most so many turns
+abbrev Judges : (more : Audit) → (turns : ℕ) → Type 0
+Judges more t = (n : ℕ) (l m : List ℕ) (c a : Input) → Lawful c → Lawful a → cost c + cost a ≤ t → more n l m c a ≡ verdictFrom n l m c a
 
-module _ (t : ℕ) (later : Judges t) (n : ℕ) (l m : List ℕ) (c a : Input) (lc : Lawful c) (la : Lawful a) (few : cost c + cost a ≤ suc t) where
-  wants-answers : a .ended ≡ false → audits t n l m c (next a) ≡ against n (played l m (content c)) (content a)
+module _ (more : Audit) (t : ℕ) (later : Judges more t) (n : ℕ) (l m : List ℕ) (c a : Input) (lc : Lawful c) (la : Lawful a)
+    (few : cost c + cost a ≤ suc t) where
+  wants-answers : a .ended ≡ false → more n l m c (next a) ≡ verdictFrom n l m c a
   wants-answers e =
       let p : suc (cost (next a)) ≡ cost a = next-cost a e in
       later n l m c (next a) lc (next-lawful a) (omega arith) ∙ ap (against n (played l m (content c))) (next-content a)
 
-  wants-calls : c .ended ≡ false → audits t n l m (next c) a ≡ against n (played l m (content c)) (content a)
+  wants-calls : c .ended ≡ false → more n l m (next c) a ≡ verdictFrom n l m c a
   wants-calls e =
       let p : suc (cost (next c)) ≡ cost c = next-cost c e in
       later n l m (next c) a (next-lawful c) la (omega arith) ∙ ap (λ (x : List ℕ). against n (played l m x) (content a)) (next-content c)
 
   whole-at : Enough a → {k q s : ℕ} → stepOf (c .held) (c .ended) ≡ Step.Whole k q s → (b : Bool) → starts (answerTo l (callAt k q s m (c .held))) (a .held) ≡ b
       → let call = callAt k q s m (c .held) in
-      auditBy (audits t) n (cond b (Found.Same (6 + s) (length (answerTo l call))) (Found.Differs 0)) (bytesAfter l call) (memoryLeft l m call) c a
+      auditBy more n (cond b (Found.Same (6 + s) (length (answerTo l call))) (Found.Differs 0)) (bytesAfter l call) (memoryLeft l m call) c a
       ≡ against n (answerTo l call ∷ played (bytesAfter l call) (memoryLeft l m call) (content (past (6 + s) c))) (content a)
   whole-at held {k} {q} {s} e true h =
       let call : Call = callAt k q s m (c .held) in
@@ -132,38 +134,49 @@ module _ (t : ℕ) (later : Judges t) (n : ℕ) (l m : List ℕ) (c a : Input) (
       let o : cost (past (length r) a) + length r ≡ cost a = past-cost a (length r) long in
       later (suc n) (bytesAfter l call) (memoryLeft l m call) (past (6 + s) c) (past (length r) a) lc la (omega arith)
       ∙ ap (against (suc n) (played (bytesAfter l call) (memoryLeft l m call) (content (past (6 + s) c)))) (sym (past-content a (length r) long))
-      ∙ same-at t n l m c a la held r (played (bytesAfter l call) (memoryLeft l m call) (content (past (6 + s) c))) (answer-most l call) h
+      ∙ same-at more n l m c a la held r (played (bytesAfter l call) (memoryLeft l m call) (content (past (6 + s) c))) (answer-most l call) h
   whole-at held {k} {q} {s} e false h =
       let call : Call = callAt k q s m (c .held) in
-      other-at t n l m c a la held (answerTo l call) (played (bytesAfter l call) (memoryLeft l m call) (content (past (6 + s) c))) (answer-most l call) h
+      other-at more n l m c a la held (answerTo l call) (played (bytesAfter l call) (memoryLeft l m call) (content (past (6 + s) c))) (answer-most l call) h
 
-  step-at : Enough a → (x : Step) → stepOf (c .held) (c .ended) ≡ x → auditAt t n l m c a true x ≡ against n (played l m (content c)) (content a)
+  step-at : Enough a → (x : Step) → stepOf (c .held) (c .ended) ≡ x → auditAt more n l m c a true x ≡ verdictFrom n l m c a
   step-at held (Step.Whole k q s) e =
       whole-at held e (starts (answerTo l (callAt k q s m (c .held))) (a .held)) refl
       ∙ ap (λ (rs : List (List ℕ)). against n rs (content a)) (sym (played-whole l m c lc e))
   step-at held Step.Fault e =
-      fault-at t n l m c a la held (starts badRecord (a .held)) refl
+      fault-at more n l m c a la held (starts badRecord (a .held)) refl
       ∙ ap (λ (rs : List (List ℕ)). against n rs (content a)) (sym (played-known l m c lc Step.Fault e refl))
   step-at held Step.End e =
-      closing-against (audits t) n l m c a la held 0 0 (length (a .held)) (omega arith) (omega arith)
+      closing-against more n l m c a la held 0 0 (length (a .held)) (omega arith) (omega arith)
       ∙ ap₂ (λ (j : ℕ) (rs : List (List ℕ)). against j rs (content a)) (add-zero n) (sym (played-known l m c lc Step.End e refl))
   step-at held Step.More e = wants-calls (more-wanting (c .held) (c .ended) e .1)
 
-  turn-same : (b : Bool) → (a .ended || leb 135 (length (a .held))) ≡ b → audits (suc t) n l m c a ≡ against n (played l m (content c)) (content a)
-  turn-same true e =
-      turn-at t n l m c a true (stepOf (c .held) (c .ended)) e refl
-      ∙ step-at (enough (a .ended) (length (a .held)) e) (stepOf (c .held) (c .ended)) refl
-  turn-same false e = turn-at t n l m c a false (stepOf (c .held) (c .ended)) e refl ∙ wants-answers (not-ended (a .ended) e)
+  held-at : (b : Bool) → (a .ended || leb 135 (length (a .held))) ≡ b
+      → auditAt more n l m c a b (stepOf (c .held) (c .ended)) ≡ verdictFrom n l m c a
+  held-at true e = step-at (enough (a .ended) (length (a .held)) e) (stepOf (c .held) (c .ended)) refl
+  held-at false e = wants-answers (not-ended (a .ended) e)
     where
       not-ended : (x : Bool) → (x || leb 135 (length (a .held))) ≡ false → x ≡ false
       not-ended true h = h
       not-ended false h = refl
 
-audits-against : (t : ℕ) → Judges t
-audits-against zero n l m c a lc la few = absurd (let h = cost-least c in omega arith)
-audits-against (suc t) n l m c a lc la few = turn-same t (audits-against t) n l m c a lc la few (a .ended || leb 135 (length (a .held))) refl
+  turn-at : auditAt more n l m c a (a .ended || leb 135 (length (a .held))) (stepOf (c .held) (c .ended)) ≡ verdictFrom n l m c a
+  turn-at = held-at (a .ended || leb 135 (length (a .held))) refl
+
+-- a turn leaves the verdict on what is left of both tapes as it is
+pub turn-keeps : (n : ℕ) (l m : List ℕ) (c a : Input) → Lawful c → Lawful a
+    → let x = findingOf l m (c .held) (c .ended) (a .held) (a .ended) in
+    auditBy verdictFrom n (x .found) (x .state) (x .memory) c a ≡ verdictFrom n l m c a
+turn-keeps n l m c a lc la = turn-at verdictFrom (cost c + cost a) (λ n l m c a lc la few. refl) n l m c a lc la (omega arith)
+
+-- ---- all turns
+
+audits-right : (t : ℕ) → Judges (audits t) t
+unfolding audits
+audits-right zero n l m c a lc la few = absurd (let h = cost-least c in omega arith)
+audits-right (suc t) n l m c a lc la few = turn-at (audits t) t (audits-right t) n l m c a lc la few
 
 pub audits-however-cut : AuditsHoweverCut
 unfolding AuditsHoweverCut verdict records
-audits-however-cut memory ps qs =
-    audits-against (turnsFor ps + turnsFor qs) 0 _ _ (unread ps) (unread qs) (λ e. absurd (true≢false (sym e))) (λ e. absurd (true≢false (sym e))) (omega arith)
+audits-however-cut memory ps qs turns h =
+    audits-right turns 0 _ _ (unread ps) (unread qs) (λ e. absurd (true≢false (sym e))) (λ e. absurd (true≢false (sym e))) (omega arith)

@@ -1,19 +1,20 @@
 -- What a turn of the audit finds, from what its turn on the calls left. Assumes nothing.
 use mathlib.Core.Path.{_≡_, refl, sym, ap, subst, _∙_}
-use mathlib.Core.Bool.{Bool, true, false, cond, _||_}
+use mathlib.Core.Bool.{Bool, true, false, cond, _||_, true≢false}
 use mathlib.Core.List.{List}
-use Prim.Native.Nat.{ℕ, _+_, _-_, _≤_}
+use Prim.Native.Nat.{ℕ, _+_, _-_, _≤_, _<_}
 use native.Mathlib.Omega.{arith}
 use lib.Dec.{eqb, leb}
 use lib.ListN.{length, take, drop}
 use lib.Seq.{take-append-seam}
+use borrow.Author.Tests.{leb-false}
 use Rattle.tape.specs.declared.Found.{Found}
 use Rattle.tape.specs.declared.Step.{Step}
 use Rattle.tape.specs.declared.Turn.{Turn}
 use Rattle.tape.specs.Tape.{stepOf, callAt, answerTo, badRecord, placed}
 use Rattle.tape.specs.Pieces.{Left, turned, Leaves}
 use Rattle.tape.specs.Audit.{starts, closing, foundBy, findingBy, findingOf, Finds}
-use Rattle.tape.proofs.StepLaws.{whole-held}
+use Rattle.tape.proofs.StepLaws.{whole-held, more-wanting}
 use Rattle.tape.proofs.StartLaws.{starts-long}
 
 -- the record that the turn wrote
@@ -71,11 +72,11 @@ module _ (l m i : List ℕ) (e : Bool) (g : List ℕ) (f : Bool) where
       subst (λ (b : Bool). Finds (findingBy b l m (turned (stepOf i e) l m i) g) Found.Answers l m) (sym h)
       (record { found = refl; state = refl; memory = refl })
 
--- ---- bytes used are among those held
+-- ---- bytes used are among those held; bytes are wanted of fewer than a longest record
 
 abbrev pub Within : Found → (calls answers : List ℕ) → Type 0
-Within Found.Calls i g = Unit {0}
-Within Found.Answers i g = Unit {0}
+Within Found.Calls i g = length i < 646
+Within Found.Answers i g = length g < 135
 Within (Found.Same u w) i g = (u ≤ length i) × (w ≤ length g)
 Within Found.Agrees i g = Unit {0}
 Within (Found.Differs k) i g = k ≤ 1
@@ -83,6 +84,11 @@ Within (Found.Differs k) i g = k ≤ 1
 closing-within : (b : Bool) (k : ℕ) (i g : List ℕ) → k ≤ 1 → Within (cond b Found.Agrees (Found.Differs k)) i g
 closing-within true k i g h = tt
 closing-within false k i g h = h
+
+-- the answers held are fewer than a longest record
+few : (f : Bool) (n : ℕ) → (f || leb 135 n) ≡ false → n < 135
+few true n h = absurd (true≢false h)
+few false n h = let a = leb-false 135 n h in omega arith
 
 module _ (l m i : List ℕ) (e : Bool) (g : List ℕ) where
   whole-within : {k n s : ℕ} → stepOf i e ≡ Step.Whole k n s → (b : Bool) → starts (answerTo l (callAt k n s m i)) g ≡ b
@@ -98,11 +104,11 @@ module _ (l m i : List ℕ) (e : Bool) (g : List ℕ) where
   step-within (Step.Whole k n s) p = whole-within p (starts (answerTo l (callAt k n s m i)) g) refl
   step-within Step.Fault p = fault-within (starts badRecord g)
   step-within Step.End p = closing-within (eqb (length g) 0) 0 i g (omega arith)
-  step-within Step.More p = tt
+  step-within Step.More p = more-wanting i e p .0
 
-  held-within : (b : Bool) → Within (findingBy b l m (turned (stepOf i e) l m i) g .found) i g
-  held-within true = step-within (stepOf i e) refl
-  held-within false = tt
+  held-within : (f b : Bool) → (f || leb 135 (length g)) ≡ b → Within (findingBy b l m (turned (stepOf i e) l m i) g .found) i g
+  held-within f true h = step-within (stepOf i e) refl
+  held-within f false h = few f (length g) h
 
   pub found-within : (f : Bool) {r : Found} {l′ m′ : List ℕ} → Finds (findingOf l m i e g f) r l′ m′ → Within r i g
-  found-within f x = subst (λ (y : Found). Within y i g) (sym (x .found)) (held-within (f || leb 135 (length g)))
+  found-within f x = subst (λ (y : Found). Within y i g) (sym (x .found)) (held-within f (f || leb 135 (length g)) refl)

@@ -160,4 +160,4 @@ run-played (suc t) l m i lawful c = one-more t (run-played t) l m i lawful c
 
 pub however-cut : HoweverCut
 unfolding HoweverCut records
-however-cut memory ps = run-played (turnsFor ps) _ _ (unread ps) (λ e. absurd (true≢false (sym e))) (omega arith)
+however-cut memory ps turns h = run-played turns _ _ (unread ps) (λ e. absurd (true≢false (sym e))) (omega arith)

@@ -8,7 +8,7 @@ use lib.ListN.{length, take, drop}
 use Rattle.tables.specs.Reset.{zeros, resetBytes}
 use Rattle.tape.specs.declared.Found.{Found}
 use Rattle.tape.specs.declared.Turn.{Turn}
-use Rattle.tape.specs.Tape.{stepOf, badRecord, records}
+use Rattle.tape.specs.Tape.{stepOf, records}
 use Rattle.tape.specs.Pieces.{Left, turned, Input, unread, next, past, turnsFor}
 
 -- ---- the verdict on two tapes, calls and answers
@@ -114,7 +114,7 @@ audits zero n l m c a = differs n
 audits (suc t) n l m c a =
     let x : Finding = findingOf l m (c .held) (c .ended) (a .held) (a .ended) in auditBy (audits t) n (x .found) (x .state) (x .memory) c a
 
--- "however both are cut into pieces"
+-- "however both are cut into pieces", in any number of turns that is enough
 unfoldable pub AuditsHoweverCut : Type 0
-AuditsHoweverCut = (memory : ℕ) (ps qs : List (List ℕ)) →
-    audits (turnsFor ps + turnsFor qs) 0 (resetBytes memory) (zeros memory) (unread ps) (unread qs) ≡ verdict memory (flatten ps) (flatten qs)
+AuditsHoweverCut = (memory : ℕ) (ps qs : List (List ℕ)) (turns : ℕ) → turnsFor ps + turnsFor qs ≤ turns →
+    audits turns 0 (resetBytes memory) (zeros memory) (unread ps) (unread qs) ≡ verdict memory (flatten ps) (flatten qs)

@@ -100,6 +100,7 @@ run (suc t) l m i = runBy (run t) (stepOf (i .held) (i .ended)) l m i
 abbrev pub turnsFor : (pieces : List (List ℕ)) → ℕ
 turnsFor ps = length (flatten ps) + length ps + 2
 
--- However the input is cut into pieces, the program writes the answer records of the whole tape.
+-- However the input is cut into pieces, the program writes the answer records of the whole tape, in any number of turns that is enough.
 unfoldable pub HoweverCut : Type 0
-HoweverCut = (memory : ℕ) (ps : List (List ℕ)) → run (turnsFor ps) (resetBytes memory) (zeros memory) (unread ps) ≡ records memory (flatten ps)
+HoweverCut = (memory : ℕ) (ps : List (List ℕ)) (turns : ℕ) → turnsFor ps ≤ turns →
+    run turns (resetBytes memory) (zeros memory) (unread ps) ≡ records memory (flatten ps)
