@@ -1,6 +1,6 @@
 // Audits a replay: reads a tape of calls and a tape of answers from the files that its two arguments name, and prints `agrees` or the number
 // of the first record where the answers are not those that the rules give (docs/TAPE.md). The library tape has the verdict; here bytes
-// are only moved.
+// are read and records counted.
 use libc::STDOUT_FILENO;
 use tape::Found;
 use tape::input::Held;
@@ -8,7 +8,7 @@ ghost use mathlib.Core.Path.{_≡_};
 ghost use Prim.Native.Nat.{_≤_};
 ghost use lib.ListN.{length as ListN·length};
 ghost use Rattle.tape.specs.Audit.{Finds};
-ghost use Rattle.audit.specs.Place.{shown, Used, passed, Stands, Goes, Turns};
+ghost use Rattle.audit.specs.Place.{shown, Used, passed, Stands, Goes, Wide, Turns};
 
 // The files of the two tapes.
 struct Files {
@@ -85,7 +85,7 @@ fn turn(
     files: Files,
     place: Place,
 ) -> Next
-    requires { ⌜ Stands place (now calls) (now answers) × (place .number ≤ 18446744073709551614) ⌝ }
+    requires { ⌜ Stands place (now calls) (now answers) × Wide (now calls) (now answers) × (place .number ≤ 18446744073709551614) ⌝ }
     ensures { λ r. ⌜ Turns (now (state .entry)) (now (memory .entry)) (now (calls .entry)) (now (answers .entry)) place r (now (state .exit)) (now (memory .exit)) (now (calls .exit)) (now (answers .exit)) ⌝ }
     ensures { λ r. ⌜ Goes r (place .number) (now (calls .exit)) (now (answers .exit)) ⌝ }
 {
@@ -119,7 +119,9 @@ fn run(
     calls: &mut [u8],
     answers: &mut [u8],
     files: Files,
-) -> Verdict {
+) -> Verdict
+    requires { ⌜ Wide (now calls) (now answers) ⌝ }
+{
     let none = Held {
         from: 0,
         to: 0,
@@ -169,11 +171,15 @@ fn audit(state: &mut [u8], memory: &mut [u8], length: usize, files: Files)
     print(verdict);
 }
 
-// Opens the file that argument i names, or answers -1.
+// Opens the file that argument i names, or answers -1. A read of no bytes tells a directory, which opens and can't be read.
 fn open(i: usize) -> i32 {
     let mut path = io::buffer();
     let n = os::arg(i, &mut path);
-    os::open_read(&path[..n])
+    let file = os::open_read(&path[..n]);
+    if libc::read(file, &mut path[..0]) < 0 {
+        return -1;
+    }
+    file
 }
 
 fn main() {

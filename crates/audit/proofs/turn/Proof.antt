@@ -30,7 +30,7 @@ pass-requires c κs =
     let a = e .args in (
       used-same (now (a .state)) (now (a .memory)) (now (a .calls)) (now (a .answers)) (a .place) (e .pre .0)
           (d .find .ensures .0) (c .before .used .given .1),
-      e .pre .1,
+      e .pre .2,
     )
 
 enum-told-3 : tie.Need-enum-told-3
@@ -66,7 +66,7 @@ returns c =
     let e = d .before .before .before .before .before .before .before .before .before .before .before in
     let a = e .args in
     does-calls (now (a .state)) (now (a .memory)) (now (a .calls)) (now (a .answers)) (a .place) (e .pre .0)
-    (d .find .ensures .0) (c .before .before .before .before .before .enum-told .given .1)
+    (d .find .ensures .0) (e .pre .1) (c .before .before .before .before .before .enum-told .given .1)
     (c .before .before .more .result) (c .before .before .more .ensures)
 
 same-length-5 : tie.Need-same-length-5
@@ -87,7 +87,7 @@ returns-2 c =
     let e = d .before .before .before .before .before .before .before .before .before .before .before in
     let a = e .args in
     does-answers (now (a .state)) (now (a .memory)) (now (a .calls)) (now (a .answers)) (a .place) (e .pre .0)
-    (d .find .ensures .0) (c .before .before .before .before .before .enum-told2 .given .1)
+    (d .find .ensures .0) (e .pre .1) (c .before .before .before .before .before .enum-told2 .given .1)
     (c .before .before .more2 .result) (c .before .before .more2 .ensures)
 
 same-length-9 : tie.Need-same-length-9
