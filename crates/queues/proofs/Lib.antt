@@ -2,4 +2,5 @@ pub mod LiveLaws
 pub mod ResetLaws
 pub mod PollLaws
 pub mod ReceiveLaws
+pub mod PutLaws
 pub mod FlushLaws

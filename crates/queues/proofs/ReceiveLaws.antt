@@ -1,16 +1,19 @@
 -- The cases of a post receive. Assumes nothing.
 use mathlib.Core.Path.{_≡_, refl, ap, _∙_}
-use mathlib.Core.Bool.{Bool, true, false, cond, not, _||_}
-use mathlib.Core.List.{List, []}
+use mathlib.Core.Bool.{Bool, true, false, cond, not, _&&_, false≢true}
+use mathlib.Core.List.{List, [], _∷_}
 use mathlib.Core.Option.{Option, none, some}
-use Prim.Native.Nat.{ℕ, _+_, _*_}
+use Prim.Native.Nat.{ℕ, _+_, _*_, _^_, _<_}
+use native.Mathlib.Omega.{arith}
 use lib.ListN.{length}
 use lib.Dec.{eqb, ltb, leb}
-use borrow.Author.Tests.{le-leb, ltb-false}
+use borrow.Author.Tests.{le-leb, ltb-false, eqb-true, ne-eqb}
 use Rattle.wire.specs.Checks.{refusal}
-use Rattle.wire.specs.Codec.{decode, fieldsAt, Fits}
+use Rattle.wire.specs.Codec.{decode, fieldsAt, Fit, Fits}
 use Rattle.wire.proofs.CheckLaws.{passed}
 use Rattle.wire.proofs.CodecLaws.{fieldsAt-fit}
+use Rattle.wire.proofs.ScanLaws.{and-left, and-right}
+use Rattle.tables.specs.Card.{Receive, receiveOf}
 use Rattle.tables.specs.Limits.{mostWaiting, mostReceiveSges}
 use Rattle.tables.specs.Queue.{postBytes}
 use Rattle.tables.specs.Records.{receiveCodec, receiveChecks, receiveRead, receiveReadBy}
@@ -20,17 +23,21 @@ use Rattle.tables.specs.declared.ReceiveRecord.{ReceiveRecord}
 use Rattle.validate.specs.Accept.{accepts, receiveOk}
 use Rattle.validate.proofs.WaitingLaws.{post-card, post-accepted}
 use Rattle.rules.specs.Answer.{answered}
-use Rattle.rules.specs.Bytes.{effectBytes}
+use Rattle.rules.specs.Bytes.{effectBytes, flushedBytes, receiveBytes}
 use Rattle.rules.specs.Call.{Call}
 use Rattle.rules.specs.Calls.{owedChecks, checks, statusOf, effect, memoryAfter, bufferAfter}
 use Rattle.rules.specs.Contract.{Owes}
-use Rattle.rules.specs.Queues.{joinChecks, joined}
+use Rattle.rules.specs.Lists.{isEmpty}
+use Rattle.rules.specs.Queues.{flushesAtOnce, joinChecks, joinStatus, joinPuts, joined, received}
+use Rattle.rules.specs.Send.{room, isInError}
 use Rattle.rules.specs.Touch.{receiveIn}
-use Rattle.rules.specs.declared.Answer.the-variants.{Done, Refused}
+use Rattle.rules.specs.declared.Answer.the-variants.{Done, Held, Refused}
+use Rattle.rules.specs.declared.Cause.the-variants.{Place}
 use Rattle.rules.proofs.Exported.{refused-owes, done-owes}
 use Rattle.rules.proofs.Tests.{firstOf, refusal-append}
-use Rattle.queues.specs.Live.{LivePair}
+use Rattle.queues.specs.Live.{LivePair, PlacedPair}
 use Rattle.queues.proofs.LiveLaws.{pair-ok, pair-below, pair-flag, receive-room}
+use Rattle.queues.proofs.PutLaws.{put-card, put-accepted}
 
 -- ---- what reading the record gave
 
@@ -46,6 +53,11 @@ read-badly true b c r n e = let z : n ≡ 1 = cc in rw z (refl, refl)
 read-badly false true c r n e = let z : n ≡ 4 = cc in rw z (refl, refl)
 read-badly false false true r n e = let z : n ≡ 1 = cc in rw z (refl, refl)
 read-badly false false false r n e = (cc, cc)
+
+-- a queue on which none waits is not full
+none-full : (ws : List Receive) → isEmpty ws ≡ true → leb mostWaiting (length ws) ≡ false
+none-full [] e = refl
+none-full (w ∷ ws) e = absurd (false≢true e)
 
 -- ---- the call
 
@@ -78,6 +90,10 @@ module _ (l : List ℕ) (q : ℕ) (x : List ℕ) where
     unfolding receiveCodec fieldsAt
     w-fits = rw (← (both .1)) (fieldsAt-fit _ x 0)
 
+    w-small : w .wr < 2 ^ 64
+    unfolding receiveCodec Fit
+    w-small = w-fits .0
+
     w-ok : receiveOk w ≡ true
     unfolding receiveChecks
     w-ok =
@@ -86,8 +102,9 @@ module _ (l : List ℕ) (q : ℕ) (x : List ℕ) where
 
     joins : accepts l ≡ true → refusal (owedChecks card accepts l k)
         ≡ cond (not (card l .qp q .live)) (some 2)
-        (cond (eqb (card l .qp q .state) 0 || eqb (card l .qp q .state) 6) (some 3)
-        (cond (leb mostWaiting (length (card l .qp q .waiting))) (some 8) none))
+        (cond (eqb (card l .qp q .state) 0) (some 3)
+        (cond (flushesAtOnce (card l) q && not (room (card l .cq (card l .qp q .rcq)) 1)) (some 6)
+        (cond (leb mostWaiting (length (card l .qp q .waiting))) (some 8) none)))
     unfolding joinChecks
     joins ok = order ∙ rw (ok, both .0)
 
@@ -95,17 +112,39 @@ module _ (l : List ℕ) (q : ℕ) (x : List ℕ) where
     receive-dead ok e = refused-owes l k 2 (joins ok ∙ rw e)
 
     module _ (s : LivePair l q) where
-      pub receive-state : (eqb (card l .qp q .state) 0 || eqb (card l .qp q .state) 6) ≡ true → Owes l k (Refused 3) l [] []
+      pub receive-state : eqb (card l .qp q .state) 0 ≡ true → Owes l k (Refused 3) l [] []
       receive-state e = refused-owes l k 3 (joins (s .ok) ∙ rw (s .live, e))
 
-      module _ (takes : (eqb (card l .qp q .state) 0 || eqb (card l .qp q .state) 6) ≡ false) where
+      -- it is flushed
+      module _ (now : flushesAtOnce (card l) q ≡ true) where
+        not-reset : eqb (card l .qp q .state) 0 ≡ false
+        not-reset =
+            let e = eqb-true (card l .qp q .state) 6 (and-left (isInError (card l .qp q)) (isEmpty (card l .qp q .waiting)) now) in
+            ne-eqb (card l .qp q .state) 0 (λ z. omega arith)
+
+        not-full : leb mostWaiting (length (card l .qp q .waiting)) ≡ false
+        not-full = none-full (card l .qp q .waiting) (and-right (isInError (card l .qp q)) (isEmpty (card l .qp q .waiting)) now)
+
+        pub receive-held : room (card l .cq (card l .qp q .rcq)) 1 ≡ false → Owes l k (Held Place) l [] []
+        receive-held e = refused-owes l k 6 (joins (s .ok) ∙ rw (s .live, not-reset, now, e))
+
+        pub receive-flushed : room (card l .cq (card l .qp q .rcq)) 1 ≡ true → (l′ : List ℕ) → l′ ≡ flushedBytes l q (w .wr) → Owes l k (Done 4) l′ [] []
+        unfolding statusOf memoryAfter bufferAfter effect effectBytes receiveBytes joinStatus joinPuts received receiveIn receiveOf
+        receive-flushed e l′ t =
+            let f : PlacedPair l q = record { pair = s; place = e } in
+            rw now at (done-owes l k (joins (s .ok) ∙ rw (s .live, not-reset, now, e, not-full))
+            (rw (now, both .1) (put-card f (w .wr) w-small))
+            (rw (now, both .1) (put-accepted f (w .wr) w-small)) l′ (rw (now, both .1) t))
+
+      -- it waits
+      module _ (takes : eqb (card l .qp q .state) 0 ≡ false) (later : flushesAtOnce (card l) q ≡ false) where
         pub receive-full : leb mostWaiting (length (card l .qp q .waiting)) ≡ true → Owes l k (Refused 8) l [] []
-        receive-full e = refused-owes l k 8 (joins (s .ok) ∙ rw (s .live, takes, e))
+        receive-full e = refused-owes l k 8 (joins (s .ok) ∙ rw (s .live, takes, later, e))
 
         pub receive-done : leb mostWaiting (length (card l .qp q .waiting)) ≡ false → (l′ : List ℕ) → l′ ≡ postBytes l q w → Owes l k (Done 0) l′ [] []
-        unfolding statusOf memoryAfter bufferAfter effect effectBytes joined receiveIn
+        unfolding statusOf memoryAfter bufferAfter effect effectBytes receiveBytes joinStatus received joined receiveIn
         receive-done e l′ t =
             let room = receive-room s e in
-            done-owes l k (joins (s .ok) ∙ rw (s .live, takes, e))
-            (rw (both .1) (post-card l (pair-ok s) q (pair-below s) (pair-flag s) w w-fits room))
-            (rw (both .1) (post-accepted l (pair-ok s) q (pair-below s) (pair-flag s) w w-fits room w-ok)) l′ (rw (both .1) t)
+            rw later at (done-owes l k (joins (s .ok) ∙ rw (s .live, takes, later, e))
+            (rw (later, both .1) (post-card l (pair-ok s) q (pair-below s) (pair-flag s) w w-fits room))
+            (rw (later, both .1) (post-accepted l (pair-ok s) q (pair-below s) (pair-flag s) w w-fits room w-ok)) l′ (rw (later, both .1) t))

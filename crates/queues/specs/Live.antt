@@ -7,6 +7,7 @@ use Rattle.tables.specs.Card.{cqLive}
 use Rattle.tables.specs.State.{card}
 use Rattle.validate.specs.Accept.{accepts}
 use Rattle.rules.specs.Lists.{isEmpty}
+use Rattle.rules.specs.Queues.{flushesAtOnce}
 use Rattle.rules.specs.Send.{room}
 
 -- neither "15 lent card state not acceptable" nor, of completion queue n, "2 number not live"
@@ -19,8 +20,17 @@ pub record LivePair (l : List ℕ) (q : ℕ) : Type 0 where
   pub ok : accepts l ≡ true
   pub live : card l .qp q .live ≡ true
 
+-- nor "no place 6"
+pub record PlacedPair (l : List ℕ) (q : ℕ) : Type 0 where
+  pub pair : LivePair l q
+  pub place : room (card l .cq (card l .qp q .rcq)) 1 ≡ true
+
 -- neither "none waiting 9" nor "no place 6": "then the oldest receive completes"
 pub record Flushable (l : List ℕ) (q : ℕ) : Type 0 where
-  pub pair : LivePair l q
+  pub placed : PlacedPair l q
   pub waits : isEmpty (card l .qp q .waiting) ≡ false
-  pub place : room (card l .cq (card l .qp q .rcq)) 1 ≡ true
+
+-- 02, M-103: a receive posted on it is flushed at once
+pub record Flushing (l : List ℕ) (q : ℕ) : Type 0 where
+  pub pair : LivePair l q
+  pub now : flushesAtOnce (card l) q ≡ true

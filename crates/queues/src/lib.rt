@@ -12,6 +12,7 @@ use rules::numbers::SHORT_BUFFER;
 use rules::numbers::WRONG_STATE;
 use tables::ReceiveRead;
 use tables::ReceiveRecord;
+use tables::limits::FLUSHED;
 use tables::limits::MOST_MEMORY;
 use tables::queue;
 use tables::records;
@@ -26,7 +27,7 @@ ghost use lib.ListN.{length};
 ghost use Rattle.validate.specs.Accept.{accepts};
 ghost use Rattle.rules.specs.Call.{Call};
 ghost use Rattle.rules.specs.Contract.{Owes};
-ghost use Rattle.queues.specs.Live.{LiveQueue, LivePair};
+ghost use Rattle.queues.specs.Live.{LiveQueue, LivePair, Flushing};
 ghost use Rattle.queues.specs.Receive.{Posts};
 
 // ---- reset
@@ -82,13 +83,28 @@ pub fn poll(state: &mut [u8], cqn: u32, buffer: &mut [u8]) -> Answer
 
 // ---- post receive
 
-// The receive of a record waits on a live queue pair, behind the others.
+// The receive of a record on a queue pair in error on which none waits: it is flushed.
+fn flush_new(state: &mut [u8], q: usize, w: ReceiveRecord) -> Answer
+    requires { ⌜ Flushing (now state) q ⌝ }
+    ensures { λ r. ⌜ Posts (now (state .entry)) q w r (now (state .exit)) ⌝ }
+{
+    if !pair::has_place(state, q) {
+        return Answer::Held(Cause::Place);
+    }
+    pair::put_flushed(state, q, w.wr);
+    Answer::Done(FLUSHED)
+}
+
+// The receive of a record on a live queue pair: it is flushed, or it waits behind the others.
 fn post_live(state: &mut [u8], q: usize, w: ReceiveRecord) -> Answer
     requires { ⌜ LivePair (now state) q ⌝ }
     ensures { λ r. ⌜ Posts (now (state .entry)) q w r (now (state .exit)) ⌝ }
 {
-    if pair::bars_receives(state, q) {
+    if pair::in_reset(state, q) {
         return Answer::Refused(WRONG_STATE);
+    }
+    if pair::flushes_at_once(state, q) {
+        return flush_new(state, q, w);
     }
     if pair::receives_full(state, q) {
         return Answer::Refused(FULL);
@@ -108,7 +124,7 @@ fn post_record(state: &mut [u8], qpn: u32, w: ReceiveRecord) -> Answer
     post_live(state, qpn as usize, w)
 }
 
-// A receive more on a queue pair. Its keys aren't looked at.
+// A receive more on a queue pair, flushed at once where it is in error and none waits. Its keys aren't looked at.
 pub fn post_receive(state: &mut [u8], qpn: u32, posted: &[u8]) -> Answer
     ensures { λ r. ⌜ Owes (now (state .entry)) (Call.receive qpn (now (posted .entry))) r (now (state .exit)) [] [] ⌝ }
 {

@@ -9,16 +9,16 @@ use tables::limits::RESET;
 use tables::queue;
 use tables::rows;
 ghost use mathlib.Core.Path.{_≡_};
-ghost use mathlib.Core.Bool.{_||_};
 ghost use lib.Dec.{eqb, leb};
 ghost use lib.ListN.{length};
 ghost use Rattle.tables.specs.Layout.{stateSize};
 ghost use Rattle.tables.specs.Limits.{mostWaiting};
 ghost use Rattle.tables.specs.State.{card};
-ghost use Rattle.rules.specs.Bytes.{flushBytes};
+ghost use Rattle.rules.specs.Bytes.{flushedBytes, flushBytes};
 ghost use Rattle.rules.specs.Lists.{isEmpty};
+ghost use Rattle.rules.specs.Queues.{flushesAtOnce};
 ghost use Rattle.rules.specs.Send.{room};
-ghost use Rattle.queues.specs.Live.{LivePair, Flushable};
+ghost use Rattle.queues.specs.Live.{LivePair, PlacedPair, Flushable};
 
 // Whether queue pair qpn is live.
 pub fn live(state: &[u8], qpn: u32) -> bool
@@ -32,13 +32,22 @@ pub fn live(state: &[u8], qpn: u32) -> bool
     false
 }
 
-// Whether its state takes no receives.
-pub fn bars_receives(state: &[u8], q: usize) -> bool
+pub fn in_reset(state: &[u8], q: usize) -> bool
     requires { ⌜ LivePair (now state) q ⌝ }
-    ensures { λ r. ⌜ r ≡ (eqb (card (now (state .entry)) .qp q .state) 0 || eqb (card (now (state .entry)) .qp q .state) 6) ⌝ }
+    ensures { λ r. ⌜ r ≡ eqb (card (now (state .entry)) .qp q .state) 0 ⌝ }
 {
     let p = rows::load_qp(state, q);
-    (p.state == RESET) | (p.state == ERROR)
+    p.state == RESET
+}
+
+// Whether a receive posted on it is flushed: it is in error, and none waits.
+pub fn flushes_at_once(state: &[u8], q: usize) -> bool
+    requires { ⌜ LivePair (now state) q ⌝ }
+    ensures { λ r. ⌜ r ≡ flushesAtOnce (card (now (state .entry))) q ⌝ }
+{
+    let p = rows::load_qp(state, q);
+    let h = rows::load_waiting(state, q);
+    (p.state == ERROR) & (h.count == 0)
 }
 
 pub fn receives_full(state: &[u8], q: usize) -> bool
@@ -75,15 +84,14 @@ pub fn has_place(state: &[u8], q: usize) -> bool
     u.count < u.places
 }
 
-// The oldest receive of queue pair q completes as flushed.
-pub fn complete_oldest(state: &mut [u8], q: usize)
-    requires { ⌜ Flushable (now state) q ⌝ }
-    ensures { λ _. ⌜ now (state .exit) ≡ flushBytes (now (state .entry)) q ⌝ }
+// The completion of a flushed receive of queue pair q.
+pub fn put_flushed(state: &mut [u8], q: usize, wr: u64)
+    requires { ⌜ PlacedPair (now state) q ⌝ }
+    ensures { λ _. ⌜ now (state .exit) ≡ flushedBytes (now (state .entry)) q wr ⌝ }
 {
     let p = rows::load_qp(state, q);
-    let w = queue::oldest_receive(state, q);
     let e = Completion {
-        wr: w.wr,
+        wr,
         status: FLUSHED,
         opcode: RECEIVED,
         length: 0,
@@ -91,5 +99,14 @@ pub fn complete_oldest(state: &mut [u8], q: usize)
         owner: q as u32,
     };
     queue::push_completion(state, p.rcq as usize, e);
+}
+
+// The oldest receive of queue pair q completes as flushed.
+pub fn complete_oldest(state: &mut [u8], q: usize)
+    requires { ⌜ Flushable (now state) q ⌝ }
+    ensures { λ _. ⌜ now (state .exit) ≡ flushBytes (now (state .entry)) q ⌝ }
+{
+    let w = queue::oldest_receive(state, q);
+    put_flushed(state, q, w.wr);
     queue::take_receive(state, q);
 }

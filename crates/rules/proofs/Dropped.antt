@@ -25,7 +25,7 @@ use Rattle.rules.specs.Calls.{checks, effect, statusOf, memoryAfter, set
 use Rattle.rules.specs.Touch.{Request, requestOf, fills, takes, total, sgeTotal, farBytes}
 use Rattle.rules.specs.Permit.{keyOf, found, lookup, covers, permits, permitsAll}
 use Rattle.rules.specs.Control.{commandChecks, commandEffect, newVariant}
-use Rattle.rules.specs.Send.{deliveryChecks, ready, peerOf, takenBy, farUse, errorIf, consumeIf, sendStatus, sendMemory, sendQps, sendPuts, sendEffect}
+use Rattle.rules.specs.Send.{deliveryChecks, ready, peerOf, takenBy, farUse, errorIf, consumeIf, sendStatus, sendMemory, sendQps, sendPuts, sendEffect, pairChecks, readyChecks, placeChecks, holdChecks, runStatus}
 use Rattle.rules.proofs.Answers.{answered-not-done}
 use Rattle.rules.proofs.Variants.{slot-free, new-small, slot}
 use Rattle.rules.specs.Dropped.{Fails, Denied, LostBy, Lost, Reaches, farKey, StaleFails, DroppedRegion, HeldStays, KeysDropped, HandedOut, Spent, DropSpends, OldKeysGone, DropRetires, StaysRetired, LargestKey, OldKeyStale, NewKeyStands}
@@ -53,12 +53,12 @@ module _ (c : Card) (q : ℕ) (r : Request) (i : ℕ) (s : Reaches c q r i) (k :
       all-fails (permits c (peerOf c q) (farUse (r .opcode))) (farBytes r (takenBy c q)) i (record { address = 0; key = 0 }) (s .within) (rw k refl)
 
   status-7 : fills (r .opcode) ≡ true → sendStatus c q r ≡ 7
-  unfolding sendStatus
-  status-7 e = rw (far-fails, s .own, s .short, s .fits e, e)
+  unfolding sendStatus runStatus
+  status-7 e = rw (s .running, far-fails, s .own, s .short, s .fits e, e)
 
   status-8 : fills (r .opcode) ≡ false → sendStatus c q r ≡ 8
-  unfolding sendStatus
-  status-8 e = rw (far-fails, s .own, s .short, e)
+  unfolding sendStatus runStatus
+  status-8 e = rw (s .running, far-fails, s .own, s .short, e)
 
 -- the queue pairs after status 7, over the sender and the peer
 module _ (f : ℕ → Qp) (q d : ℕ) where
@@ -142,7 +142,7 @@ module _ (c : Card) (n q : ℕ) where
   same-ready (some d) = refl
 
   pub same-checks : (x m : List ℕ) → checks (commandEffect c (Command.deregister n)) (Call.send q x m) ≡ checks c (Call.send q x m)
-  unfolding checks deliveryChecks commandEffect
+  unfolding checks pairChecks readyChecks placeChecks holdChecks deliveryChecks commandEffect
   same-checks x m = rw (same-ready (c .qp q .dest))
 
 pub held-stays : HeldStays

@@ -1,5 +1,5 @@
 -- The state's bytes after each call that passes its tests: which rows are stored, with what, in which order. Assumes nothing.
-use mathlib.Core.Bool.{Bool, cond, not}
+use mathlib.Core.Bool.{Bool, cond}
 use mathlib.Core.List.{List, [], _∷_}
 use Prim.Native.Nat.{ℕ}
 use lib.Dec.{eqb}
@@ -15,13 +15,14 @@ use Rattle.validate.specs.Search.{freePdn, freeCqn, freeMrn, freeQpn}
 use Rattle.tables.specs.declared.CreateQp.{CreateQp}
 use Rattle.tables.specs.declared.QueueHead.{QueueHead}
 use Rattle.tables.specs.declared.QueuePair.{QueuePair}
+use Rattle.tables.specs.declared.ReceiveRecord.{ReceiveRecord}
 use Rattle.tables.specs.declared.Region.{Region}
 use Rattle.tables.specs.declared.Registration.{Registration}
 use Rattle.tables.specs.declared.WaitingHead.{WaitingHead}
 use Rattle.rules.specs.Call.{Call}
 use Rattle.rules.specs.Control.{newVariant}
-use Rattle.rules.specs.Queues.{flushPut}
-use Rattle.rules.specs.Send.{Put, peerOf, sendStatus, sendPuts, consumes}
+use Rattle.rules.specs.Queues.{flushedPut, flushesAtOnce}
+use Rattle.rules.specs.Send.{Put, peerOf, oldest, sendStatus, sendPuts, consumes, fails}
 use Rattle.rules.specs.Touch.{Request, requestOf}
 use Rattle.rules.specs.Lists.{maybe}
 use Rattle.wire.specs.Codec.{decode}
@@ -100,12 +101,20 @@ unfoldable pub sendBytes : List ℕ → (q : ℕ) → Request → List ℕ
 sendBytes l q r =
     let s = sendStatus (card l) q r in
     let d = peerOf (card l) q in
-    errorBytes (eqb s 7) (consumeBytes (consumes (r .opcode) s) (errorBytes (not (eqb s 0)) (pushAll l (sendPuts (card l) q r s)) q) d) d
+    errorBytes (eqb s 7) (consumeBytes (consumes (r .opcode) s) (errorBytes (fails s) (pushAll l (sendPuts (card l) q r s)) q) d) d
 
--- ---- flush
+-- ---- post receive and flush
+
+-- the completion of a flushed receive, put
+abbrev pub flushedBytes : List ℕ → (q wr : ℕ) → List ℕ
+flushedBytes l q wr = let p = flushedPut (card l) q wr in pushBytes l (p .cqn) (p .entry)
+
+-- that of the receive, or the receive behind the others
+unfoldable pub receiveBytes : List ℕ → (q : ℕ) → ReceiveRecord → List ℕ
+receiveBytes l q w = cond (flushesAtOnce (card l) q) (flushedBytes l q (w .wr)) (postBytes l q w)
 
 unfoldable pub flushBytes : List ℕ → (q : ℕ) → List ℕ
-flushBytes l q = takeBytes (pushBytes l (flushPut (card l) q .cqn) (flushPut (card l) q .entry)) q
+flushBytes l q = takeBytes (flushedBytes l q (oldest (card l .qp q .waiting) .wr)) q
 
 -- ---- each call
 
@@ -113,6 +122,6 @@ unfoldable pub effectBytes : List ℕ → Call → List ℕ
 effectBytes l (Call.reset n) = resetBytes n
 effectBytes l (Call.control k a) = maybe l (commandBytes l) (commandOf k)
 effectBytes l (Call.send q x m) = sendBytes l q (requestOf x)
-effectBytes l (Call.receive q x) = postBytes l q (decode receiveCodec x 0)
+effectBytes l (Call.receive q x) = receiveBytes l q (decode receiveCodec x 0)
 effectBytes l (Call.flush q) = flushBytes l q
 effectBytes l (Call.poll n b) = popBytes l n

@@ -22,7 +22,7 @@ use Rattle.rules.specs.Answer.{answered, isDone}
 use Rattle.rules.specs.Touch.{requestOf, receiveIn}
 use Rattle.rules.specs.Control.{commandChecks, commandAck, commandEffect}
 use Rattle.rules.specs.Send.{deliveryChecks, sendStatus, sendEffect, sendMemory}
-use Rattle.rules.specs.Queues.{joinChecks, joined, flushChecks, flushed, pollChecks, polled, oldestEntry}
+use Rattle.rules.specs.Queues.{joinChecks, joinStatus, received, flushChecks, flushed, pollChecks, polled, oldestEntry}
 use Rattle.rules.specs.Call.{Call, memoryOf, Outcome}
 
 -- ---- the tests
@@ -56,11 +56,12 @@ checks c (Call.poll n b) = bufferChecks b ++ pollChecks c n
 
 -- ---- a call that passes them
 
+-- "Status is 0 outside work requests", but for a receive that is flushed: 02, M-103, "status 4"
 unfoldable pub statusOf : Card → Call → ℕ
 statusOf c (Call.reset n) = 0
 statusOf c (Call.control k a) = 0
 statusOf c (Call.send q x m) = sendStatus c q (requestOf x)
-statusOf c (Call.receive q x) = 0
+statusOf c (Call.receive q x) = joinStatus c q
 statusOf c (Call.flush q) = 0
 statusOf c (Call.poll n b) = 0
 
@@ -68,7 +69,7 @@ unfoldable pub effect : Card → Call → Card
 effect c (Call.reset n) = fresh n
 effect c (Call.control k a) = maybe c (commandEffect c) (commandOf k)
 effect c (Call.send q x m) = sendEffect c q (requestOf x)
-effect c (Call.receive q x) = joined c q (receiveIn x)
+effect c (Call.receive q x) = received c q (receiveIn x)
 effect c (Call.flush q) = flushed c q
 effect c (Call.poll n b) = polled c n
 

@@ -21,7 +21,7 @@ use Rattle.rules.specs.Answer.{isDone}
 use Rattle.rules.specs.Touch.{Request, requestOf, fills, total, sgeTotal, ownBytes, farBytes}
 use Rattle.rules.specs.Permit.{keyOf, lookup, permitsAll}
 use Rattle.rules.specs.Control.{commandChecks, commandEffect, newVariant}
-use Rattle.rules.specs.Send.{peerOf, takenBy, ownUse, senderPut, receiverPut, putAll}
+use Rattle.rules.specs.Send.{peerOf, takenBy, ownUse, senderPut, receiverPut, putAll, isInError}
 use Rattle.rules.specs.Call.{Call}
 use Rattle.rules.specs.Calls.{step}
 
@@ -58,8 +58,9 @@ Lost c c′ q r a m m′ = LostBy (fills (r .opcode)) c c′ q r a m m′
 abbrev pub farKey : Card → (q : ℕ) → Request → (i : ℕ) → ℕ
 farKey c q r i = getD (farBytes r (takenBy c q)) i (record { address = 0; key = 0 }) .key
 
--- the request passes all tests before that of the peer's bytes, and touches byte i of them
+-- the request is not flushed, passes all tests before that of the peer's bytes, and touches byte i of them
 pub record Reaches (c : Card) (q : ℕ) (r : Request) (i : ℕ) : Type 0 where
+  pub running : isInError (c .qp q) ≡ false
   pub short : leb (total r) mostMessage ≡ true
   pub own : permitsAll c q (ownUse (r .opcode)) (ownBytes r) ≡ true
   pub fits : fills (r .opcode) ≡ true → leb (total r) (sgeTotal (takenBy c q .sges)) ≡ true

@@ -1,12 +1,12 @@
 -- Document 01, "Posting and delivering": post send, its tests, its steps 1 to 6, the completions that it puts, and the queue pairs
--- and the memory after it. Assumes nothing.
+-- and the memory after it; 02, M-103: what one on a queue pair in error does. Assumes nothing.
 use mathlib.Core.Bool.{Bool, false, cond, not, _&&_, _||_}
 use mathlib.Core.List.{List, [], _∷_, _++_}
 use mathlib.Core.Option.{Option, none, some}
 use Prim.Native.Nat.{ℕ, _+_}
 use lib.Dec.{eqb, leb}
 use lib.ListN.{length, getD}
-use Rattle.wire.specs.Checks.{Check, _if_}
+use Rattle.wire.specs.Checks.{Check, _if_, refusal}
 use Rattle.wire.specs.Slots.{upd}
 use Rattle.tables.specs.Limits.{qpCount, mostMessage}
 use Rattle.tables.specs.Card.{Card, Cq, Qp, Receive, noReceive, withCq, withQp, withWaiting, tail, withEntries}
@@ -49,16 +49,37 @@ hasPlaces c q d o =
     let r = c .qp d .rcq in
     room (c .cq s) (cond (takes o && eqb s r) 2 1) && (not (takes o) || room (c .cq r) 1)
 
--- ---- the tests after the record's own: "QP 2; QP not in RTS 3", and steps 1 and 2
+-- ---- the tests after the record's own
 
-unfoldable pub deliveryChecks : Card → (q : ℕ) → Request → List Check
-deliveryChecks c q r =
+-- "6 error"
+abbrev pub isInError : Qp → Bool
+isInError s = eqb (s .state) 6
+
+-- "QP 2; QP not in RTS 3"; 02, M-103: "answer 3 to work posted on a QP in error is wrong .. it is accepted and flushed"
+unfoldable pub pairChecks : Card → (q : ℕ) → List Check
+pairChecks c q =
     2 if not (c .qp q .live) ∷
-    3 if not (eqb (c .qp q .state) 3) ∷
+    3 if not (eqb (c .qp q .state) 3 || isInError (c .qp q)) ∷
+    []
+
+-- steps 1 and 2
+unfoldable pub readyChecks : Card → (q : ℕ) → Request → List Check
+readyChecks c q r =
     5 if not (ready c q (c .qp q .dest)) ∷
     5 if (takes (r .opcode) && isEmpty (c .qp (peerOf c q) .waiting)) ∷
     6 if not (hasPlaces c q (peerOf c q) (r .opcode)) ∷
     []
+
+-- 02, M-103: "with one free place in its own send .. CQ"; "Without a place it is held with 6." No peer is looked at.
+unfoldable pub placeChecks : Card → (q : ℕ) → List Check
+placeChecks c q = 6 if not (room (c .cq (c .qp q .scq)) 1) ∷ []
+
+-- the tests that hold a request
+unfoldable pub holdChecks : Card → (q : ℕ) → Request → List Check
+holdChecks c q r = cond (isInError (c .qp q)) (placeChecks c q) (readyChecks c q r)
+
+unfoldable pub deliveryChecks : Card → (q : ℕ) → Request → List Check
+deliveryChecks c q r = pairChecks c q ++ holdChecks c q r
 
 -- ---- steps 3 to 6
 
@@ -70,20 +91,32 @@ ownUse o = cond (reads o) Use.localWrite Use.localRead
 abbrev pub farUse : (opcode : ℕ) → Use
 farUse o = cond (fills o) Use.localWrite (cond (reads o) Use.remoteRead Use.remoteWrite)
 
--- the order of steps 3 to 5, over their tests: the total is short enough, the sender's bytes are permitted, the total fits the
--- receive, the peer's bytes are permitted
+-- steps 3 to 5 in order, over what each of them finds: the total is short enough, the sender's bytes are permitted, the total fits the
+-- receive, the peer's bytes are permitted; fill says that a receive is filled. The first that is met is the status.
+abbrev pub faults : (fill short own fits far : Bool) → List Check
+faults fill short own fits far =
+    1 if not short ∷
+    3 if not own ∷
+    8 if (not fill && not far) ∷
+    7 if (fill && not fits) ∷
+    7 if (fill && not far) ∷
+    []
+
 abbrev pub statusBy : (fill short own fits far : Bool) → ℕ
-statusBy fill short own fits far =
-    cond short (cond own (cond fill (cond fits (cond far 0 7) 7) (cond far 0 8)) 3) 1
+statusBy fill short own fits far = orElse (refusal (faults fill short own fits far)) 0
 
 -- "0 success, 1 local length, 3 local protection, .. 7 remote invalid request, 8 remote access"
-unfoldable pub sendStatus : Card → (q : ℕ) → Request → ℕ
-sendStatus c q r =
+unfoldable pub runStatus : Card → (q : ℕ) → Request → ℕ
+runStatus c q r =
     let w = takenBy c q in
     statusBy (fills (r .opcode)) (leb (total r) mostMessage)
     (permitsAll c q (ownUse (r .opcode)) (ownBytes r))
     (leb (total r) (sgeTotal (w .sges)))
     (permitsAll c (peerOf c q) (farUse (r .opcode)) (farBytes r w))
+
+-- 02, M-103: "in state 6, a send .. gives answer 0, status 4"
+unfoldable pub sendStatus : Card → (q : ℕ) → Request → ℕ
+sendStatus c q r = cond (isInError (c .qp q)) 4 (runStatus c q r)
 
 -- a receive is consumed by opcodes 1, 2, 3 on success, and by a failure of step 5
 abbrev pub consumes : (opcode status : ℕ) → Bool
@@ -137,7 +170,8 @@ receiverPut c q r s = record {
       };
 }
 
--- "Sender's success is put if signal is 0 or the flag is set; errors and receiver completions always. The sender's comes first."
+-- "Sender's success is put if signal is 0 or the flag is set; errors and receiver completions always. The sender's comes first." So 02,
+-- M-103's "a completion with status 4, byte length 0, and the sender's opcode" is put though it is unsignaled.
 unfoldable pub sendPuts : Card → (q : ℕ) → Request → (s : ℕ) → List Put
 sendPuts c q r s =
     cond (not (eqb s 0) || eqb (c .qp q .signal) 0 || r .signaled) (senderPut c q r s ∷ []) [] ++
@@ -156,11 +190,15 @@ errorIf b q f = cond b (upd f q (inError (f q))) f
 abbrev pub consumeIf : Bool → (q : ℕ) → (ℕ → Qp) → ℕ → Qp
 consumeIf b q f = cond b (upd f q (withWaiting (f q) (tail (f q .waiting)))) f
 
+-- a status that moves its sender to error; one that is flushed is there
+abbrev pub fails : (status : ℕ) → Bool
+fails s = not (eqb s 0) && not (eqb s 4)
+
 -- "The receive is consumed, both QPs go to error." "Statuses 1, 3, 8 move only the sender to error; no receive is consumed."
 unfoldable pub sendQps : Card → (q : ℕ) → Request → (s : ℕ) → ℕ → Qp
 sendQps c q r s =
     errorIf (eqb s 7) (peerOf c q)
-    (consumeIf (consumes (r .opcode) s) (peerOf c q) (errorIf (not (eqb s 0)) q (c .qp)))
+    (consumeIf (consumes (r .opcode) s) (peerOf c q) (errorIf (fails s) q (c .qp)))
 
 unfoldable pub sendEffect : Card → (q : ℕ) → Request → Card
 sendEffect c q r =

@@ -45,9 +45,12 @@ complete-oldest-requires c κs =
     let c1 = c .before in
     let c2 = c1 .before .before .before in
     record {
-      pair = c2 .before .before .before .before .before .before .before .pre;
+      placed =
+          record {
+            pair = c2 .before .before .before .before .before .before .before .pre;
+            place = sym (c1 .before .has-place .ensures) ∙ not-false _ (c1 .if3 .left);
+          };
       waits = sym (c2 .before .none-waiting .ensures) ∙ c2 .if2 .left;
-      place = sym (c1 .before .has-place .ensures) ∙ not-false _ (c1 .if3 .left);
     }
 
 same-length-4 : tie.Need-same-length-4
