@@ -1,19 +1,24 @@
 -- A post send that passed all tests, as its code ends: what each part asks and leaves. Assumes nothing.
 use mathlib.Core.Path.{_≡_, refl, sym, ap, subst, _∙_}
-use mathlib.Core.Bool.{true}
-use mathlib.Core.List.{List}
+use mathlib.Core.Bool.{Bool, true, false}
+use mathlib.Core.List.{List, [], _∷_}
 use mathlib.Core.Option.{Option, none, some}
-use Prim.Native.Nat.{ℕ, _≤_, _<_}
+use Prim.Native.Nat.{ℕ, _^_, _≤_, _<_}
 use native.Mathlib.Omega.{arith}
+use lib.ListN.{length}
 use Rattle.wire.specs.Checks.{refusal}
-use Rattle.wire.specs.Codec.{decode}
+use Rattle.wire.specs.Codec.{decode, Fit}
+use Rattle.wire.proofs.CheckLaws.{passed}
 use Rattle.wire.specs.Rows.{rows}
 use Rattle.wire.specs.Table.{rowAt}
 use Rattle.validate.specs.Accept.{accepts}
-use Rattle.tables.specs.State.{card}
-use Rattle.tables.specs.Layout.{qpT, waitingT}
-use Rattle.tables.specs.Limits.{qpCount, mostWaiting, mostSges}
+use Rattle.validate.proofs.AcceptedLaws.{accepted}
+use Rattle.tables.specs.State.{card, pairAt, liveQp}
+use Rattle.tables.proofs.ObjectLaws.{qp-below, qp-flag, qp-row}
+use Rattle.tables.specs.Layout.{stateSize, cqT, qpT, waitingT}
+use Rattle.tables.specs.Limits.{cqCount, qpCount, mostPlaces, mostWaiting, mostSges}
 use Rattle.tables.specs.Records.{sendCodec, sendChecks, sendSge, sendRead, sendReadBy}
+use Rattle.tables.specs.declared.QueuePair.{QueuePair}
 use Rattle.tables.specs.declared.ReceiveRecord.{ReceiveRecord}
 use Rattle.tables.specs.declared.SendRead.the-variants as send
 use Rattle.tables.specs.declared.SendRecord.{SendRecord}
@@ -21,16 +26,20 @@ use Rattle.tables.specs.declared.Sge.{Sge}
 use Rattle.rules.specs.Answer.{answered}
 use Rattle.rules.specs.declared.Answer.{Answer}
 use Rattle.rules.specs.declared.Answer.the-variants.{Done}
-use Rattle.rules.specs.Send.{deliveryChecks, sendStatus}
+use Rattle.rules.specs.Bytes.{pushAll}
+use Rattle.rules.specs.Send.{holdChecks, readyChecks, deliveryChecks, isInError, senderPut, sendStatus, sendMemory}
 use Rattle.rules.specs.Touch.{Request, requestOf}
 use Rattle.engine.specs.Meet.{bare, endsAt, metBy, meeting}
 use Rattle.engine.specs.Deliver.{totalBy, takenRow, Sending, Delivery}
-use Rattle.engine.specs.Settle.{settled, Settling}
-use Rattle.engine.specs.Send.{Posted, Met, Carried, Ran}
+use Rattle.engine.specs.Settle.{putFirst, settled, Settling}
+use Rattle.engine.specs.Send.{Posted, Runs, Met, Carried, Ran}
 use Rattle.engine.proofs.RequestLaws.{requestBy, Told, told, total-is, sending, far-below, first-below, taken-count, status-same, done-short, memory-is}
-use Rattle.engine.proofs.StoreLaws.{settled-is, settling}
+use Rattle.engine.proofs.CardLaws.{Open}
+use Rattle.engine.proofs.LimitLaws.{Flushing, flushing}
+use Rattle.engine.proofs.OwedLaws.{send-fits, flush-open, flush-status, flush-bytes}
+use Rattle.engine.proofs.StoreLaws.{settled-is, settling, open-place}
 use Rattle.engine.specs.declared.meet.Ends.{Ends}
-use Rattle.engine.specs.declared.meet.Meeting.the-variants.{Pairs, Stopped}
+use Rattle.engine.specs.declared.meet.Meeting.the-variants.{Pairs, Flushed, Stopped}
 
 -- the pairs e, the entries sges, the receive w and the total n are those of the record x and the state l
 pub record Ending (l m x : List ℕ) (s : SendRecord) (q : ℕ) (e : Ends) (sges : List Sge) (w : ReceiveRecord) (n : ℕ) : Type 0 where
@@ -40,7 +49,7 @@ pub record Ending (l m x : List ℕ) (s : SendRecord) (q : ℕ) (e : Ends) (sges
   pub carried : (st : ℕ) (m′ : List ℕ) → Delivery l m e s x sges w n st m′ → Carried l q (requestOf x) m st (settled l e s w st n) m′
 
 module _ (l m x : List ℕ) (s : SendRecord) (q : ℕ) (a : accepts l ≡ true) (p : Posted x s)
-    (good : refusal (deliveryChecks (card l) q (bare (s .opcode))) ≡ none) where
+    (good : Runs l q (s .opcode)) where
   t : Told x s
   t = told x s p
 
@@ -97,46 +106,108 @@ module _ (l m x : List ℕ) (s : SendRecord) (q : ℕ) (a : accepts l ≡ true) 
 -- ---- the tests of the two pairs, by how they ended
 
 module _ (l : List ℕ) (q o : ℕ) where
+  abbrev first : Option ℕ
+  first = refusal (deliveryChecks (card l) q (bare o))
+
+  abbrev errs : Bool
+  errs = isInError (card l .qp q)
+
   -- the pairs that passed
-  met-ends : (e : Ends) → Pairs e ≡ meeting l q o → (e ≡ endsAt l q) × (refusal (deliveryChecks (card l) q (bare o)) ≡ none)
-  met-ends e i = go (refusal (deliveryChecks (card l) q (bare o))) refl i
+  met-ends : (e : Ends) → Pairs e ≡ meeting l q o → (e ≡ endsAt l q) × Runs l q o
+  met-ends e i = go first refl errs refl i
     where
-      go : (k : Option ℕ) → refusal (deliveryChecks (card l) q (bare o)) ≡ k → Pairs e ≡ metBy k (endsAt l q) → (e ≡ endsAt l q) × (refusal (deliveryChecks (card l) q (bare o)) ≡ none)
-      go none j i = (cc, j)
-      go (some n) j i = let z : _≡_ {A = ℕ} 0 1 = cc in absurd (omega arith)
+      go : (k : Option ℕ) → first ≡ k → (b : Bool) → errs ≡ b → Pairs e ≡ metBy k b (endsAt l q) → (e ≡ endsAt l q) × Runs l q o
+      go none j true h i = let z : _≡_ {A = ℕ} 0 1 = cc in absurd (omega arith)
+      go none j false h i = (cc, record { good = j; runs = h })
+      go (some n) j b h i = let z : _≡_ {A = ℕ} 0 1 = cc in absurd (omega arith)
 
   pub is-met : (e : Ends) → Pairs e ≡ meeting l q o → Met l e o
   is-met e i =
       let y = met-ends e i in
       let z : e .q ≡ q = ap (λ (k : Ends). k .q) (y .0) in
-      record {
-        rows = y .0 ∙ ap (endsAt l) (sym z);
-        good = subst (λ (k : ℕ). refusal (deliveryChecks (card l) k (bare o)) ≡ none) (sym z) (y .1);
-      }
+      record { rows = y .0 ∙ ap (endsAt l) (sym z); good = subst (λ (k : ℕ). Runs l k o) (sym z) (y .1) }
+
+  -- the sender in error that passed
+  met-error : (own : QueuePair) → Flushed own ≡ meeting l q o → (own ≡ rowAt qpT l q) × ((first ≡ none) × (errs ≡ true))
+  met-error own i = go first refl errs refl i
+    where
+      go : (k : Option ℕ) → first ≡ k → (b : Bool) → errs ≡ b → Flushed own ≡ metBy k b (endsAt l q) →
+          (own ≡ rowAt qpT l q) × ((first ≡ none) × (errs ≡ true))
+      go none j true h i = (cc, (j, h))
+      go none j false h i = let z : _≡_ {A = ℕ} 0 1 = cc in absurd (omega arith)
+      go (some n) j b h i = let z : _≡_ {A = ℕ} 0 1 = cc in absurd (omega arith)
 
   -- the request r has the opcode o
   module _ (r : Request) (is : r .opcode ≡ o) (m : List ℕ) where
-    same-tests : refusal (deliveryChecks (card l) q r) ≡ refusal (deliveryChecks (card l) q (bare o))
-    unfolding deliveryChecks
+    same-tests : refusal (deliveryChecks (card l) q r) ≡ first
+    unfolding holdChecks readyChecks deliveryChecks
     same-tests = rw is
 
     pub ran-on : (e : Ends) → Pairs e ≡ meeting l q o → (st : ℕ) (l′ m′ : List ℕ) → Carried l (e .q) r m st l′ m′ → Ran l q r m (Done st) l′ m′
     ran-on e i st l′ m′ k =
         let y = met-ends e i in
         let z : e .q ≡ q = ap (λ (k : Ends). k .q) (y .0) in
-        let g : refusal (deliveryChecks (card l) q r) ≡ none = same-tests ∙ y .1 in
+        let g : refusal (deliveryChecks (card l) q r) ≡ none = same-tests ∙ y .1 .good in
         let k0 : Carried l q r m st l′ m′ = subst (λ (j : ℕ). Carried l j r m st l′ m′) z k in
         record { answer = rw g (ap Done (k0 .status)); bytes = rw g (k0 .bytes); memory = rw g (k0 .memory) }
 
     pub stopped : (a : Answer) → Stopped a ≡ meeting l q o → Ran l q r m a l m
-    stopped a i = go (refusal (deliveryChecks (card l) q (bare o))) refl i
+    stopped a i = go first refl errs i
       where
-        go : (k : Option ℕ) → refusal (deliveryChecks (card l) q (bare o)) ≡ k → Stopped a ≡ metBy k (endsAt l q) → Ran l q r m a l m
-        go none j i = let z : _≡_ {A = ℕ} 0 1 = cc in absurd (omega arith)
-        go (some n) j i =
+        go : (k : Option ℕ) → first ≡ k → (b : Bool) → Stopped a ≡ metBy k b (endsAt l q) → Ran l q r m a l m
+        go none j true i = let z : _≡_ {A = ℕ} 0 1 = cc in absurd (omega arith)
+        go none j false i = let z : _≡_ {A = ℕ} 0 1 = cc in absurd (omega arith)
+        go (some n) j b i =
             let g : refusal (deliveryChecks (card l) q r) ≡ some n = same-tests ∙ j in
             let z : a ≡ answered 0 (some n) = cc in
             record { answer = rw g z; bytes = rw g; memory = rw g }
+
+-- ---- a request that is flushed
+
+module _ (l m x : List ℕ) (s : SendRecord) (q : ℕ) (a : accepts l ≡ true) (p : Posted x s) (own : QueuePair)
+    (i : Flushed own ≡ meeting l q (s .opcode)) where
+  abbrev asked : Request
+  asked = requestOf x
+
+  of-record : asked ≡ requestBy s x
+  of-record = told x s p .request
+
+  same : asked .opcode ≡ s .opcode
+  same = ap (λ (k : Request). k .opcode) of-record
+
+  passes : refusal (deliveryChecks (card l) q asked) ≡ none
+  passes = same-tests l q (s .opcode) asked same m ∙ met-error l q (s .opcode) own i .1 .0
+
+  f : Flushing (card l) q
+  f = flushing (card l) q asked (met-error l q (s .opcode) own i .1 .1) (passed (deliveryChecks (card l) q asked) passes)
+
+  wr : asked .wr < 2 ^ 64
+  unfolding requestOf sendCodec Fit
+  wr = send-fits x .0
+
+  row-is : card l .qp q ≡ liveQp (pairAt l q)
+  row-is = qp-row l q (qp-below l q (f .live)) (qp-flag l q (f .live))
+
+  -- what its completion asks
+  pub flush-asks : (q < qpCount) × (own .scq < cqCount) × (length l ≡ stateSize) × (rowAt cqT l (own .scq) .count < mostPlaces)
+  unfolding pairAt
+  flush-asks =
+      let o : Open l (own .scq) = rw (row-is, ← met-error l q (s .opcode) own i .0) at (flush-open l (accepted l a) q asked wr f) in
+      (qp-below l q (f .live), o .below, accepted l a .sized, open-place l (accepted l a) (own .scq) o)
+
+  put-is : senderPut (card l) q asked 4 ∷ [] ≡ putFirst q own s 4 0
+  unfolding pairAt
+  put-is = rw (row-is, of-record, met-error l q (s .opcode) own i .0)
+
+  pub ran-flush : (l′ : List ℕ) → l′ ≡ pushAll l (putFirst q own s 4 0) → Ran l q asked m (Done 4) l′ m
+  unfolding sendMemory
+  ran-flush l′ e =
+      let st = flush-status l (accepted l a) q asked wr f in
+      record {
+        answer = rw (passes, st);
+        bytes = rw passes (e ∙ ap (pushAll l) (sym put-is) ∙ sym (flush-bytes l (accepted l a) q asked wr f));
+        memory = rw (passes, st);
+      }
 
 -- the record that was read
 pub posted : (x : List ℕ) (s : SendRecord) → send.Record s ≡ sendRead x → Posted x s

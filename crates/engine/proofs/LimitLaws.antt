@@ -18,7 +18,7 @@ use Rattle.tables.specs.Limits.{qpCount, mostMessage}
 use Rattle.tables.specs.Records.{completionCodec}
 use Rattle.tables.specs.declared.Completion.{Completion}
 use Rattle.rules.specs.Lists.{isEmpty, orElse, names}
-use Rattle.rules.specs.Send.{peerOf, takenBy, canReceive, ready, room, hasPlaces, deliveryChecks, statusBy, sendStatus, consumes, pushed, lengthBy, senderPut, receiverPut, sendPuts, ownUse, farUse}
+use Rattle.rules.specs.Send.{peerOf, takenBy, canReceive, ready, room, hasPlaces, isInError, pairChecks, holdChecks, readyChecks, placeChecks, deliveryChecks, statusBy, runStatus, sendStatus, consumes, pushed, lengthBy, senderPut, receiverPut, sendPuts, ownUse, farUse}
 use Rattle.rules.specs.Permit.{permitsAll}
 use Rattle.rules.specs.Touch.{Request, takes, fills, total, sgeTotal, ownBytes, farBytes}
 use Rattle.engine.proofs.CardLaws.{Can, CanAll}
@@ -26,6 +26,7 @@ use Rattle.engine.proofs.CardLaws.{Can, CanAll}
 -- ---- what the tests tell
 
 pub record Going (c : Card) (q o : ℕ) : Type 0 where
+  pub runs : isInError (c .qp q) ≡ false
   pub live : c .qp q .live ≡ true
   pub peer : c .qp (peerOf c q) .live ≡ true
   pub waits : takes o ≡ true → isEmpty (c .qp (peerOf c q) .waiting) ≡ false
@@ -38,15 +39,29 @@ peer-live c q (some d) e =
     let b : Bool = canReceive (c .qp d .state) in
     and-left a b (and-left (a && b) (names (c .qp d .dest) q) e)
 
-pub going : (c : Card) (q : ℕ) (r : Request) → Passed (deliveryChecks c q r) → Going c q (r .opcode)
-unfolding deliveryChecks
-going c q r p =
+pub going : (c : Card) (q : ℕ) (r : Request) → isInError (c .qp q) ≡ false → Passed (deliveryChecks c q r) → Going c q (r .opcode)
+unfolding pairChecks holdChecks readyChecks deliveryChecks
+going c q r n p =
+    let h : Passed (readyChecks c q r) = rw n at (p .1 .1) in
     record {
+      runs = n;
       live = not-false (c .qp q .live) (p .0);
-      peer = peer-live c q (c .qp q .dest) (not-false (ready c q (c .qp q .dest)) (p .1 .1 .0));
-      waits = and-off (takes (r .opcode)) (isEmpty (c .qp (peerOf c q) .waiting)) (p .1 .1 .1 .0);
-      places = not-false (hasPlaces c q (peerOf c q) (r .opcode)) (p .1 .1 .1 .1 .0);
+      peer = peer-live c q (c .qp q .dest) (not-false (ready c q (c .qp q .dest)) (h .0));
+      waits = and-off (takes (r .opcode)) (isEmpty (c .qp (peerOf c q) .waiting)) (h .1 .0);
+      places = not-false (hasPlaces c q (peerOf c q) (r .opcode)) (h .1 .1 .0);
     }
+
+-- one in error has a place for its completion, and looks at no peer
+pub record Flushing (c : Card) (q : ℕ) : Type 0 where
+  pub errs : isInError (c .qp q) ≡ true
+  pub live : c .qp q .live ≡ true
+  pub place : room (c .cq (c .qp q .scq)) 1 ≡ true
+
+pub flushing : (c : Card) (q : ℕ) (r : Request) → isInError (c .qp q) ≡ true → Passed (deliveryChecks c q r) → Flushing c q
+unfolding pairChecks holdChecks placeChecks deliveryChecks
+flushing c q r n p =
+    let h : Passed (placeChecks c q) = rw n at (p .1 .1) in
+    record { errs = n; live = not-false (c .qp q .live) (p .0); place = not-false (room (c .cq (c .qp q .scq)) 1) (h .0) }
 
 -- ---- the numbers of a completion
 
@@ -152,16 +167,16 @@ module _ (c : Card) (q : ℕ) (r : Request) (g : Going c q (r .opcode)) (own : q
   theirs = permitsAll c (peerOf c q) (farUse (r .opcode)) (farBytes r (takenBy c q))
 
   s-ok : isStatus s ≡ true
-  unfolding sendStatus
-  s-ok = status-ok (fills (r .opcode)) (leb (total r) mostMessage) mine fit theirs
+  unfolding sendStatus runStatus
+  s-ok = rw (g .runs) (status-ok (fills (r .opcode)) (leb (total r) mostMessage) mine fit theirs)
 
   s-small : leb s 8 ≡ true
-  unfolding sendStatus
-  s-small = status-small (fills (r .opcode)) (leb (total r) mostMessage) mine fit theirs
+  unfolding sendStatus runStatus
+  s-small = rw (g .runs) (status-small (fills (r .opcode)) (leb (total r) mostMessage) mine fit theirs)
 
   s-length : leb (lengthBy r s) mostMessage ≡ true
-  unfolding sendStatus
-  s-length = length-ok (total r) (fills (r .opcode)) (leb (total r) mostMessage) mine fit theirs refl
+  unfolding sendStatus runStatus
+  s-length = rw (g .runs) (length-ok (total r) (fills (r .opcode)) (leb (total r) mostMessage) mine fit theirs refl)
 
   first-room : room (c .cq sq) (cond both 2 1) ≡ true
   first-room = and-left (room (c .cq sq) (cond both 2 1)) (not (takes (r .opcode)) || room (c .cq rq) 1) (g .places)
@@ -216,3 +231,16 @@ module _ (c : Card) (q : ℕ) (r : Request) (g : Going c q (r .opcode)) (own : q
       go true false e = (sender-can, tt)
       go false true e = (receiver-can c (and-left (takes (r .opcode)) _ e) (second-room (and-left (takes (r .opcode)) _ e)), tt)
       go false false e = tt
+
+-- ---- one that is flushed
+
+pub flushed-can : (c : Card) (q : ℕ) (r : Request) → Flushing c q → q < qpCount → r .wr < 2 ^ 64 → Can c (senderPut c q r 4)
+flushed-can c q r f own wr =
+    let e : Completion = senderPut c q r 4 .entry in
+    let o = sender-opcode (eqb (r .opcode) 4) (fills (r .opcode)) in
+    let n : ℕ = length (c .cq (c .qp q .scq) .entries) in
+    record {
+      room = leb-true (n + 1) (c .cq (c .qp q .scq) .places) (f .place);
+      fits = entry-fits e wr refl refl o refl (omega arith) own;
+      good = entry-ok e wr refl refl o refl (omega arith) own;
+    }

@@ -1,6 +1,6 @@
 -- How the tests of a sender and its peer end: one law for each answer. Assumes nothing.
 use mathlib.Core.Path.{_≡_, refl, sym, ap, subst, _∙_}
-use mathlib.Core.Bool.{Bool, true, false, cond, not, _&&_}
+use mathlib.Core.Bool.{Bool, true, false, cond, not, _&&_, _||_}
 use mathlib.Core.List.{List, [], _∷_}
 use mathlib.Core.Option.{Option, none, some}
 use Prim.Native.Nat.{ℕ, _+_, _<_, _≤_}
@@ -10,6 +10,7 @@ use lib.ListN.{length, length-map}
 use borrow.Author.Tests.{eq-eqb, ne-eqb, eqb-true, leb-true}
 use Rattle.wire.proofs.RingLaws.{ring-length}
 use Rattle.wire.proofs.ScanLaws.{and-left, and-right}
+use Rattle.wire.specs.Checks.{Check, _if_, refusal}
 use Rattle.wire.specs.Table.{rowAt}
 use Rattle.tables.specs.Card.{cqLive, Receive, receiveOf}
 use Rattle.validate.specs.Accept.{isState}
@@ -20,33 +21,42 @@ use Rattle.tables.specs.Limits.{cqCount, qpCount, mostPlaces, mostWaiting}
 use Rattle.tables.proofs.ObjectLaws.{cq-below, cq-live, qp-out, qp-live, qp-row}
 use Rattle.validate.proofs.QueueLaws.{queue-is}
 use Rattle.validate.proofs.WaitingLaws.{pair-sound, waiting-is}
+use Rattle.tables.specs.declared.QueueHead.{QueueHead}
 use Rattle.tables.specs.declared.QueuePair.{QueuePair}
 use Rattle.tables.specs.declared.WaitingHead.{WaitingHead}
 use Rattle.rules.specs.Lists.{isEmpty, names, orElse}
-use Rattle.rules.specs.Send.{peerOf, deliveryChecks, canReceive, ready, room, hasPlaces}
+use Rattle.rules.specs.Send.{peerOf, isInError, pairChecks, placeChecks, readyChecks, holdChecks, deliveryChecks, canReceive, ready, room, hasPlaces}
 use Rattle.rules.specs.Touch.{takes}
 use Rattle.rules.specs.declared.Answer.the-variants.{Refused, Held}
 use Rattle.rules.specs.declared.Cause.the-variants.{Peer, Place}
-use Rattle.engine.specs.Meet.{answers, placesBy, peerMeeting, metBy, meeting, endsAt, Sender}
+use Rattle.engine.specs.Meet.{answers, placesBy, peerMeeting, flushMeeting, metBy, meeting, endsAt, Sender}
 use Rattle.engine.specs.declared.meet.Ends.{Ends}
 use Rattle.engine.specs.declared.meet.Meeting.{Meeting}
-use Rattle.engine.specs.declared.meet.Meeting.the-variants.{Pairs, Stopped}
+use Rattle.engine.specs.declared.meet.Meeting.the-variants.{Pairs, Flushed, Stopped}
 
 empty-is : (ws : List Receive) (n : ℕ) → length ws ≡ n → isEmpty ws ≡ eqb n 0
 empty-is [] n e = sym (eq-eqb n 0 (sym e))
 empty-is (w ∷ ws) n e = sym (ne-eqb n 0 (λ z. omega arith))
 
 both-ends : (x y : Bool) (e : Ends) →
-    cond {A = Meeting} x (Stopped (Held Peer)) (cond y (Stopped (Held Place)) (Pairs e)) ≡ metBy (cond x (some 5) (cond y (some 6) none)) e
+    cond {A = Meeting} x (Stopped (Held Peer)) (cond y (Stopped (Held Place)) (Pairs e)) ≡ metBy (cond x (some 5) (cond y (some 6) none)) false e
 both-ends true y e = refl
 both-ends false true e = refl
 both-ends false false e = refl
 
--- the first three tests pass
-last-two : (t a b c d d′ e e′ : Bool) → a ≡ true → b ≡ true → c ≡ true → d ≡ d′ → e ≡ e′ →
-    cond {A = Option ℕ} (not a) (some 2) (cond (not b) (some 3) (cond (not c) (some 5) (cond (t && d) (some 5) (cond (not e) (some 6) none))))
-    ≡ cond {A = Option ℕ} (t && d′) (some 5) (cond (not e′) (some 6) none)
-last-two t a b c d d′ e e′ x y z u v = rw (x, y, z, u, v)
+flush-ends : (y : Bool) (e : Ends) →
+    cond {A = Meeting} (not y) (Stopped (Held Place)) (Flushed (e .own)) ≡ metBy (cond (not y) (some 6) none) true e
+flush-ends true e = refl
+flush-ends false e = refl
+
+-- the first three tests pass, and the sender is not in error
+last-two : (ends : Ends) (ps : List Check) (t a b n c d d′ e e′ : Bool) → a ≡ true → b ≡ true → n ≡ false → c ≡ true → d ≡ d′ → e ≡ e′ →
+    metBy
+    (cond {A = Option ℕ} (not a) (some 2)
+    (cond (not (b || n)) (some 3) (refusal (cond n ps (5 if not c ∷ 5 if (t && d) ∷ 6 if not e ∷ [])))))
+    n ends
+    ≡ metBy (cond {A = Option ℕ} (t && d′) (some 5) (cond (not e′) (some 6) none)) false ends
+last-two ends ps t a b n c d d′ e e′ x y i z u v = rw (x, y, i, z, u, v)
 
 -- destination 8 is no number of a queue pair
 names-is : (d q : ℕ) → q < qpCount → names (destOf d) q ≡ eqb d q
@@ -74,6 +84,15 @@ module _ (l : List ℕ) (e : Ends) (o : ℕ) (t : Bool) (is : t ≡ takes o) (h 
     pub ends-meet : p ≡ true → Pairs e ≡ peerMeeting l e o
     ends-meet x = rw (← are, ← is, ← at, waits, x)
 
+-- ---- the test of a sender in error
+
+module _ (l : List ℕ) (own : QueuePair) (h : QueueHead) (at : h ≡ rowAt cqT l (own .scq)) (b : Bool) (is : b ≡ leb (h .count + 1) (h .places)) where
+  pub no-flush : b ≡ false → Stopped (Held Place) ≡ flushMeeting l own
+  no-flush x = rw (← at, ← is, x)
+
+  pub flush-meets : b ≡ true → Flushed own ≡ flushMeeting l own
+  flush-meets x = rw (← at, ← is, x)
+
 -- ---- the tests of both
 
 module _ (l : List ℕ) (ok : Accepted l) where
@@ -96,31 +115,49 @@ module _ (l : List ℕ) (ok : Accepted l) where
     far = rowAt qpT l d
 
     pub no-pair : qpCount ≤ q → Stopped (Refused 2) ≡ meeting l q o
-    unfolding deliveryChecks
+    unfolding pairChecks deliveryChecks
     no-pair h = rw (qp-out l q h)
 
     module _ (b : q < qpCount) where
       pub not-live : isLive (rowAt qpFlagT l q) ≡ false → Stopped (Refused 2) ≡ meeting l q o
-      unfolding deliveryChecks
+      unfolding pairChecks deliveryChecks
       not-live h = rw (qp-live l q b, h)
 
       module _ (is-live : isLive (rowAt qpFlagT l q) ≡ true) where
         live : rowAt qpFlagT l q ≡ 1
         live = eqb-true (rowAt qpFlagT l q) 1 is-live
 
-        pub not-ready-to-send : (own .state ≡ 3 → ⊥) → Stopped (Refused 3) ≡ meeting l q o
-        unfolding deliveryChecks pairAt
-        not-ready-to-send h = rw (qp-row l q b live, ne-eqb (own .state) 3 h)
+        pub not-ready-to-send : (own .state ≡ 6 → ⊥) → (own .state ≡ 3 → ⊥) → Stopped (Refused 3) ≡ meeting l q o
+        unfolding pairChecks deliveryChecks pairAt
+        not-ready-to-send k h = rw (qp-row l q b live, ne-eqb (own .state) 3 h, ne-eqb (own .state) 6 k)
+
+        send-queue : own .scq < cqCount
+        unfolding pairAt
+        send-queue = cq-below l (own .scq) (pair-sound l ok q b live .sends)
+
+        in-error : own .state ≡ 6 → flushMeeting l own ≡ meeting l q o
+        unfolding pairChecks holdChecks placeChecks deliveryChecks pairAt
+        in-error h =
+            flush-ends (leb (rowAt cqT l (own .scq) .count + 1) (rowAt cqT l (own .scq) .places)) (endsAt l q)
+            ∙ sym (rw (
+              qp-row l q b live,
+              eq-eqb (own .state) 6 h,
+              ne-eqb (own .state) 3 (λ z. omega arith),
+              room-is (own .scq) 1 (pair-sound l ok q b live .sends),
+            ))
 
         module _ (sending : own .state ≡ 3) where
+          not-error : eqb (own .state) 6 ≡ false
+          not-error = ne-eqb (own .state) 6 (λ z. omega arith)
+
           no-destination : qpCount ≤ d → Stopped (Held Peer) ≡ meeting l q o
-          unfolding deliveryChecks pairAt
+          unfolding pairChecks holdChecks readyChecks deliveryChecks pairAt
           no-destination h =
               let s = pair-sound l ok q b live in
               let x : Bool = leb (own .signal) 1 && isState (own .state) in
               let k = leb-true d qpCount (and-right x (leb d qpCount) (and-left (x && leb d qpCount) (not (eqb d q)) (s .limits))) in
               let z : d ≡ qpCount = omega arith in
-              rw (qp-row l q b live, eq-eqb (own .state) 3 sending, z)
+              rw (qp-row l q b live, eq-eqb (own .state) 3 sending, not-error, z)
 
           module _ (h : d < qpCount) where
             abbrev there : Bool
@@ -135,17 +172,13 @@ module _ (l : List ℕ) (ok : Accepted l) where
                 go false e = rw (qp-live l d h, e)
 
             peer-not-ready : answers there far q ≡ false → Stopped (Held Peer) ≡ meeting l q o
-            unfolding deliveryChecks pairAt
-            peer-not-ready a = rw (qp-row l q b live, eq-eqb (own .state) 3 sending, ne-eqb d qpCount (λ z. omega arith), ready-is, a)
+            unfolding pairChecks holdChecks readyChecks deliveryChecks pairAt
+            peer-not-ready a = rw (qp-row l q b live, eq-eqb (own .state) 3 sending, not-error, ne-eqb d qpCount (λ z. omega arith), ready-is, a)
 
             module _ (a : answers there far q ≡ true) where
               far-live : rowAt qpFlagT l d ≡ 1
               far-live =
                   eqb-true (rowAt qpFlagT l d) 1 (and-left there (canReceive (far .state)) (and-left (there && canReceive (far .state)) (eqb (far .dest) q) a))
-
-              send-queue : own .scq < cqCount
-              unfolding pairAt
-              send-queue = cq-below l (own .scq) (pair-sound l ok q b live .sends)
 
               receive-queue : far .rcq < cqCount
               unfolding pairAt
@@ -176,19 +209,20 @@ module _ (l : List ℕ) (ok : Accepted l) where
               peer-is = ap (λ (x : Option ℕ). orElse x qpCount) dest-is
 
               met : peerMeeting l (endsAt l q) o ≡ meeting l q o
-              unfolding deliveryChecks pairAt
+              unfolding pairChecks holdChecks readyChecks deliveryChecks pairAt
               met =
                   both-ends (takes o && eqb (rowAt waitingT l d .count) 0)
                   (not (placesBy (rowAt cqT l (own .scq)) (rowAt cqT l (far .rcq)) (eqb (own .scq) (far .rcq)) o)) (endsAt l q)
-                  ∙ ap (λ (x : Option ℕ). metBy x (endsAt l q))
-                  (sym (last-two (takes o) (card l .qp q .live) (eqb (card l .qp q .state) 3) (ready (card l) q (card l .qp q .dest))
+                  ∙ sym (last-two (endsAt l q) (placeChecks (card l) q) (takes o) (card l .qp q .live) (eqb (card l .qp q .state) 3) (isInError (card l .qp q))
+                  (ready (card l) q (card l .qp q .dest))
                   (isEmpty (card l .qp (peerOf (card l) q) .waiting)) (eqb (rowAt waitingT l d .count) 0) (hasPlaces (card l) q (peerOf (card l) q) o)
                   (placesBy (rowAt cqT l (own .scq)) (rowAt cqT l (far .rcq)) (eqb (own .scq) (far .rcq)) o)
                   (qp-live l q b ∙ is-live)
                   (rw (qp-row l q b live) (eq-eqb (own .state) 3 sending))
+                  (rw (qp-row l q b live) not-error)
                   (ap (ready (card l) q) dest-is ∙ ready-is ∙ a)
                   (ap (λ (n : ℕ). isEmpty (card l .qp n .waiting)) peer-is ∙ waits-is)
-                  (ap (λ (n : ℕ). hasPlaces (card l) q n o) peer-is ∙ places-are)))
+                  (ap (λ (n : ℕ). hasPlaces (card l) q n o) peer-is ∙ places-are))
 
 -- ---- the same of the rows that the code has loaded
 
@@ -196,30 +230,38 @@ module _ (l : List ℕ) (q o : ℕ) (own : QueuePair) (s : Sender l q own) where
   ok : Accepted l
   ok = accepted l (s .accepted)
 
-  sends : rowAt qpT l q .state ≡ 3
-  sends = subst (λ (p : QueuePair). p .state ≡ 3) (s .row) (s .sends)
+  pub sender-queue : own .scq < cqCount
+  sender-queue = rw (s .row) (send-queue l ok q o (s .below) (s .live))
 
-  pub no-peer : qpCount ≤ own .dest → Stopped (Held Peer) ≡ meeting l q o
-  no-peer h = no-destination l ok q o (s .below) (s .live) sends (subst (λ (p : QueuePair). qpCount ≤ p .dest) (s .row) h)
+  pub error-met : own .state ≡ 6 → flushMeeting l own ≡ meeting l q o
+  error-met h =
+      rw (s .row) (in-error l ok q o (s .below) (s .live) (subst (λ (p : QueuePair). p .state ≡ 6) (s .row) h))
 
-  module _ (h : own .dest < qpCount) (live : Bool) (lives : live ≡ isLive (rowAt qpFlagT l (own .dest))) (far : QueuePair)
-      (at : far ≡ rowAt qpT l (own .dest)) where
-    named : rowAt qpT l q .dest < qpCount
-    named = subst (λ (p : QueuePair). p .dest < qpCount) (s .row) h
+  module _ (three : own .state ≡ 3) where
+    sends : rowAt qpT l q .state ≡ 3
+    sends = subst (λ (p : QueuePair). p .state ≡ 3) (s .row) three
 
-    seen : answers (isLive (rowAt qpFlagT l (rowAt qpT l q .dest))) (rowAt qpT l (rowAt qpT l q .dest)) q ≡ answers live far q
-    seen = rw (lives, at, s .row)
+    pub no-peer : qpCount ≤ own .dest → Stopped (Held Peer) ≡ meeting l q o
+    no-peer h = no-destination l ok q o (s .below) (s .live) sends (subst (λ (p : QueuePair). qpCount ≤ p .dest) (s .row) h)
 
-    pub peer-silent : answers live far q ≡ false → Stopped (Held Peer) ≡ meeting l q o
-    peer-silent a = peer-not-ready l ok q o (s .below) (s .live) sends named (seen ∙ a)
+    module _ (h : own .dest < qpCount) (live : Bool) (lives : live ≡ isLive (rowAt qpFlagT l (own .dest))) (far : QueuePair)
+        (at : far ≡ rowAt qpT l (own .dest)) where
+      named : rowAt qpT l q .dest < qpCount
+      named = subst (λ (p : QueuePair). p .dest < qpCount) (s .row) h
 
-    module _ (a : answers live far q ≡ true) where
-      pub queues-below : (own .scq < cqCount) × (far .rcq < cqCount)
-      queues-below =
-          rw (at, s .row) (
-            send-queue l ok q o (s .below) (s .live) sends named (seen ∙ a),
-            receive-queue l ok q o (s .below) (s .live) sends named (seen ∙ a),
-          )
+      seen : answers (isLive (rowAt qpFlagT l (rowAt qpT l q .dest))) (rowAt qpT l (rowAt qpT l q .dest)) q ≡ answers live far q
+      seen = rw (lives, at, s .row)
 
-      pub peer-met : peerMeeting l (record { q = q; own = own; far = far }) o ≡ meeting l q o
-      peer-met = rw (at, s .row) (met l ok q o (s .below) (s .live) sends named (seen ∙ a))
+      pub peer-silent : answers live far q ≡ false → Stopped (Held Peer) ≡ meeting l q o
+      peer-silent a = peer-not-ready l ok q o (s .below) (s .live) sends named (seen ∙ a)
+
+      module _ (a : answers live far q ≡ true) where
+        pub queues-below : (own .scq < cqCount) × (far .rcq < cqCount)
+        queues-below =
+            rw (at, s .row) (
+              send-queue l ok q o (s .below) (s .live),
+              receive-queue l ok q o (s .below) (s .live) sends named (seen ∙ a),
+            )
+
+        pub peer-met : peerMeeting l (record { q = q; own = own; far = far }) o ≡ meeting l q o
+        peer-met = rw (at, s .row) (met l ok q o (s .below) (s .live) sends named (seen ∙ a))

@@ -32,15 +32,19 @@ use Rattle.rules.specs.declared.Answer.the-variants.{Done, Refused}
 use Rattle.rules.specs.Call.{Call}
 use Rattle.rules.specs.Calls.{checks, owedChecks, statusOf, effect, memoryAfter, bufferAfter}
 use Rattle.rules.specs.Lists.{isEmpty}
-use Rattle.rules.specs.Send.{peerOf, takenBy, deliveryChecks, sendStatus, consumes, sendPuts, putAll, errorIf, consumeIf, sendQps, sendEffect, sendMemory}
+use Rattle.rules.specs.Send.{peerOf, takenBy, deliveryChecks, isInError, sendStatus, consumes, fails, senderPut, sendPuts, putAll, errorIf, consumeIf, sendQps, sendEffect, sendMemory}
 use Rattle.rules.specs.Touch.{Request, requestOf, takes}
 use Rattle.rules.proofs.Exported.{refused-owes, done-owes}
 use Rattle.rules.proofs.Tests.{firstOf, refusal-append}
 use Rattle.rules.specs.Bytes.{pushAll, errorBytes, consumeBytes, sendBytes, effectBytes}
 use Rattle.rules.specs.Contract.{Owes}
 use Rattle.engine.specs.Send.{Ran}
-use Rattle.engine.proofs.CardLaws.{Stands, CanAll, Open, opened, push-all, row-live, some-wait, error-stands, consume-stands, error-keeps, consume-keeps}
-use Rattle.engine.proofs.LimitLaws.{Going, going, sender-can, can-all}
+use Rattle.engine.proofs.CardLaws.{Stands, Can, CanAll, Open, opened, push-all, row-live, some-wait, error-stands, consume-stands, error-keeps, consume-keeps}
+use Rattle.engine.proofs.LimitLaws.{Going, going, Flushing, flushing, sender-can, can-all, flushed-can}
+
+and-false : (b : Bool) → (b && false) ≡ false
+and-false true = refl
+and-false false = refl
 
 -- ---- the card
 
@@ -48,7 +52,7 @@ pub send-fits : (x : List ℕ) → Fits sendCodec (decode sendCodec x 0)
 unfolding sendCodec fieldsAt
 send-fits x = fieldsAt-fit _ x 0
 
-module _ (l : List ℕ) (ok : Accepted l) (q : ℕ) (r : Request) (wr : r .wr < 2 ^ 64) (imm : r .imm < 2 ^ 32) (p : Passed (deliveryChecks (card l) q r)) where
+module _ (l : List ℕ) (ok : Accepted l) (q : ℕ) (r : Request) (wr : r .wr < 2 ^ 64) (imm : r .imm < 2 ^ 32) (g : Going (card l) q (r .opcode)) where
   abbrev c : Card
   c = card l
 
@@ -57,9 +61,6 @@ module _ (l : List ℕ) (ok : Accepted l) (q : ℕ) (r : Request) (wr : r .wr < 
 
   abbrev s : ℕ
   s = sendStatus c q r
-
-  g : Going c q (r .opcode)
-  g = going c q r p
 
   taken : takes (r .opcode) ≡ true → takenBy c q .wr < 2 ^ 64
   unfolding receiveOf receiveT receiveCodec Fit
@@ -86,21 +87,21 @@ module _ (l : List ℕ) (ok : Accepted l) (q : ℕ) (r : Request) (wr : r .wr < 
   s1 = push-all (sendPuts c q r s) l ok can-put
 
   abbrev f2 : ℕ → Qp
-  f2 = errorIf (not (eqb s 0)) q (c .qp)
+  f2 = errorIf (fails s) q (c .qp)
 
   abbrev l2 : List ℕ
-  l2 = errorBytes (not (eqb s 0)) l1 q
+  l2 = errorBytes (fails s) l1 q
 
   s2 : Stands l2 (withQp c1 f2)
   s2 =
-      let z = error-stands l1 (s1 .ok) q (ap (λ (k : Card). k .qp q .live) (s1 .is) ∙ g .live) (not (eqb s 0)) in
+      let z = error-stands l1 (s1 .ok) q (ap (λ (k : Card). k .qp q .live) (s1 .is) ∙ g .live) (fails s) in
       record { is = z .is ∙ rw (s1 .is); ok = z .ok }
 
   f2-live : f2 d .live ≡ true
-  f2-live = error-keeps (λ (k : Qp). k .live) (λ k. refl) (not (eqb s 0)) q (c .qp) d ∙ g .peer
+  f2-live = error-keeps (λ (k : Qp). k .live) (λ k. refl) (fails s) q (c .qp) d ∙ g .peer
 
   f2-some : consumes (r .opcode) s ≡ true → isEmpty (f2 d .waiting) ≡ false
-  f2-some t = error-keeps (λ (k : Qp). isEmpty (k .waiting)) (λ k. refl) (not (eqb s 0)) q (c .qp) d ∙ g .waits (and-left (takes (r .opcode)) _ t)
+  f2-some t = error-keeps (λ (k : Qp). isEmpty (k .waiting)) (λ k. refl) (fails s) q (c .qp) d ∙ g .waits (and-left (takes (r .opcode)) _ t)
 
   abbrev f3 : ℕ → Qp
   f3 = consumeIf (consumes (r .opcode) s) d f2
@@ -124,6 +125,43 @@ module _ (l : List ℕ) (ok : Accepted l) (q : ℕ) (r : Request) (wr : r .wr < 
   send-stands =
       let z = error-stands l3 (s3 .ok) d (ap (λ (k : Card). k .qp d .live) (s3 .is) ∙ consume-keeps (consumes (r .opcode) s) d f2 d ∙ f2-live) (eqb s 7) in
       record { is = z .is ∙ rw (s3 .is); ok = z .ok }
+
+-- one that is flushed
+module _ (l : List ℕ) (ok : Accepted l) (q : ℕ) (r : Request) (wr : r .wr < 2 ^ 64) (f : Flushing (card l) q) where
+  flushed-put : Can (card l) (senderPut (card l) q r 4)
+  flushed-put = flushed-can (card l) q r f (qp-below l q (f .live)) wr
+
+  pub flush-open : Open l (card l .qp q .scq)
+  flush-open = opened l ok (card l .qp q .scq) (flushed-put .room)
+
+  pub flush-status : sendStatus (card l) q r ≡ 4
+  unfolding sendStatus
+  flush-status = rw (f .errs)
+
+  pub flush-puts : sendPuts (card l) q r 4 ≡ senderPut (card l) q r 4 ∷ []
+  unfolding sendPuts
+  flush-puts = rw (and-false (takes (r .opcode)))
+
+  pub flush-bytes : sendBytes l q r ≡ pushAll l (senderPut (card l) q r 4 ∷ [])
+  unfolding sendBytes
+  flush-bytes = rw (flush-status, and-false (takes (r .opcode)), flush-puts)
+
+  flush-effect : sendEffect (card l) q r ≡ withCq (card l) (putAll (senderPut (card l) q r 4 ∷ []) (card l .cq))
+  unfolding sendEffect sendQps
+  flush-effect = rw (flush-status, and-false (takes (r .opcode)), flush-puts)
+
+  flush-stands : Stands (sendBytes l q r) (sendEffect (card l) q r)
+  unfolding CanAll
+  flush-stands = rw (flush-bytes, flush-effect) (push-all (senderPut (card l) q r 4 ∷ []) l ok (flushed-put, tt))
+
+-- either
+stands : (l : List ℕ) → Accepted l → (q : ℕ) (r : Request) → r .wr < 2 ^ 64 → r .imm < 2 ^ 32 → Passed (deliveryChecks (card l) q r) →
+    Stands (sendBytes l q r) (sendEffect (card l) q r)
+stands l ok q r wr imm p = go (isInError (card l .qp q)) refl
+  where
+    go : (b : Bool) → isInError (card l .qp q) ≡ b → Stands (sendBytes l q r) (sendEffect (card l) q r)
+    go true e = flush-stands l ok q r wr (flushing (card l) q r e p)
+    go false e = send-stands l ok q r wr imm (going (card l) q r e p)
 
 -- ---- each ending
 
@@ -189,7 +227,7 @@ module _ (l : List ℕ) (q : ℕ) (x m : List ℕ) where
             go none e =
                 let e0 : refusal (owedChecks card accepts l k) ≡ none = rest-is ∙ rw (good, e) in
                 let f = send-fits x in
-                let z = send-stands l (accepted l a) q (requestOf x) (f .0) (f .1 .1 .1 .0) (passed (deliveryChecks (card l) q (requestOf x)) e) in
+                let z = stands l (accepted l a) q (requestOf x) (f .0) (f .1 .1 .1 .0) (passed (deliveryChecks (card l) q (requestOf x)) e) in
                 let er : r ≡ Done (sendStatus (card l) q (requestOf x)) = w .answer ∙ rw e in
                 let el : l′ ≡ sendBytes l q (requestOf x) = w .bytes ∙ rw e in
                 let em : m′ ≡ sendMemory (card l) q (requestOf x) m = w .memory ∙ rw e in

@@ -36,7 +36,7 @@ use Rattle.tables.specs.declared.Sge.{Sge}
 use Rattle.tables.specs.declared.WaitingHead.{WaitingHead}
 use Rattle.rules.specs.Lists.{isEmpty, orElse, stored}
 use Rattle.rules.specs.Permit.{Use, permitsAll, place}
-use Rattle.rules.specs.Send.{peerOf, takenBy, deliveryChecks, ownUse, farUse, statusBy, sendStatus, sendMemory}
+use Rattle.rules.specs.Send.{peerOf, takenBy, holdChecks, readyChecks, deliveryChecks, ownUse, farUse, statusBy, runStatus, sendStatus, sendMemory}
 use Rattle.rules.specs.Touch.{Request, Byte, requestOf, takes, fills, reads, range, sgeBytes, sgeTotal, total, ownBytes, farBytes, message, delivered, cut}
 use Rattle.rules.proofs.Runs.{cut-bytes, values-at}
 use Rattle.dma.specs.Grants.{allowsAll}
@@ -44,7 +44,7 @@ use Rattle.dma.specs.Moves.{places, moved}
 use Rattle.dma.proofs.UseLaws.{maskOf, allowed-all}
 use Rattle.engine.specs.Meet.{bare, endsAt}
 use Rattle.engine.specs.Deliver.{ownMask, farMask, ownBy, farList, totalBy, takenRow, Sending, statusIn, carried}
-use Rattle.engine.specs.Send.{Posted}
+use Rattle.engine.specs.Send.{Posted, Runs}
 use Rattle.engine.proofs.CardLaws.{row-live, some-wait}
 use Rattle.engine.proofs.LimitLaws.{Going, going}
 
@@ -172,7 +172,7 @@ all-first w ws e = leb-true (w .count) mostReceiveSges (and-left (receiveOk w) (
 -- ---- two queue pairs that passed the tests
 
 module _ (l : List ℕ) (a : accepts l ≡ true) (q : ℕ) (x : List ℕ) (s : SendRecord) (t : Told x s)
-    (good : refusal (deliveryChecks (card l) q (bare (s .opcode))) ≡ none) where
+    (good : Runs l q (s .opcode)) where
   abbrev c : Card
   c = card l
 
@@ -200,12 +200,12 @@ module _ (l : List ℕ) (a : accepts l ≡ true) (q : ℕ) (x : List ℕ) (s : S
   pub ok : Accepted l
   ok = accepted l a
 
-  pub tests : Passed (deliveryChecks c q r)
-  unfolding deliveryChecks
-  tests = passed (deliveryChecks c q (bare o)) good
+  tests : Passed (deliveryChecks c q r)
+  unfolding holdChecks readyChecks deliveryChecks
+  tests = passed (deliveryChecks c q (bare o)) (good .good)
 
-  goes : Going c q o
-  goes = going c q r tests
+  pub goes : Going c q o
+  goes = going c q r (good .runs) tests
 
   pub own-below : q < qpCount
   own-below = qp-below l q (goes .live)
@@ -302,9 +302,9 @@ module _ (l : List ℕ) (a : accepts l ≡ true) (q : ℕ) (x : List ℕ) (s : S
   fit-is i = ap₂ (λ (k : ℕ) (v : Receive). leb k (sgeTotal (v .sges))) (total-is x s t) (taken-is i)
 
   status-is : sendStatus c q r ≡ statusBy (fills o) (leb n mostMessage) mine fit theirs
-  unfolding sendStatus
+  unfolding sendStatus runStatus
   status-is =
-      rw (mine-is, theirs-is)
+      rw (good .runs, mine-is, theirs-is)
       (ap (λ (k : ℕ). statusBy (fills o) (leb k mostMessage) mine (leb (total r) (sgeTotal (takenBy c q .sges))) theirs) (total-is x s t)
       ∙ fit-or (fills o) (leb n mostMessage) mine (leb (total r) (sgeTotal (takenBy c q .sges))) fit theirs (λ i. fit-is (fills-takes o i)))
 

@@ -10,6 +10,7 @@ use lib.ListN.{take}
 use borrow.Author.Tests.{eq-eqb, ne-eqb, le-leb, lt-leb}
 use Rattle.tables.specs.Queue.{pushBytes}
 use Rattle.tables.specs.Records.{receiveSges}
+use Rattle.tables.specs.declared.QueuePair.{QueuePair}
 use Rattle.tables.specs.declared.ReceiveRecord.{ReceiveRecord}
 use Rattle.tables.specs.declared.SendRecord.{SendRecord}
 use Rattle.tables.specs.declared.Sge.{Sge}
@@ -52,19 +53,20 @@ wanted true false true = refl
 wanted true false false = refl
 wanted false y z = refl
 
-module _ (l : List ℕ) (e : Ends) (s : SendRecord) (st n : ℕ) where
+module _ (l : List ℕ) (q : ℕ) (own : QueuePair) (s : SendRecord) (st n : ℕ) where
   -- no sign of success is asked for
   abbrev silent : Bool
-  silent = eqb st 0 && not (eqb (e .own .signal) 0) && eqb (bitAnd (s .flags) 2) 0
+  silent = eqb st 0 && not (eqb (own .signal) 0) && eqb (bitAnd (s .flags) 2) 0
 
-  pub put-silent : silent ≡ true → l ≡ pushAll l (putFirst e s st n)
+  pub put-silent : silent ≡ true → l ≡ pushAll l (putFirst q own s st n)
   unfolding pushAll
-  put-silent h = rw (wanted (eqb st 0) (eqb (e .own .signal) 0) (eqb (bitAnd (s .flags) 2) 0), h)
+  put-silent h = rw (wanted (eqb st 0) (eqb (own .signal) 0) (eqb (bitAnd (s .flags) 2) 0), h)
 
-  pub put-told : silent ≡ false → pushBytes l (e .own .scq) (senderEntry e s st n) ≡ pushAll l (putFirst e s st n)
+  pub put-told : silent ≡ false → pushBytes l (own .scq) (senderEntry q s st n) ≡ pushAll l (putFirst q own s st n)
   unfolding pushAll
-  put-told h = rw (wanted (eqb st 0) (eqb (e .own .signal) 0) (eqb (bitAnd (s .flags) 2) 0), h)
+  put-told h = rw (wanted (eqb st 0) (eqb (own .signal) 0) (eqb (bitAnd (s .flags) 2) 0), h)
 
+module _ (l : List ℕ) (e : Ends) (s : SendRecord) (st n : ℕ) where
   module _ (w : ReceiveRecord) where
     pub not-consumed : consumes (s .opcode) st ≡ false → l ≡ pushAll l (putSecond e s w st n)
     unfolding pushAll

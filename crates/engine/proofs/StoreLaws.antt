@@ -2,12 +2,10 @@
 use mathlib.Core.Path.{_≡_, refl, sym, ap, ap₂, subst, _∙_}
 use mathlib.Core.Bool.{Bool, true, false, cond, not, _||_}
 use mathlib.Core.List.{List, [], _∷_, _++_}
-use mathlib.Core.Option.{none}
 use Prim.Native.Nat.{ℕ, _+_, _^_, _≤_, _<_}
 use native.Mathlib.Omega.{arith}
 use lib.Dec.{eqb}
 use lib.ListN.{length}
-use Rattle.wire.specs.Checks.{refusal}
 use Rattle.wire.proofs.ScanLaws.{and-left, and-right}
 use Rattle.wire.specs.Codec.{Fit}
 use Rattle.wire.specs.Table.{rowAt}
@@ -21,15 +19,16 @@ use Rattle.validate.proofs.QueueLaws.{queue-sound}
 use Rattle.tables.specs.Records.{sendCodec}
 use Rattle.tables.specs.declared.ReceiveRecord.{ReceiveRecord}
 use Rattle.tables.specs.declared.SendRecord.{SendRecord}
-use Rattle.rules.specs.Send.{Put, deliveryChecks, sendStatus, consumes, sendPuts, senderPut, receiverPut, putAll, pushed}
+use Rattle.rules.specs.Send.{Put, sendStatus, consumes, fails, sendPuts, senderPut, receiverPut, putAll, pushed}
 use Rattle.rules.specs.Touch.{Request, requestOf, takes, total}
 use Rattle.rules.specs.Bytes.{pushAll, errorBytes, sendBytes}
-use Rattle.engine.specs.Meet.{bare, endsAt}
+use Rattle.engine.specs.Meet.{endsAt}
 use Rattle.engine.specs.Deliver.{takenRow}
+use Rattle.engine.specs.Send.{Runs}
 use Rattle.engine.specs.Settle.{senderEntry, receiverEntry, putFirst, putSecond, putBytes, failedBytes, settled, Settling}
 use Rattle.engine.proofs.CardLaws.{Stands, CanAll, Open, opened, push-all}
 use Rattle.engine.proofs.OwedLaws.{can-put, send-open, waits-then, send-fits}
-use Rattle.engine.proofs.RequestLaws.{requestBy, Told, entries, ok, tests, own-below, own-is, peer-is, far-below, far-is, taken-is, taken-count}
+use Rattle.engine.proofs.RequestLaws.{requestBy, Told, entries, ok, goes, own-below, own-is, peer-is, far-below, far-is, taken-is, taken-count}
 use Rattle.engine.specs.declared.meet.Ends.{Ends}
 
 -- ---- completions in two parts
@@ -50,7 +49,7 @@ can-second [] qs c k = k
 can-second (p ∷ ps) qs c k = can-second ps qs (withCq c (pushed p (c .cq))) (k .1)
 
 -- the place that an open queue has
-open-place : (l : List ℕ) → Accepted l → (n : ℕ) → Open l n → rowAt cqT l n .count < mostPlaces
+pub open-place : (l : List ℕ) → Accepted l → (n : ℕ) → Open l n → rowAt cqT l n .count < mostPlaces
 unfolding queueAt
 open-place l k n o =
     let h = queue-sound l k n (o .below) (o .live) .most in
@@ -60,7 +59,7 @@ open-place l k n o =
 -- ---- two queue pairs that passed the tests; st is the status and k the number of bytes that the stores are told
 
 module _ (l : List ℕ) (a : accepts l ≡ true) (q : ℕ) (x : List ℕ) (s : SendRecord) (t : Told x s)
-    (good : refusal (deliveryChecks (card l) q (bare (s .opcode))) ≡ none) where
+    (good : Runs l q (s .opcode)) where
   abbrev c : Card
   c = card l
 
@@ -87,11 +86,11 @@ module _ (l : List ℕ) (a : accepts l ≡ true) (q : ℕ) (x : List ℕ) (s : S
         go true i = told (rw i)
         go false i = refl
 
-    first-is : senderPut c q r st ≡ record { cqn = e .own .scq; entry = senderEntry e s st k }
+    first-is : senderPut c q r st ≡ record { cqn = e .own .scq; entry = senderEntry q s st k }
     unfolding pairAt
     first-is = rw (own-is l a q x s t good, length-is)
 
-    firsts : cond (not (eqb st 0) || eqb (c .qp q .signal) 0 || r .signaled) (senderPut c q r st ∷ []) [] ≡ putFirst e s st k
+    firsts : cond (not (eqb st 0) || eqb (c .qp q .signal) 0 || r .signaled) (senderPut c q r st ∷ []) [] ≡ putFirst q (e .own) s st k
     unfolding pairAt
     firsts = rw (first-is, own-is l a q x s t good)
 
@@ -109,14 +108,14 @@ module _ (l : List ℕ) (a : accepts l ≡ true) (q : ℕ) (x : List ℕ) (s : S
         go true i = rw (second-is i)
         go false i = refl
 
-    puts-are : sendPuts c q r st ≡ putFirst e s st k ++ putSecond e s w st k
+    puts-are : sendPuts c q r st ≡ putFirst q (e .own) s st k ++ putSecond e s w st k
     unfolding sendPuts
     puts-are = ap₂ (λ (y z : List Put). y ++ z) firsts seconds
 
     put-bytes : pushAll l (sendPuts c q r (sendStatus c q r)) ≡ putBytes l e s w st k
-    put-bytes = rw (← is) (ap (pushAll l) puts-are ∙ push-join (putFirst e s st k) (putSecond e s w st k) l)
+    put-bytes = rw (← is) (ap (pushAll l) puts-are ∙ push-join (putFirst q (e .own) s st k) (putSecond e s w st k) l)
 
-    failed-bytes : errorBytes (not (eqb (sendStatus c q r) 0)) (pushAll l (sendPuts c q r (sendStatus c q r))) q ≡ failedBytes l e s w st k
+    failed-bytes : errorBytes (fails (sendStatus c q r)) (pushAll l (sendPuts c q r (sendStatus c q r))) q ≡ failedBytes l e s w st k
     failed-bytes = rw put-bytes (rw (← is))
 
     pub settled-is : settled l e s w st k ≡ sendBytes l q r
@@ -124,7 +123,7 @@ module _ (l : List ℕ) (a : accepts l ≡ true) (q : ℕ) (x : List ℕ) (s : S
     settled-is = rw (peer-is l a q x s t good, failed-bytes, ← is)
 
     abbrev first : List Put
-    first = putFirst e s st k
+    first = putFirst q (e .own) s st k
 
     abbrev second : List Put
     second = putSecond e s w st k
@@ -140,7 +139,7 @@ module _ (l : List ℕ) (a : accepts l ≡ true) (q : ℕ) (x : List ℕ) (s : S
     can : CanAll c (first ++ second)
     can =
         subst (λ (y : List Put). CanAll c y) puts-are
-        (subst (λ (y : ℕ). CanAll c (sendPuts c q r y)) (sym is) (can-put l (ok l a q x s t good) q r wr imm (tests l a q x s t good)))
+        (subst (λ (y : ℕ). CanAll c (sendPuts c q r y)) (sym is) (can-put l (ok l a q x s t good) q r wr imm (goes l a q x s t good)))
 
     first-stands : Stands (pushAll l first) (withCq c (putAll first (c .cq)))
     first-stands = push-all first l (ok l a q x s t good) (can-first first second c can)
@@ -154,11 +153,11 @@ module _ (l : List ℕ) (a : accepts l ≡ true) (q : ℕ) (x : List ℕ) (s : S
 
     first-open : Open l (e .own .scq)
     unfolding pairAt
-    first-open = subst (λ (y : Qp). Open l (y .scq)) (own-is l a q x s t good) (send-open l (ok l a q x s t good) q r wr imm (tests l a q x s t good))
+    first-open = subst (λ (y : Qp). Open l (y .scq)) (own-is l a q x s t good) (send-open l (ok l a q x s t good) q r wr imm (goes l a q x s t good))
 
     then-waits : consumes o st ≡ true → 0 < rowAt waitingT (failedBytes l e s w st k) d .count
     then-waits i =
-        let y = waits-then l (ok l a q x s t good) q r wr imm (tests l a q x s t good) (rw (← is) i) in
+        let y = waits-then l (ok l a q x s t good) q r wr imm (goes l a q x s t good) (rw (← is) i) in
         subst (λ (z : List ℕ). 0 < rowAt waitingT z d .count) failed-bytes (rw (peer-is l a q x s t good) at y)
 
     pub settling : (st ≡ 0 → k ≤ mostMessage) → Settling l e s w st k

@@ -1,4 +1,5 @@
--- Post send, document 01: "QP 2; QP not in RTS 3", and steps 1 and 2, over the rows of the two queue pairs. Assumes nothing.
+-- Post send, document 01: "QP 2; QP not in RTS 3", and steps 1 and 2, over the rows of the two queue pairs; 02, M-103: the place that a
+-- sender in error needs. Assumes nothing.
 use mathlib.Core.Path.{_≡_}
 use mathlib.Core.Bool.{Bool, true, false, cond, not, _&&_, _||_}
 use mathlib.Core.List.{List, []}
@@ -15,13 +16,13 @@ use Rattle.tables.specs.State.{card, isLive}
 use Rattle.tables.specs.declared.QueueHead.{QueueHead}
 use Rattle.tables.specs.declared.QueuePair.{QueuePair}
 use Rattle.rules.specs.Answer.{answered}
-use Rattle.rules.specs.Send.{deliveryChecks, canReceive}
+use Rattle.rules.specs.Send.{deliveryChecks, canReceive, isInError}
 use Rattle.rules.specs.Touch.{Request, takes}
 use Rattle.rules.specs.declared.Answer.the-variants.{Held}
 use Rattle.rules.specs.declared.Cause.the-variants.{Peer, Place}
 use Rattle.engine.specs.declared.meet.Ends.{Ends}
 use Rattle.engine.specs.declared.meet.Meeting.{Meeting}
-use Rattle.engine.specs.declared.meet.Meeting.the-variants.{Pairs, Stopped}
+use Rattle.engine.specs.declared.meet.Meeting.the-variants.{Pairs, Flushed, Stopped}
 
 -- ---- the tests
 
@@ -40,14 +41,17 @@ peerMeeting l e o =
     (cond (not (placesBy (rowAt cqT l (e .own .scq)) (rowAt cqT l (e .far .rcq)) (eqb (e .own .scq) (e .far .rcq)) o))
     (Stopped (Held Place)) (Pairs e))
 
--- "QP 2; QP not in RTS 3" passed: own is the row of the queue pair q, which is live and in RTS
+-- 02, M-103: "Without a place it is held with 6", over the row of the sender in error
+abbrev pub flushMeeting : List ℕ → QueuePair → Meeting
+flushMeeting l own = let h = rowAt cqT l (own .scq) in cond (not (leb (h .count + 1) (h .places))) (Stopped (Held Place)) (Flushed own)
+
+-- "QP 2" passed: own is the row of the queue pair q, which is live
 pub record Sender (l : List ℕ) (q : ℕ) (own : QueuePair) : Type 0 where
   pub accepted : accepts l ≡ true
   pub size : length l ≡ stateSize
   pub below : q < qpCount
   pub live : isLive (rowAt qpFlagT l q) ≡ true
   pub row : own ≡ rowAt qpT l q
-  pub sends : own .state ≡ 3
 
 -- ---- all of them
 
@@ -59,10 +63,11 @@ bare o = record { wr = 0; opcode = o; signaled = false; inline = false; bytes = 
 abbrev pub endsAt : List ℕ → (q : ℕ) → Ends
 endsAt l q = record { q = q; own = rowAt qpT l q; far = rowAt qpT l (rowAt qpT l q .dest) }
 
-abbrev pub metBy : Option ℕ → Ends → Meeting
-metBy none e = Pairs e
-metBy (some n) e = Stopped (answered 0 (some n))
+-- a request that passed is flushed where its sender is in error
+abbrev pub metBy : Option ℕ → (error : Bool) → Ends → Meeting
+metBy none error e = cond error (Flushed (e .own)) (Pairs e)
+metBy (some n) error e = Stopped (answered 0 (some n))
 
 -- the tests of the queue pair q and its peer, for the opcode o
 abbrev pub meeting : List ℕ → (q o : ℕ) → Meeting
-meeting l q o = metBy (refusal (deliveryChecks (card l) q (bare o))) (endsAt l q)
+meeting l q o = metBy (refusal (deliveryChecks (card l) q (bare o))) (isInError (card l .qp q)) (endsAt l q)

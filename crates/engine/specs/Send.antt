@@ -1,5 +1,6 @@
 -- Post send as a whole, document 01, "Posting and delivering": what each part of the code hands to the next, in the rules' words. Assumes nothing.
 use mathlib.Core.Path.{_≡_}
+use mathlib.Core.Bool.{false}
 use mathlib.Core.List.{List}
 use mathlib.Core.Option.{Option, none, some}
 use Prim.Native.Nat.{ℕ}
@@ -10,7 +11,7 @@ use Rattle.tables.specs.State.{card}
 use Rattle.tables.specs.declared.SendRecord.{SendRecord}
 use Rattle.rules.specs.Answer.{answered}
 use Rattle.rules.specs.Bytes.{sendBytes}
-use Rattle.rules.specs.Send.{deliveryChecks, sendStatus, sendMemory}
+use Rattle.rules.specs.Send.{deliveryChecks, isInError, sendStatus, sendMemory}
 use Rattle.rules.specs.Touch.{Request}
 use Rattle.rules.specs.declared.Answer.{Answer}
 use Rattle.engine.specs.Meet.{bare, endsAt}
@@ -21,10 +22,15 @@ pub record Posted (x : List ℕ) (s : SendRecord) : Type 0 where
   pub head : s ≡ decode sendCodec x 0
   pub good : refusal (sendChecks x) ≡ none
 
--- the pairs e passed the tests for the opcode o
+-- the queue pair q passed the tests for the opcode o, and is not in error
+pub record Runs (l : List ℕ) (q o : ℕ) : Type 0 where
+  pub good : refusal (deliveryChecks (card l) q (bare o)) ≡ none
+  pub runs : isInError (card l .qp q) ≡ false
+
+-- the pairs e are such a queue pair and its peer
 pub record Met (l : List ℕ) (e : Ends) (o : ℕ) : Type 0 where
   pub rows : e ≡ endsAt l (e .q)
-  pub good : refusal (deliveryChecks (card l) (e .q) (bare o)) ≡ none
+  pub good : Runs l (e .q) o
 
 -- the request r on the queue pair q, which passed its tests, has the status st and leaves the state l′ and the memory m′
 pub record Carried (l : List ℕ) (q : ℕ) (r : Request) (m : List ℕ) (st : ℕ) (l′ m′ : List ℕ) : Type 0 where

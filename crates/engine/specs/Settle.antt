@@ -1,4 +1,4 @@
--- What a post send that is carried out leaves in the state, document 01: its completions, the error states, the receive consumed. In each
+-- What a post send that is carried out or flushed leaves in the state, document 01: its completions, the error states, the receive consumed. In each
 -- definition st is the status, n the number of bytes of the message, w the receive that is taken. Assumes nothing.
 use mathlib.Core.Path.{_≡_}
 use mathlib.Core.Bool.{true, cond, not, _&&_, _||_}
@@ -11,19 +11,20 @@ use Rattle.tables.specs.Layout.{stateSize, cqT, waitingT}
 use Rattle.tables.specs.Limits.{cqCount, qpCount, mostPlaces, mostMessage}
 use Rattle.tables.specs.Records.{isSignaled, receiveSges}
 use Rattle.tables.specs.declared.Completion.{Completion}
+use Rattle.tables.specs.declared.QueuePair.{QueuePair}
 use Rattle.tables.specs.declared.ReceiveRecord.{ReceiveRecord}
 use Rattle.tables.specs.declared.SendRecord.{SendRecord}
 use Rattle.rules.specs.Bytes.{pushAll, errorBytes, consumeBytes}
-use Rattle.rules.specs.Send.{Put, consumes, senderOpcode, receiverOpcode}
+use Rattle.rules.specs.Send.{Put, consumes, fails, senderOpcode, receiverOpcode}
 use Rattle.rules.specs.Touch.{sgeTotal}
 use Rattle.engine.specs.declared.meet.Ends.{Ends}
 
 -- ---- completions
 
 -- "Length is the total on success, else 0"
-abbrev pub senderEntry : Ends → SendRecord → (st n : ℕ) → Completion
-senderEntry e s st n =
-    record { wr = s .wr; status = st; opcode = senderOpcode (s .opcode); length = cond (eqb st 0) n 0; imm = 0; owner = e .q }
+abbrev pub senderEntry : (q : ℕ) → SendRecord → (st n : ℕ) → Completion
+senderEntry q s st n =
+    record { wr = s .wr; status = st; opcode = senderOpcode (s .opcode); length = cond (eqb st 0) n 0; imm = 0; owner = q }
 
 -- "total over the receive list's: sender 7, receiver 1. The first total bytes of that list not all permitted ..: sender 7, receiver 3"
 abbrev pub receiverStatus : ReceiveRecord → (st n : ℕ) → ℕ
@@ -42,9 +43,9 @@ receiverEntry e s w st n =
     }
 
 -- "Sender's success is put if signal is 0 or the flag is set; errors and receiver completions always."
-abbrev pub putFirst : Ends → SendRecord → (st n : ℕ) → List Put
-putFirst e s st n =
-    cond (not (eqb st 0) || eqb (e .own .signal) 0 || isSignaled s) (record { cqn = e .own .scq; entry = senderEntry e s st n } ∷ []) []
+abbrev pub putFirst : (q : ℕ) → (own : QueuePair) → SendRecord → (st n : ℕ) → List Put
+putFirst q own s st n =
+    cond (not (eqb st 0) || eqb (own .signal) 0 || isSignaled s) (record { cqn = own .scq; entry = senderEntry q s st n } ∷ []) []
 
 abbrev pub putSecond : Ends → SendRecord → ReceiveRecord → (st n : ℕ) → List Put
 putSecond e s w st n = cond (consumes (s .opcode) st) (record { cqn = e .far .rcq; entry = receiverEntry e s w st n } ∷ []) []
@@ -53,11 +54,11 @@ putSecond e s w st n = cond (consumes (s .opcode) st) (record { cqn = e .far .rc
 
 -- "The sender's comes first."
 abbrev pub putBytes : List ℕ → Ends → SendRecord → ReceiveRecord → (st n : ℕ) → List ℕ
-putBytes l e s w st n = pushAll (pushAll l (putFirst e s st n)) (putSecond e s w st n)
+putBytes l e s w st n = pushAll (pushAll l (putFirst (e .q) (e .own) s st n)) (putSecond e s w st n)
 
 -- "Statuses 1, 3, 8 move only the sender to error"
 abbrev pub failedBytes : List ℕ → Ends → SendRecord → ReceiveRecord → (st n : ℕ) → List ℕ
-failedBytes l e s w st n = errorBytes (not (eqb st 0)) (putBytes l e s w st n) (e .q)
+failedBytes l e s w st n = errorBytes (fails st) (putBytes l e s w st n) (e .q)
 
 -- "The receive is consumed, both QPs go to error."
 abbrev pub settled : List ℕ → Ends → SendRecord → ReceiveRecord → (st n : ℕ) → List ℕ
@@ -74,5 +75,5 @@ pub record Settling (l : List ℕ) (e : Ends) (s : SendRecord) (w : ReceiveRecor
   pub first : e .own .scq < cqCount
   pub free : rowAt cqT l (e .own .scq) .count < mostPlaces
   pub second : consumes (s .opcode) st ≡ true →
-      (e .far .rcq < cqCount) × (rowAt cqT (pushAll l (putFirst e s st n)) (e .far .rcq) .count < mostPlaces)
+      (e .far .rcq < cqCount) × (rowAt cqT (pushAll l (putFirst (e .q) (e .own) s st n)) (e .far .rcq) .count < mostPlaces)
   pub waits : consumes (s .opcode) st ≡ true → 0 < rowAt waitingT (failedBytes l e s w st n) (e .own .dest) .count

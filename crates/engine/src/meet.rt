@@ -1,10 +1,12 @@
-// The tests of a sender and its peer: document 01, "QP 2; QP not in RTS 3", and steps 1 and 2. Definitions: specs/Meet.antt.
+// The tests of a sender and its peer: document 01, "QP 2; QP not in RTS 3", and steps 1 and 2; and of a sender in error, whose request is
+// flushed. Definitions: specs/Meet.antt.
 use rules::Answer;
 use rules::Cause;
 use rules::numbers::NOT_LIVE;
 use rules::numbers::WRONG_STATE;
 use tables::QueueHead;
 use tables::QueuePair;
+use tables::limits::ERROR;
 use tables::limits::QP_COUNT;
 use tables::limits::RTR;
 use tables::limits::RTS;
@@ -23,7 +25,7 @@ ghost use Rattle.tables.specs.Layout.{stateSize, cqT, qpFlagT};
 ghost use Rattle.tables.specs.Limits.{cqCount, qpCount};
 ghost use Rattle.tables.specs.State.{isLive};
 ghost use Rattle.rules.specs.Touch.{takes, fills};
-ghost use Rattle.engine.specs.Meet.{answers, placesBy, peerMeeting, meeting, Sender};
+ghost use Rattle.engine.specs.Meet.{answers, placesBy, peerMeeting, flushMeeting, meeting, Sender};
 
 // A sender and its peer, whose number is the sender's destination.
 pub struct Ends {
@@ -32,9 +34,10 @@ pub struct Ends {
     pub far: QueuePair,
 }
 
-// What the tests of the two queue pairs end with: the pairs, or the answer.
+// What the tests of the two queue pairs end with: the pairs, the sender in error that has a place, or the answer.
 pub enum Meeting {
     Pairs(Ends),
+    Flushed(QueuePair),
     Stopped(Answer),
 }
 
@@ -116,7 +119,7 @@ fn meet_peer(state: &[u8], e: Ends, opcode: u8) -> Meeting
 
 // The tests of the peer of queue pair q, whose own passed.
 fn meet_far(state: &[u8], q: usize, own: QueuePair, opcode: u8) -> Meeting
-    requires { ⌜ Sender (now state) q own ⌝ }
+    requires { ⌜ Sender (now state) q own × (own .state ≡ 3) ⌝ }
     ensures { λ r. ⌜ r ≡ meeting (now (state .entry)) q opcode ⌝ }
 {
     let d = own.dest as usize;
@@ -132,6 +135,18 @@ fn meet_far(state: &[u8], q: usize, own: QueuePair, opcode: u8) -> Meeting
     meet_peer(state, e, opcode)
 }
 
+// The test of the queue pair q in error: a place for its completion. No peer is looked at.
+fn meet_error(state: &[u8], q: usize, own: QueuePair) -> Meeting
+    requires { ⌜ Sender (now state) q own × (own .state ≡ 6) ⌝ }
+    ensures { λ r. ⌜ r ≡ flushMeeting (now (state .entry)) own ⌝ }
+{
+    let h = rows::load_cq(state, own.scq as usize);
+    if !has_room(h, 1) {
+        return Meeting::Stopped(Answer::Held(Cause::Place));
+    }
+    Meeting::Flushed(own)
+}
+
 // The tests of the two queue pairs.
 pub fn meet(state: &[u8], qpn: u32, opcode: u8) -> Meeting
     requires { ⌜ (accepts (now state) ≡ true) × (length (now state) ≡ stateSize) ⌝ }
@@ -145,6 +160,9 @@ pub fn meet(state: &[u8], qpn: u32, opcode: u8) -> Meeting
         return Meeting::Stopped(Answer::Refused(NOT_LIVE));
     }
     let own = rows::load_qp(state, q);
+    if own.state == ERROR {
+        return meet_error(state, q, own);
+    }
     if own.state != RTS {
         return Meeting::Stopped(Answer::Refused(WRONG_STATE));
     }

@@ -9,6 +9,7 @@ use rules::numbers::BAD_STATE;
 use rules::numbers::OTHER_MEMORY;
 use tables::SendRead;
 use tables::SendRecord;
+use tables::limits::FLUSHED;
 use tables::records;
 use tables::rows;
 use validate::accept;
@@ -33,7 +34,7 @@ fn carry_out(state: &mut [u8], memory: &mut [u8], e: Ends, s: SendRecord, sent: 
     st
 }
 
-// The tests after those of the lent bytes, and then the request carried out.
+// The tests after those of the lent bytes, and then the request carried out, or flushed.
 fn send_checked(state: &mut [u8], memory: &mut [u8], qpn: u32, s: SendRecord, sent: &[u8]) -> Answer
     requires { ⌜ Ready (now state) (now memory) ⌝ }
     requires { ⌜ Posted (now sent) s ⌝ }
@@ -43,6 +44,10 @@ fn send_checked(state: &mut [u8], memory: &mut [u8], qpn: u32, s: SendRecord, se
         Meeting::Pairs(e) => {
             let st = carry_out(state, memory, e, s, sent);
             Answer::Done(st)
+        }
+        Meeting::Flushed(own) => {
+            settle::put_sender(state, qpn as usize, own, s, FLUSHED, 0);
+            Answer::Done(FLUSHED)
         }
         Meeting::Stopped(a) => a,
     }

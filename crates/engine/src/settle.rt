@@ -8,6 +8,7 @@ use tables::ReceiveRecord;
 use tables::SendRecord;
 use tables::Sge;
 use tables::limits::ERROR;
+use tables::limits::FLUSHED;
 use tables::limits::LOCAL_LENGTH;
 use tables::limits::LOCAL_PROTECTION;
 use tables::limits::READ;
@@ -116,12 +117,12 @@ fn receiver_status(st: u8, n: u64, w: ReceiveRecord) -> u8
 }
 
 // The sender's completion, where one is put.
-fn put_sender(state: &mut [u8], e: Ends, s: SendRecord, st: u8, n: u64)
-    requires { ⌜ (e .q < qpCount) × (e .own .scq < cqCount) × (length (now state) ≡ stateSize) × (rowAt cqT (now state) (e .own .scq) .count < mostPlaces) ⌝ }
+pub fn put_sender(state: &mut [u8], q: usize, own: QueuePair, s: SendRecord, st: u8, n: u64)
+    requires { ⌜ (q < qpCount) × (own .scq < cqCount) × (length (now state) ≡ stateSize) × (rowAt cqT (now state) (own .scq) .count < mostPlaces) ⌝ }
     requires { ⌜ (st ≡ 0 → n ≤ mostMessage) ⌝ }
-    ensures { λ _. ⌜ now (state .exit) ≡ pushAll (now (state .entry)) (putFirst e s st n) ⌝ }
+    ensures { λ _. ⌜ now (state .exit) ≡ pushAll (now (state .entry)) (putFirst q own s st n) ⌝ }
 {
-    let silent = (st == SUCCESS) & (e.own.signal != 0) & (s.flags & SIGNALED_FLAG == 0);
+    let silent = (st == SUCCESS) & (own.signal != 0) & (s.flags & SIGNALED_FLAG == 0);
     if silent {
         return;
     }
@@ -133,9 +134,9 @@ fn put_sender(state: &mut [u8], e: Ends, s: SendRecord, st: u8, n: u64)
         opcode,
         length,
         imm: 0,
-        owner: e.q as u32,
+        owner: q as u32,
     };
-    queue::push_completion(state, e.own.scq as usize, entry);
+    queue::push_completion(state, own.scq as usize, entry);
 }
 
 // The receiver's completion, where the receive is consumed.
@@ -205,9 +206,9 @@ pub fn settle(state: &mut [u8], e: Ends, s: SendRecord, w: ReceiveRecord, st: u8
     ensures { λ _. ⌜ now (state .exit) ≡ settled (now (state .entry)) e s w st n ⌝ }
 {
     let d = e.own.dest as usize;
-    put_sender(state, e, s, st, n);
+    put_sender(state, e.q, e.own, s, st, n);
     put_receiver(state, e, s, w, st, n);
-    fail_if(state, st != SUCCESS, e.q);
+    fail_if(state, (st != SUCCESS) & (st != FLUSHED), e.q);
     consume_if(state, is_consumed(s.opcode, st), d);
     fail_if(state, st == REMOTE_INVALID, d);
 }

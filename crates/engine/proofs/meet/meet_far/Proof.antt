@@ -13,7 +13,7 @@ returns : tie.Need-returns
 returns c =
     let b = c .before .before .before in
     let a = b .args in
-    no-peer (now (a .state)) (a .q) (a .opcode) (a .own) (b .pre) (c .if1 .taken)
+    no-peer (now (a .state)) (a .q) (a .opcode) (a .own) (b .pre .0) (b .pre .1) (c .if1 .taken)
 
 is-live-requires : tie.Need-is-live-requires
 is-live-requires c κs = search needs
@@ -28,7 +28,7 @@ returns-2 : tie.Need-returns-2
 returns-2 c =
     let b = c .before .before .before .before .before .before .before in
     let a = b .args in
-    peer-silent (now (a .state)) (a .q) (a .opcode) (a .own) (b .pre) (c .before .before .before .before .if1 .left) _
+    peer-silent (now (a .state)) (a .q) (a .opcode) (a .own) (b .pre .0) (b .pre .1) (c .before .before .before .before .if1 .left) _
     (c .before .before .before .is-live .ensures) _ (c .before .before .load-qp .ensures)
     (sym (c .before .answers-to .ensures) ∙ not-true _ (c .if2 .taken))
 
@@ -37,16 +37,16 @@ meet-peer-requires c κs =
     let b = c .before .before .before .before .before .before .before in
     let a = b .args in
     let h = c .before .before .before .before .if1 .left in
-    let k = queues-below (now (a .state)) (a .q) (a .opcode) (a .own) (b .pre) h _ (c .before .before .before .is-live .ensures) _
+    let k = queues-below (now (a .state)) (a .q) (a .opcode) (a .own) (b .pre .0) (b .pre .1) h _ (c .before .before .before .is-live .ensures) _
     (c .before .before .load-qp .ensures) (sym (c .before .answers-to .ensures) ∙ not-false _ (c .if2 .left)) in
-    (k .0, k .1, h, b .pre .size)
+    (k .0, k .1, h, b .pre .0 .size)
 
 returns-3 : tie.Need-returns-3
 returns-3 c =
     let b = c .before .before .before .before .before .before .before .before in
     let a = b .args in
     c .meet-peer .ensures
-    ∙ peer-met (now (a .state)) (a .q) (a .opcode) (a .own) (b .pre) (c .before .before .before .before .before .if1 .left) _
+    ∙ peer-met (now (a .state)) (a .q) (a .opcode) (a .own) (b .pre .0) (b .pre .1) (c .before .before .before .before .before .if1 .left) _
     (c .before .before .before .before .is-live .ensures) _ (c .before .before .before .load-qp .ensures)
     (sym (c .before .before .answers-to .ensures) ∙ not-false _ (c .before .if2 .left))
 

@@ -3,7 +3,8 @@ use denote.Ref.{now}
 use mathlib.Core.List.{List}
 use Prim.Native.Nat.{ℕ}
 use Rattle.rules.specs.Touch.{requestOf}
-use Rattle.engine.proofs.EndLaws.{is-met, ran-on, stopped, opcode-is}
+use Rattle.engine.proofs.EndLaws.{is-met, ran-on, stopped, opcode-is, flush-asks, ran-flush}
+use native.Mathlib.Omega.{arith}
 use borrow.Author.Needs.{needs}
 use Rattle.engine.proofs.send.send_checked.Statement.{statement}
 use Rattle.engine.proofs.send.send_checked.Tie as tie
@@ -28,6 +29,16 @@ carry-out-requires c κs =
             (sym (c .before .before .before .e .given .1) ∙ c .before .before .before .before .before .meet .ensures),
       ),
     )
+
+enum-known-own : tie.Need-enum-known-own
+enum-known-own c = search needs
+
+put-sender-requires : tie.Need-put-sender-requires
+put-sender-requires c κs =
+    let b = c .before .before .before .before .before .before .before .before .before in
+    let a = b .args in
+    let i = sym (c .before .before .own .given .1) ∙ c .before .before .before .before .meet .ensures in
+    (flush-asks (now (a .state)) (now (a .memory)) (now (a .sent)) (a .s) (a .qpn) (b .pre .0 .accepted) (b .pre .1) _ i, λ z. omega arith)
 
 enum-known-a : tie.Need-enum-known-a
 enum-known-a c = search needs
@@ -55,6 +66,17 @@ same-length-3 c = search needs
 
 returns-2 : tie.Need-returns-2
 returns-2 c =
+    let b = c .before .before .before .before .before .before .before .before .before .before .before .before in
+    let a = b .args in
+    let i = sym (c .before .before .before .before .before .own .given .1) ∙ c .before .before .before .before .before .before .before .meet .ensures in
+    ran-flush (now (a .state)) (now (a .memory)) (now (a .sent)) (a .s) (a .qpn) (b .pre .0 .accepted) (b .pre .1) _ i _
+    (c .before .before .put-sender .ensures)
+
+same-length-4 : tie.Need-same-length-4
+same-length-4 c = search needs
+
+returns-3 : tie.Need-returns-3
+returns-3 c =
     let b = c .before .before .before .before .before .before .before .before in
     let a = b .args in
     let l : List ℕ = now (a .state) in
@@ -70,9 +92,13 @@ send-checked-spec =
     meet-requires
     enum-known-e
     carry-out-requires
+    enum-known-own
+    put-sender-requires
     enum-known-a
     same-length
     same-length-2
     returns
     same-length-3
-    returns-2)
+    returns-2
+    same-length-4
+    returns-3)

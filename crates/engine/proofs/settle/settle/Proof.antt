@@ -1,8 +1,8 @@
-use mathlib.Core.Bool.{Bool, not}
+use mathlib.Core.Bool.{Bool}
 use mathlib.Core.List.{List}
 use Prim.Native.Nat.{ℕ}
 use lib.Dec.{eqb}
-use Rattle.rules.specs.Send.{consumes}
+use Rattle.rules.specs.Send.{consumes, fails}
 use Rattle.rules.specs.Bytes.{pushAll, errorBytes, consumeBytes}
 use Rattle.engine.specs.Settle.{putSecond}
 use mathlib.Core.Path.{sym, ap, _∙_}
@@ -60,7 +60,7 @@ returns c =
     (took .consume-if .ensures ∙ ap (λ (t : Bool). consumeBytes t (own .fail-if .last .0) d) (took .before .is-consumed .ensures)
     ∙ ap (λ (x : List ℕ). consumeBytes (consumes (a .s .opcode) (a .st)) x d)
     (own .fail-if .ensures
-    ∙ ap (λ (x : List ℕ). errorBytes (not (eqb (a .st) 0)) x (a .e .q))
+    ∙ ap (λ (x : List ℕ). errorBytes (fails (a .st)) x (a .e .q))
     (second .put-receiver .ensures ∙ ap (λ (x : List ℕ). pushAll x (putSecond (a .e) (a .s) (a .w) (a .st) (a .n))) (first .put-sender .ensures))))
 
 pub settle-spec : {M : Type 1} → statement M
