@@ -1,34 +1,35 @@
 -- The card agrees with the log: what each accepted call does to both. Assumes nothing.
-use mathlib.Core.Path.{_≡_, refl, subst}
-use mathlib.Core.Bool.{Bool, true, false, not, false≢true}
+use mathlib.Core.Path.{_≡_, refl, sym, ap, subst, _∙_}
+use mathlib.Core.Bool.{Bool, true, false, cond, not, false≢true}
 use mathlib.Core.List.{List, [], _∷_}
 use mathlib.Core.Option.{Option, none, some}
 use Prim.Native.Nat.{ℕ, _+_, _<_, _≤_}
 use native.Mathlib.Omega.{arith}
-use lib.Dec.{eqb}
+use lib.Dec.{eqb, leb}
 use lib.ListN.{length}
 use borrow.Author.Tests.{eqb-true, leb-false, ltb-false, not-false}
 use Rattle.wire.specs.Checks.{Passed}
 use Rattle.wire.proofs.ScanLaws.{and-left, and-off}
 use Rattle.wire.proofs.SlotLaws.{split, same}
-use Rattle.tables.specs.Limits.{mrCount, qpCount, mostAddress}
-use Rattle.tables.specs.Card.{Card, Mr, Qp, fresh}
+use Rattle.tables.specs.Limits.{mrCount, qpCount, mostAddress, mostMessage}
+use Rattle.tables.specs.Card.{Card, Mr, Qp, Receive, fresh, withCq}
 use Rattle.tables.proofs.AckLaws.{need-least}
 use Rattle.tables.specs.Commands.{Command, commandOf, ackLeast, ackFields, encodeAck, numbersOf, ackNeed}
 use Rattle.tables.specs.Records.{sendChecks}
 use Rattle.rules.specs.Lists.{isSome, isEmpty, names, orElse, maybe}
-use Rattle.rules.specs.Touch.{Request, requestOf, receiveIn, takes}
+use Rattle.rules.specs.Touch.{Request, requestOf, receiveIn, takes, fills, total, sgeTotal, ownBytes, farBytes}
+use Rattle.rules.specs.Permit.{permitsAll}
 use Rattle.rules.specs.Control.{commandChecks, commandAck, commandEffect}
 use Rattle.validate.specs.Search.{freeMrn, freeQpn}
-use Rattle.rules.specs.Send.{deliveryChecks, peerOf, ready, consumes, errorIf, consumeIf, sendStatus, sendQps, sendEffect}
-use Rattle.rules.specs.Queues.{joined, flushChecks, flushed, polled}
+use Rattle.rules.specs.Send.{pairChecks, readyChecks, holdChecks, deliveryChecks, isInError, peerOf, takenBy, ready, consumes, fails, errorIf, consumeIf, putAll, ownUse, farUse, statusBy, runStatus, sendStatus, sendQps, sendEffect}
+use Rattle.rules.specs.Queues.{flushesAtOnce, joinStatus, joinPuts, joined, received, flushChecks, flushed, polled}
 use Rattle.rules.specs.Call.{Call}
 use Rattle.rules.specs.Calls.{checks, controlChecks, effect, statusOf, bufferAfter}
 use Rattle.rules.specs.declared.Answer.the-variants.{Done}
 use Rattle.rules.proofs.Tests.{passed-before, passed-after}
 use Rattle.rules.proofs.Variants.{slot-free}
 use Rattle.judge.specs.Log.{Log, PairNote, noteCommand, fed, ackData, Note}
-use Rattle.judge.specs.Judge.{Standing, standing, told, domain, peer, accepted, taken}
+use Rattle.judge.specs.Judge.{Standing, standing, told, domain, peer, accepted, taken, toldOfBoth, errored}
 use Rattle.judge.specs.Distinct.{handed, Distinct}
 use Rattle.judge.specs.Dropped.{dropped}
 use Rattle.judge.proofs.Acks.{ack-back}
@@ -50,7 +51,7 @@ Agree c l = Agreed (c .memory) (c .mr) (c .qp) (standing l) (dropped l) (handed 
 
 module _ (c : Card) (l : Log) (a : Agree c l) where
   command : (k : Command) → Passed (commandChecks c k) → Agree (commandEffect c k) (noteCommand k (numbersOf (commandAck c k)) ∷ l)
-  unfolding commandChecks commandEffect commandAck standing dropped handed Distinct told domain peer accepted taken
+  unfolding commandChecks commandEffect commandAck standing dropped handed Distinct told domain peer accepted taken toldOfBoth errored
   command Command.queryDevice p = a
   command Command.queryPort p = a
   command (Command.createCq n) p = a
@@ -82,7 +83,7 @@ module _ (c : Card) (l : Log) (a : Agree c l) where
       record { keys = a .keys; pairs = split q _ (rw same (λ e. absurd (false≢true e))) (λ j e. rw e (a .pairs j)) }
 
 pub start : (n : ℕ) → Agree (fresh n) []
-unfolding standing dropped handed Distinct told domain peer accepted taken
+unfolding standing dropped handed Distinct told domain peer accepted taken toldOfBoth errored
 start n =
     record {
       keys = record {
@@ -99,14 +100,18 @@ start n =
 
 -- ---- what an accepted send has passed
 
+-- where it is not in error
+pub record Going (c : Card) (q : ℕ) (r : Request) : Type 0 where
+  pub named : isSome (c .qp q .dest) ≡ true
+  pub peer-live : c .qp (peerOf c q) .live ≡ true
+  pub has-receive : takes (r .opcode) ≡ true → isEmpty (c .qp (peerOf c q) .waiting) ≡ false
+
 pub record Sendable (c : Card) (q : ℕ) (r : Request) (m : List ℕ) : Type 0 where
   pub whole : length m ≡ c .memory
   pub opcode : r .opcode ≤ 4
   pub inline : r .inline ≡ true → eqb (r .opcode) 4 ≡ false
   pub live : c .qp q .live ≡ true
-  pub named : isSome (c .qp q .dest) ≡ true
-  pub peer-live : c .qp (peerOf c q) .live ≡ true
-  pub has-receive : takes (r .opcode) ≡ true → isEmpty (c .qp (peerOf c q) .waiting) ≡ false
+  pub going : isInError (c .qp q) ≡ false → Going c q r
 
 ready-some : (c : Card) (q : ℕ) (o : Option ℕ) → ready c q o ≡ true → isSome o ≡ true
 ready-some c q none e = e
@@ -116,43 +121,131 @@ ready-live : (c : Card) (q : ℕ) (o : Option ℕ) → ready c q o ≡ true → 
 ready-live c q none e = absurd (false≢true e)
 ready-live c q (some d) e = and-left _ _ (and-left _ _ e)
 
+goes : (c : Card) (q : ℕ) (r : Request) → Passed (readyChecks c q r) → Going c q r
+unfolding readyChecks
+goes c q r p =
+    let ok : ready c q (c .qp q .dest) ≡ true = not-false _ (p .0) in
+    record {
+      named = ready-some c q (c .qp q .dest) ok;
+      peer-live = ready-live c q (c .qp q .dest) ok;
+      has-receive = and-off _ _ (p .1 .0);
+    }
+
 pub sendable : (c : Card) (q : ℕ) (x m : List ℕ) → Passed (checks c (Call.send q x m)) → Sendable c q (requestOf x) m
-unfolding checks deliveryChecks sendChecks requestOf
+unfolding checks pairChecks holdChecks deliveryChecks sendChecks requestOf
 sendable c q x m p =
     let f = passed-before (sendChecks x) (deliveryChecks c q (requestOf x)) (p .1) in
     let d = passed-after (sendChecks x) (deliveryChecks c q (requestOf x)) (p .1) in
-    let ok : ready c q (c .qp q .dest) ≡ true = not-false _ (d .1 .1 .0) in
     record {
       whole = eqb-true _ _ (not-false _ (p .0));
       opcode = ltb-false 4 _ (f .1 .0);
       inline = and-off _ _ (f .1 .1 .1 .0);
       live = not-false _ (d .0);
-      named = ready-some c q (c .qp q .dest) ok;
-      peer-live = ready-live c q (c .qp q .dest) ok;
-      has-receive = and-off _ _ (d .1 .1 .1 .0);
+      going = λ e. goes c q (requestOf x) (rw e at (d .1 .1));
     }
+
+-- a request that takes a receive finds one
+pub finds-receive : (c : Card) (q : ℕ) (r : Request) {m : List ℕ} → Sendable c q r m →
+    consumes (r .opcode) (sendStatus c q r) ≡ true → isEmpty (c .qp (peerOf c q) .waiting) ≡ false
+unfolding sendStatus
+finds-receive c q r p = go (isInError (c .qp q)) refl
+  where
+    go : (b : Bool) → isInError (c .qp q) ≡ b → consumes (r .opcode) (cond b 4 (runStatus c q r)) ≡ true → isEmpty (c .qp (peerOf c q) .waiting) ≡ false
+    go true e h = absurd (false≢true (sym (Pairs.and-false (takes (r .opcode))) ∙ h))
+    go false e h = p .going e .has-receive (and-left _ _ h)
+
+-- one that is flushed has status 4, any other has another
+pub is-four : (c : Card) (q : ℕ) (r : Request) → isInError (c .qp q) ≡ true → sendStatus c q r ≡ 4
+unfolding sendStatus
+is-four c q r e = rw e
+
+pub not-four : (c : Card) (q : ℕ) (r : Request) → isInError (c .qp q) ≡ false → eqb (sendStatus c q r) 4 ≡ false
+unfolding sendStatus runStatus
+not-four c q r e =
+    rw e
+    (go (fills (r .opcode)) (leb (total r) mostMessage) (permitsAll c q (ownUse (r .opcode)) (ownBytes r))
+    (leb (total r) (sgeTotal (takenBy c q .sges)))
+    (permitsAll c (peerOf c q) (farUse (r .opcode)) (farBytes r (takenBy c q))))
+  where
+    go : (fill short own fits far : Bool) → eqb (statusBy fill short own fits far) 4 ≡ false
+    go fill false own fits far = refl
+    go fill true false fits far = refl
+    go true true true false far = refl
+    go true true true true true = refl
+    go true true true true false = refl
+    go false true true fits true = refl
+    go false true true fits false = refl
 
 names-is : (o : Option ℕ) → isSome o ≡ true → (j : ℕ) → names o j ≡ eqb (orElse o qpCount) j
 names-is none e j = absurd (false≢true e)
 names-is (some d) e j = refl
 
-sent-pairs : (c : Card) (q : ℕ) (r : Request) (l : Log) (s : ℕ) {m : List ℕ} → Sendable c q r m → Agree c l →
-    (j : ℕ) → Pair (sendQps c q r s j) (saidBy (PairNote.sent r s) (eqb q j) (names (peer l q) j) (said l j))
-unfolding sendQps
-sent-pairs c q r l s p a j =
-    let d : ℕ = peerOf c q in
-    let f : ℕ → Qp = errorIf (not (eqb s 0)) q (c .qp) in
-    let one = Pairs.errors (c .qp) (said l) (a .pairs) q (not (eqb s 0)) in
-    let two = Pairs.consumes-if f (said l) one d (consumes (r .opcode) s)
-    (λ e. rw (Pairs.error-waiting (not (eqb s 0)) q (c .qp) d) (p .has-receive (and-left _ _ e))) in
-    let three = Pairs.errors (consumeIf (consumes (r .opcode) s) d f) _ two d (eqb s 7) in
-    subst (Pair (sendQps c q r s j)) (Pairs.said-sent r s (eqb q j) (names (peer l q) j) (said l j))
-    (rw (a .pairs q (p .live) .peer (p .named), names-is (c .qp q .dest) (p .named) j) (three j))
+-- the queue pairs after a request that runs, and after one that is flushed
+module _ (c : Card) (q : ℕ) (r : Request) (l : Log) {m : List ℕ} (p : Sendable c q r m) (a : Agree c l) where
+  abbrev Sent : (s j : ℕ) → Type 0
+  Sent s j = Pair (sendQps c q r s j) (saidBy (PairNote.sent r s) (eqb q j) (names (peer l q) j) (said l j))
+
+  run-pairs : (s : ℕ) → eqb s 4 ≡ false → Going c q r → (j : ℕ) → Sent s j
+  unfolding sendQps
+  run-pairs s n g j =
+      let d : ℕ = peerOf c q in
+      let f : ℕ → Qp = errorIf (fails s) q (c .qp) in
+      let one = Pairs.errors (c .qp) (said l) (a .pairs) q (fails s) in
+      let two = Pairs.consumes-if f _ one d (consumes (r .opcode) s) (λ e. rw (Pairs.error-waiting (fails s) q (c .qp) d) (g .has-receive (and-left _ _ e))) in
+      let three = Pairs.errors (consumeIf (consumes (r .opcode) s) d f) _ two d (eqb s 7) in
+      subst (Pair (sendQps c q r s j)) (Pairs.said-sent r s n (eqb q j) (names (peer l q) j) (said l j))
+      (rw (a .pairs q (p .live) .peer (g .named), names-is (c .qp q .dest) (g .named) j) (three j))
+
+  flushed-qps : sendQps c q r 4 ≡ c .qp
+  unfolding sendQps
+  flushed-qps = rw (Pairs.and-false (takes (r .opcode)))
+
+  flushed-pairs : isInError (c .qp q) ≡ true → (j : ℕ) → Sent 4 j
+  flushed-pairs e j =
+      subst (λ (f : ℕ → Qp). Pair (f j) (saidBy (PairNote.sent r 4) (eqb q j) (names (peer l q) j) (said l j))) (sym flushed-qps)
+      (subst (Pair (c .qp j))
+      (Pairs.said-flushed r (eqb q j) (names (peer l q) j) (said l j)
+      (λ i. ap (errored l) (sym (eqb-true q j i)) ∙ sym (a .pairs q (p .live) .errs) ∙ e))
+      (a .pairs j))
+
+  sent-pairs : (j : ℕ) → Sent (sendStatus c q r) j
+  sent-pairs j = go (isInError (c .qp q)) refl
+    where
+      go : (b : Bool) → isInError (c .qp q) ≡ b → Sent (sendStatus c q r) j
+      go true e = rw (is-four c q r e) (flushed-pairs e j)
+      go false e = run-pairs (sendStatus c q r) (not-four c q r e) (p .going e) j
+
+-- a receive: one that is flushed leaves the queue pairs
+posted-pairs : (c : Card) (q : ℕ) (w : Receive) (l : Log) → Agree c l →
+    (j : ℕ) → Pair (received c q w .qp j) (saidBy (PairNote.posted w (joinStatus c q)) (eqb q j) (names (peer l q) j) (said l j))
+unfolding received joined joinStatus
+posted-pairs c q w l a = go (flushesAtOnce c q)
+  where
+    go : (b : Bool) (j : ℕ) →
+        Pair (cond {A = Card} b (withCq c (putAll (joinPuts c q w) (c .cq))) (joined c q w) .qp j)
+        (saidBy (PairNote.posted w (cond b 4 0)) (eqb q j) (names (peer l q) j) (said l j))
+    go true j = here (eqb q j)
+      where
+        here : (own : Bool) → Pair (c .qp j) (saidBy (PairNote.posted w 4) own (names (peer l q) j) (said l j))
+        here true = a .pairs j
+        here false = a .pairs j
+    go false j =
+        split q (λ j. Pair (joined c q w .qp j) (saidBy (PairNote.posted w 0) (eqb q j) (names (peer l q) j) (said l j)))
+        (rw same (λ e. Pairs.joins w (names (peer l q) q) (a .pairs q e))) (λ j e. rw e (a .pairs j)) j
+
+posted-agrees : (c : Card) (q : ℕ) (w : Receive) (l : Log) → Agree c l →
+    Agree (received c q w) (Note.ofPair q (PairNote.posted w (joinStatus c q)) ∷ l)
+unfolding received joined standing dropped told toldOfBoth domain peer accepted taken errored
+posted-agrees c q w l a = record { keys = go (flushesAtOnce c q); pairs = posted-pairs c q w l a }
+  where
+    go : (b : Bool) → let c′ = cond {A = Card} b (withCq c (putAll (joinPuts c q w) (c .cq))) (joined c q w) in Keys (c′ .memory) (c′ .mr) (standing l) (dropped l)
+    go true = a .keys
+    go false = a .keys
 
 -- ---- every accepted call
 
 pub accepted-call : (c : Card) (k : Call) (l : Log) → Passed (checks c k) → Agree c l → Agree (effect c k) (fed l k (Done (statusOf c k)) (bufferAfter c k))
-unfolding checks controlChecks flushChecks effect sendEffect joined flushed polled statusOf bufferAfter fed standing dropped handed Distinct told domain peer accepted taken
+unfolding checks controlChecks flushChecks effect sendEffect flushed polled statusOf bufferAfter fed standing dropped handed Distinct told domain peer accepted taken toldOfBoth errored
 accepted-call c (Call.reset n) l p a = start n
 accepted-call c (Call.control k b) l p a =
     known (commandOf k) (passed-after (controlChecks k b) (maybe [] (commandChecks c) (commandOf k)) p)
@@ -169,9 +262,8 @@ accepted-call c (Call.control k b) l p a =
     known none t = a
     known (some x) t = rw (ack-back b wide c x t) (command c l a x t)
 accepted-call c (Call.send q x m) l p a =
-    record { keys = a .keys; pairs = sent-pairs c q (requestOf x) l (sendStatus c q (requestOf x)) (sendable c q x m p) a }
-accepted-call c (Call.receive q x) l p a =
-    record { keys = a .keys; pairs = split q _ (rw same (λ e. Pairs.joins (receiveIn x) (names (peer l q) q) (a .pairs q e))) (λ j e. rw e (a .pairs j)) }
+    record { keys = a .keys; pairs = sent-pairs c q (requestOf x) l (sendable c q x m p) a }
+accepted-call c (Call.receive q x) l p a = posted-agrees c q (receiveIn x) l a
 accepted-call c (Call.flush q) l p a =
     record {
       keys = a .keys;

@@ -1,7 +1,7 @@
 -- Demand 3 one byte at a time. Assumes nothing.
 use mathlib.Core.Path.{_≡_, refl, sym, ap, _∙_}
 use mathlib.Core.Logic.{_≢_}
-use mathlib.Core.Bool.{Bool, true, false, cond, _||_, true≢false}
+use mathlib.Core.Bool.{Bool, true, false, cond, not, _&&_, _||_, true≢false}
 use mathlib.Core.List.{List, [], _∷_, map}
 use Prim.Native.Nat.{ℕ, zero, suc, _^_, _≤_, _<_}
 use native.Mathlib.Omega.{arith}
@@ -16,7 +16,7 @@ use Rattle.rules.specs.Lists.{stored}
 use Rattle.rules.specs.Touch.{Request, Byte, fills, total, sgeTotal, sgeBytes, range, ownBytes, farBytes}
 use Rattle.rules.proofs.Stored.{stored-length, stored-other, stored-last, map-at, range-length, sge-length}
 use Rattle.judge.specs.Log.{Log}
-use Rattle.judge.specs.Judge.{Party, Right, Side, passes, placed, Work, filled, near, far, allPass, fitsReceive, nearPasses, farPasses, judge, readSide, writtenSide, Source, sources, valueOf, judgedMemory}
+use Rattle.judge.specs.Judge.{errored, Party, Right, Side, passes, placed, Work, filled, near, far, allPass, fitsReceive, nearPasses, farPasses, judge, readSide, writtenSide, Source, sources, valueOf, judgedMemory}
 use Rattle.judge.specs.Demand3.{Correct, Bytewise, noByte, target, targetByte, source, sourceAt}
 use Rattle.judge.proofs.Rights.{same-fills}
 use Rattle.judge.proofs.Demand3.{Proves, correct}
@@ -47,17 +47,21 @@ module _ (l : Log) (w : Work) (ok : judge l w ≡ true) (small : w .request .opc
   abbrev r : Request
   r = w .request
 
+  both-pass : (nearPasses l w && farPasses l w) ≡ true
+  unfolding judge
+  both-pass = and-right (not (errored l (w .qpn))) (nearPasses l w && farPasses l w) ok
+
   near-passes : allPass l (near l w) ≡ true
-  unfolding judge nearPasses
-  near-passes = and-right (leb (total r) mostMessage) (allPass l (near l w)) (and-left (nearPasses l w) (farPasses l w) ok)
+  unfolding nearPasses
+  near-passes = and-right (leb (total r) mostMessage) (allPass l (near l w)) (and-left (nearPasses l w) (farPasses l w) both-pass)
 
   far-passes : allPass l (far l w) ≡ true
-  unfolding judge farPasses
-  far-passes = and-right (fitsReceive l w) (allPass l (far l w)) (and-right (nearPasses l w) (farPasses l w) ok)
+  unfolding farPasses
+  far-passes = and-right (fitsReceive l w) (allPass l (far l w)) (and-right (nearPasses l w) (farPasses l w) both-pass)
 
   fits : fitsReceive l w ≡ true
-  unfolding judge farPasses
-  fits = and-left (fitsReceive l w) (allPass l (far l w)) (and-right (nearPasses l w) (farPasses l w) ok)
+  unfolding farPasses
+  fits = and-left (fitsReceive l w) (allPass l (far l w)) (and-right (nearPasses l w) (farPasses l w) both-pass)
 
   far-length : length (far l w .bytes) ≡ total r
   unfolding far farBytes

@@ -11,7 +11,7 @@ use borrow.Author.Tests.{eqb-true, ltb-false}
 use Rattle.wire.specs.Checks.{Passed}
 use Rattle.wire.proofs.ScanLaws.{and-left}
 use Rattle.wire.proofs.SlotLaws.{split, same}
-use Rattle.tables.specs.Card.{Card, Cq, Qp, Receive, freeCq, tail}
+use Rattle.tables.specs.Card.{Card, Cq, Qp, Receive, freeCq, tail, withCq}
 use Rattle.tables.proofs.AckLaws.{need-least}
 use Rattle.tables.specs.Commands.{Command, commandOf, ackLeast, ackFields, encodeAck, numbersOf, ackNeed}
 use Rattle.validate.specs.Search.{freeCqn, freeQpn}
@@ -19,8 +19,8 @@ use Rattle.tables.specs.declared.Completion.{Completion}
 use Rattle.rules.specs.Lists.{isEmpty, when, maybe}
 use Rattle.rules.specs.Touch.{Request, requestOf, receiveIn, fills, reads}
 use Rattle.rules.specs.Control.{commandChecks, commandAck, commandEffect}
-use Rattle.rules.specs.Send.{Put, peerOf, consumes, senderOpcode, receiverOpcode, senderPut, receiverPut, errorIf, consumeIf, sendStatus, sendPuts, pushed, putAll, sendQps, sendEffect}
-use Rattle.rules.specs.Queues.{flushChecks, flushPut, flushed, joined, polled}
+use Rattle.rules.specs.Send.{Put, peerOf, consumes, fails, senderOpcode, receiverOpcode, senderPut, receiverPut, errorIf, consumeIf, sendStatus, sendPuts, pushed, putAll, sendQps, sendEffect}
+use Rattle.rules.specs.Queues.{flushesAtOnce, flushedPut, joinStatus, joinPuts, flushChecks, flushPut, flushed, joined, received, polled}
 use Rattle.rules.specs.Call.{Call}
 use Rattle.rules.specs.Calls.{checks, controlChecks, effect, statusOf, bufferAfter, bufferRefused, owed}
 use Rattle.rules.specs.declared.Answer.the-variants.{Done}
@@ -31,7 +31,7 @@ use Rattle.judge.specs.Demand3.{Seen, heard, stateAfter, Linked}
 use Rattle.judge.specs.Count.{puts, putInto, staysBy, stays, PutsBy, Puts, receivePuts, Tally, none-yet, countedBy, noted, completed, tallied, tallyAfter, Counted}
 use Rattle.judge.proofs.Acks.{ack-back}
 use Rattle.judge.proofs.Pairs.{error-waiting}
-use Rattle.judge.proofs.Agree.{sendable}
+use Rattle.judge.proofs.Agree.{sendable, finds-receive}
 use Rattle.judge.proofs.Run.{of-owed, of-refused, fresh-card}
 use Rattle.wire.specs.Codec.{putFields}
 
@@ -77,12 +77,21 @@ polled-puts : (c : Card) (i n : ℕ) → polled c i .cq n .entries ≡ cond (eqb
 unfolding polled
 polled-puts c i = split i _ (rw (same i)) (λ j e. rw e)
 
+received-puts : (c : Card) (q : ℕ) (w : Receive) (n : ℕ) → received c q w .cq n .entries ≡ c .cq n .entries ++ putInto n (joinPuts c q w)
+unfolding received joined joinPuts putInto
+received-puts c q w n = go (flushesAtOnce c q)
+  where
+    go : (b : Bool) → let ps = cond b (flushedPut c q (w .wr) ∷ []) [] in
+        cond {A = Card} b (withCq c (putAll ps (c .cq))) (joined c q w) .cq n .entries ≡ c .cq n .entries ++ putInto n ps
+    go true = put-all (flushedPut c q (w .wr) ∷ []) (c .cq) n
+    go false = sym (append-nil (c .cq n .entries))
+
 call-puts : (c : Card) (k : Call) (n : ℕ) → effect c k .cq n .entries ≡ stays c k n ++ putInto n (puts c k)
-unfolding effect sendEffect flushed joined polled stays puts putInto
+unfolding effect sendEffect flushed polled stays puts putInto
 call-puts c (Call.reset m) n = refl
 call-puts c (Call.control k a) n = known-puts c (commandOf k) n ∙ sym (append-nil (maybe (c .cq n .entries) (λ x. staysBy c x n (c .cq n .entries)) (commandOf k)))
 call-puts c (Call.send q x m) n = put-all (sendPuts c q (requestOf x) (sendStatus c q (requestOf x))) (c .cq) n
-call-puts c (Call.receive q x) n = sym (append-nil (c .cq n .entries))
+call-puts c (Call.receive q x) n = received-puts c q (receiveIn x) n
 call-puts c (Call.flush q) n = put-all (flushPut c q ∷ []) (c .cq) n
 call-puts c (Call.poll i b) n = polled-puts c i n ∙ sym (append-nil (cond (eqb i n) (tail (c .cq n .entries)) (c .cq n .entries)))
 
@@ -146,6 +155,22 @@ joins-one : (s : Qp) (v : Tally) (w : Receive) → Sums s v → s .live ≡ true
     v .accepted + 1 ≡ (v .put + 0) + v .dropped + length (s .waiting ++ (w ∷ []))
 joins-one s v w h l = let k = h l in let n = length-append (s .waiting) (w ∷ []) in omega arith
 
+-- one that is flushed at once is accepted and put
+flushes-one : (s : Qp) (v : Tally) → Sums s v → s .live ≡ true → v .accepted + 1 ≡ (v .put + 1) + v .dropped + length (s .waiting)
+flushes-one s v h l = let k = h l in omega arith
+
+posted-counts : (c : Card) (q : ℕ) (w : Receive) (t : ℕ → Tally) → Counts (c .qp) t → (st : ℕ) →
+    Counts (received c q w .qp)
+    (λ j. completed (receivePuts j (joinPuts c q w)) (when (eqb q j) (countedBy (PairNote.posted w st) (length (c .qp j .waiting))) (t j)))
+unfolding received joined joinPuts receivePuts
+posted-counts c q w t a st = go (flushesAtOnce c q)
+  where
+    go : (b : Bool) → let ps = cond b (flushedPut c q (w .wr) ∷ []) [] in
+        Counts (cond {A = Card} b (withCq c (putAll ps (c .cq))) (joined c q w) .qp)
+        (λ j. completed (receivePuts j ps) (when (eqb q j) (countedBy (PairNote.posted w st) (length (c .qp j .waiting))) (t j)))
+    go true = split q _ (rw same (flushes-one (c .qp q) (t q) (a q))) (λ j e. rw e (same-sums (c .qp j) (t j) (a j)))
+    go false = split q _ (rw same (joins-one (c .qp q) (t q) w (a q))) (λ j e. rw e (same-sums (c .qp j) (t j) (a j)))
+
 -- ---- a send
 
 error-live : (b : Bool) (q : ℕ) (f : ℕ → Qp) (j : ℕ) → errorIf b q f j .live ≡ f j .live
@@ -161,13 +186,13 @@ module _ (c : Card) (q : ℕ) (r : Request) (s : ℕ) where
   d = peerOf c q
 
   abbrev f : ℕ → Qp
-  f = errorIf (not (eqb s 0)) q (c .qp)
+  f = errorIf (fails s) q (c .qp)
 
   sent-live : (j : ℕ) → sendQps c q r s j .live ≡ c .qp j .live
   unfolding sendQps
   sent-live j =
       error-live (eqb s 7) d (consumeIf (consumes (r .opcode) s) d f) j ∙ consume-live (consumes (r .opcode) s) d f j ∙
-      error-live (not (eqb s 0)) q (c .qp) j
+      error-live (fails s) q (c .qp) j
 
   sender-count : (j : ℕ) → (eqb q j && leb 3 (senderOpcode (r .opcode))) ≡ false
   sender-count j = go (reads (r .opcode)) (fills (r .opcode)) (eqb q j)
@@ -207,7 +232,7 @@ module _ (c : Card) (q : ℕ) (r : Request) (s : ℕ) where
       rw (error-waiting (eqb s 7) d (consumeIf (consumes (r .opcode) s) d f) j) (go (consumes (r .opcode) s) refl)
     where
       same-waiting : (i : ℕ) → f i .waiting ≡ c .qp i .waiting
-      same-waiting i = error-waiting (not (eqb s 0)) q (c .qp) i
+      same-waiting i = error-waiting (fails s) q (c .qp) i
 
       go : (b : Bool) → consumes (r .opcode) s ≡ b → cond (b && eqb d j) 1 0 + length (consumeIf b d f j .waiting) ≡ length (c .qp j .waiting)
       go false e = let k = ap length (same-waiting j) in omega arith
@@ -225,7 +250,7 @@ sent-noted false r s w v = refl
 
 counts-call : (c : Card) (k : Call) (l : Log) (t : ℕ → Tally) → Passed (checks c k) → Counts (c .qp) t →
     Counts (effect c k .qp) (tallied c l k (Done (statusOf c k)) (bufferAfter c k) t)
-unfolding checks controlChecks flushChecks effect sendEffect joined flushed polled statusOf bufferAfter tallied puts receivePuts
+unfolding checks controlChecks flushChecks effect sendEffect flushed polled statusOf bufferAfter tallied puts receivePuts
 counts-call c (Call.reset n) l t p a = λ q e. absurd (false≢true e)
 counts-call c (Call.control k b) l t p a =
     known (commandOf k) (passed-after (controlChecks k b) (maybe [] (commandChecks c) (commandOf k)) p)
@@ -250,11 +275,8 @@ counts-call c (Call.send q x m) l t p a =
     let s : ℕ = sendStatus c q (requestOf x) in
     λ j e. rw (sent-noted (eqb q j) r s (length (c .qp j .waiting)) (t j), sent-count c q r s j)
     (takes-some (c .qp j) (t j) (cond (consumes (r .opcode) s && eqb (peerOf c q) j) 1 0) (sendQps c q r s j .waiting)
-    (sent-waiting c q r s (λ y. o .has-receive (and-left _ _ y)) j) (a j) (sym (sent-live c q r s j) ∙ e))
-counts-call c (Call.receive q x) l t p a =
-    split q _
-    (rw same (joins-one (c .qp q) (t q) (receiveIn x) (a q)))
-    (λ j e. rw e (same-sums (c .qp j) (t j) (a j)))
+    (sent-waiting c q r s (finds-receive c q r o) j) (a j) (sym (sent-live c q r s j) ∙ e))
+counts-call c (Call.receive q x) l t p a = posted-counts c q (receiveIn x) t a (joinStatus c q)
 counts-call c (Call.flush q) l t p a =
     split q _
     (rw same (λ e. takes-some (c .qp q) (t q) 1 (tail (c .qp q .waiting)) (rest-length (c .qp q .waiting) (p .1 .1 .0)) (a q) e))

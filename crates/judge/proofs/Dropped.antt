@@ -16,7 +16,7 @@ use Rattle.rules.specs.Call.{Call}
 use Rattle.rules.specs.Calls.{checks, effect, settled, usable, owedChecks, owed}
 use Rattle.rules.specs.Control.{commandEffect}
 use Rattle.rules.specs.Permit.{lookup}
-use Rattle.rules.specs.Send.{takenBy}
+use Rattle.rules.specs.Send.{takenBy, isInError}
 use Rattle.rules.specs.Dropped.{Reaches, farKey}
 use Rattle.rules.proofs.Answers.{answered-not-done}
 use Rattle.rules.proofs.Dropped.{lost, same-checks}
@@ -27,23 +27,30 @@ use Rattle.judge.specs.Distinct.{handed, Distinct}
 use Rattle.judge.specs.Dropped.{dropped, Stale, Loses, StaysHeld}
 use Rattle.judge.specs.Whole.{Met}
 use Rattle.judge.proofs.Keys
-use Rattle.judge.proofs.Agree.{Agree, Sendable}
-use Rattle.judge.proofs.Demand3.{works, same-filled, near-is, fits-is}
+use Rattle.judge.proofs.Agree.{Agree, Going, Sendable}
+use Rattle.judge.proofs.Demand3.{works, same-error, same-filled, near-is, fits-is}
 use Rattle.judge.proofs.Run.{Shows}
 use Rattle.rules.specs.Lists.{maybe}
 
 module _ (c : Card) (l : Log) (a : Agree c l) (q : ℕ) (r : Request) {m : List ℕ} (p : Sendable c q r m) (i : ℕ) (s : Stale l (works q r) i) where
+  running : isInError (c .qp q) ≡ false
+  running = sym (same-error c l a q r p) ∙ s .running
+
+  g : Going c q r
+  g = p .going running
+
   far-bytes : far l (works q r) .bytes ≡ farBytes r (takenBy c q)
   unfolding far
-  far-bytes = ap (farBytes r) (same-filled c l a q r p)
+  far-bytes = ap (farBytes r) (same-filled c l a q r p g)
 
   reaches : Reaches c q r i
   unfolding nearPasses
   reaches =
       record {
+        running = running;
         short = and-left (leb (total r) mostMessage) (allPass l (near l (works q r))) (s .near);
-        own = sym (near-is c l a q r p) ∙ and-right (leb (total r) mostMessage) (allPass l (near l (works q r))) (s .near);
-        fits = λ e. rw e at (sym (fits-is c l a q r p) ∙ s .fits);
+        own = sym (near-is c l a q r p g) ∙ and-right (leb (total r) mostMessage) (allPass l (near l (works q r))) (s .near);
+        fits = λ e. rw e at (sym (fits-is c l a q r p g) ∙ s .fits);
         within = rw far-bytes at (s .within);
       }
 

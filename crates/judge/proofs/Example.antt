@@ -19,12 +19,12 @@ use Rattle.rules.specs.Lists.{stored}
 use Rattle.rules.specs.Touch.{requestOf, receiveIn, range, sgeBytes, sgeTotal, total, ownBytes, farBytes, byteOf, message, delivered}
 use Rattle.rules.specs.Permit.{permits, permitsAll, place, lookup, covers}
 use Rattle.rules.specs.Control.{commandChecks, commandAck, commandEffect}
-use Rattle.rules.specs.Send.{deliveryChecks, sendStatus, sendPuts, putAll, sendQps, sendEffect, sendMemory}
-use Rattle.rules.specs.Queues.{joinChecks, joined, flushChecks, flushed, pollChecks, polled}
+use Rattle.rules.specs.Send.{pairChecks, readyChecks, placeChecks, holdChecks, deliveryChecks, runStatus, sendStatus, sendPuts, putAll, sendQps, sendEffect, sendMemory}
+use Rattle.rules.specs.Queues.{joinChecks, joinStatus, joinPuts, joined, received, flushChecks, flushed, pollChecks, polled}
 use Rattle.rules.specs.Call.{Call}
 use Rattle.rules.specs.Calls.{checks, resetChecks, controlChecks, bufferChecks, statusOf, effect, memoryAfter, bufferAfter, step}
 use Rattle.judge.specs.Log.{Log, fed, ackData}
-use Rattle.judge.specs.Judge.{judge, nearPasses, farPasses, near, far, passes, filled, waiting, standing, told, domain, peer, accepted, taken}
+use Rattle.judge.specs.Judge.{judge, nearPasses, farPasses, near, far, passes, filled, waiting, standing, told, toldOfBoth, domain, peer, accepted, taken, errored}
 
 abbrev mem : List ℕ
 mem = 1 ∷ 2 ∷ 3 ∷ 4 ∷ 5 ∷ 6 ∷ 7 ∷ 8 ∷ []
@@ -98,7 +98,7 @@ pub works : drop 11 (run (fresh 8) [] (setup ++ (posted 0 257 ∷ posted 2 0 ∷
     ∷ (Done 0, (1 ∷ 5 ∷ 6 ∷ 4 ∷ 5 ∷ 6 ∷ 7 ∷ 8 ∷ [], true))
     ∷ (Done 8, (1 ∷ 2 ∷ 3 ∷ 4 ∷ 5 ∷ 6 ∷ 7 ∷ 8 ∷ [], false))
     ∷ []
-unfolding run fieldsAt putFields leAt putLe rows rowsFrom lowest lowestFrom anyBelow commandOf dataSize ackNeed numberCodec registerCodec createQpCodec modifyQpCodec sendCodec sgeCodec receiveCodec completionCodec sendChecks receiveChecks receiveSges receiveOf sendSge inlineBytes inlineLength all stored requestOf receiveIn range sgeBytes sgeTotal total ownBytes farBytes byteOf message delivered permits permitsAll place lookup covers commandChecks commandAck commandEffect deliveryChecks sendStatus sendPuts putAll sendQps sendEffect sendMemory joinChecks joined flushChecks flushed pollChecks polled checks resetChecks controlChecks bufferChecks statusOf effect memoryAfter bufferAfter step fed ackData judge nearPasses farPasses near far passes filled waiting standing told domain peer accepted taken
+unfolding run fieldsAt putFields leAt putLe rows rowsFrom lowest lowestFrom anyBelow commandOf dataSize ackNeed numberCodec registerCodec createQpCodec modifyQpCodec sendCodec sgeCodec receiveCodec completionCodec sendChecks receiveChecks receiveSges receiveOf sendSge inlineBytes inlineLength all stored requestOf receiveIn range sgeBytes sgeTotal total ownBytes farBytes byteOf message delivered permits permitsAll place lookup covers commandChecks commandAck commandEffect pairChecks readyChecks placeChecks holdChecks deliveryChecks runStatus sendStatus sendPuts putAll sendQps sendEffect sendMemory joinChecks joinStatus joinPuts joined received flushChecks flushed pollChecks polled checks resetChecks controlChecks bufferChecks statusOf effect memoryAfter bufferAfter step fed ackData judge nearPasses farPasses near far passes filled waiting standing told toldOfBoth domain peer accepted taken errored
 works = refl
 
 -- ---- what calls leave in their buffers, byte by byte
@@ -153,5 +153,5 @@ pub polled-bytes :
     ∷ (1 ∷ 0 ∷ 0 ∷ 0 ∷ 0 ∷ 0 ∷ 0 ∷ 2 ∷ 0 ∷ 3 ∷ 0 ∷ 0 ∷ 2 ∷ 0 ∷ 0 ∷ 0 ∷ 4 ∷ 5 ∷ 6 ∷ 7 ∷ 1 ∷ 0 ∷ 0 ∷ 0 ∷ 99 ∷ [])
     ∷ (7 ∷ 0 ∷ 0 ∷ 0 ∷ 0 ∷ 0 ∷ 0 ∷ 0 ∷ 8 ∷ 1 ∷ 0 ∷ 0 ∷ 0 ∷ 0 ∷ 0 ∷ 0 ∷ 0 ∷ 0 ∷ 0 ∷ 0 ∷ 0 ∷ 0 ∷ 0 ∷ 0 ∷ 99 ∷ [])
     ∷ []
-unfolding buffers fieldsAt putFields leAt putLe rows rowsFrom lowest lowestFrom anyBelow commandOf dataSize ackNeed numberCodec registerCodec createQpCodec modifyQpCodec sendCodec sgeCodec receiveCodec completionCodec sendChecks receiveChecks receiveSges receiveOf sendSge inlineBytes inlineLength all stored requestOf receiveIn range sgeBytes sgeTotal total ownBytes farBytes byteOf message delivered permits permitsAll place lookup covers commandChecks commandAck commandEffect deliveryChecks sendStatus sendPuts putAll sendQps sendEffect sendMemory joinChecks joined flushChecks flushed pollChecks polled checks resetChecks controlChecks bufferChecks statusOf effect memoryAfter bufferAfter step
+unfolding buffers fieldsAt putFields leAt putLe rows rowsFrom lowest lowestFrom anyBelow commandOf dataSize ackNeed numberCodec registerCodec createQpCodec modifyQpCodec sendCodec sgeCodec receiveCodec completionCodec sendChecks receiveChecks receiveSges receiveOf sendSge inlineBytes inlineLength all stored requestOf receiveIn range sgeBytes sgeTotal total ownBytes farBytes byteOf message delivered permits permitsAll place lookup covers commandChecks commandAck commandEffect pairChecks readyChecks placeChecks holdChecks deliveryChecks runStatus sendStatus sendPuts putAll sendQps sendEffect sendMemory joinChecks joinStatus joinPuts joined received flushChecks flushed pollChecks polled checks resetChecks controlChecks bufferChecks statusOf effect memoryAfter bufferAfter step
 polled-bytes = refl

@@ -1,6 +1,6 @@
--- The queue pair table against the log: the domain, the peer and the waiting receives of each live queue pair. Assumes nothing.
+-- The queue pair table against the log: the domain, the peer, the waiting receives and the error of each live queue pair. Assumes nothing.
 use mathlib.Core.Path.{_≡_, refl, sym, ap, _∙_}
-use mathlib.Core.Bool.{Bool, true, false, cond, _&&_, false≢true}
+use mathlib.Core.Bool.{Bool, true, false, cond, not, _&&_, _||_, false≢true}
 use mathlib.Core.List.{List, [], _∷_, _++_}
 use mathlib.Core.Option.{Option, none, some}
 use Prim.Native.Nat.{ℕ, zero, suc, _+_, _≤_}
@@ -13,10 +13,18 @@ use Rattle.tables.specs.Card.{Qp, Receive, tail}
 use Rattle.tables.specs.declared.CreateQp.{CreateQp}
 use Rattle.tables.specs.declared.ModifyQp.{ModifyQp}
 use Rattle.rules.specs.Lists.{isSome, isEmpty, when}
-use Rattle.rules.specs.Touch.{Request}
-use Rattle.rules.specs.Send.{errorIf, consumeIf, consumes}
+use Rattle.rules.specs.Touch.{Request, takes}
+use Rattle.rules.specs.Send.{errorIf, consumeIf, consumes, fails, isInError}
 use Rattle.judge.specs.Log.{Log, PairNote}
-use Rattle.judge.specs.Judge.{domain, domainBy, peer, peerBy, accepted, acceptedBy, taken, takenBy}
+use Rattle.judge.specs.Judge.{domain, domainBy, peer, peerBy, accepted, acceptedBy, taken, takenBy, errored, erroredBy}
+
+pub and-false : (b : Bool) → b && false ≡ false
+and-false true = refl
+and-false false = refl
+
+and-true : (b : Bool) → b && true ≡ b
+and-true true = refl
+and-true false = refl
 
 -- all that the log says of one queue pair
 pub record Said : Type 0 where
@@ -24,9 +32,10 @@ pub record Said : Type 0 where
   pub peer : Option ℕ
   pub accepted : List Receive
   pub taken : ℕ
+  pub errored : Bool
 
 abbrev pub said : Log → ℕ → Said
-said l q = record { domain = domain l q; peer = peer l q; accepted = accepted l q; taken = taken l q }
+said l q = record { domain = domain l q; peer = peer l q; accepted = accepted l q; taken = taken l q; errored = errored l q }
 
 -- the same after one note more, its own or one of a queue pair whose peer it then was
 abbrev pub saidBy : PairNote → (own named : Bool) → Said → Said
@@ -36,31 +45,34 @@ saidBy n own named v =
       peer = when own (peerBy n) (v .peer);
       accepted = when own (acceptedBy n) (v .accepted);
       taken = takenBy n own named (v .taken);
+      errored = erroredBy n own named (v .errored);
     }
 
 -- the fields of a live queue pair agree with it
-pub record Knows (pd : ℕ) (dest : Option ℕ) (ws : List Receive) (v : Said) : Type 0 where
+pub record Knows (pd : ℕ) (dest : Option ℕ) (ws : List Receive) (error : Bool) (v : Said) : Type 0 where
   pub domain : v .domain ≡ some pd
   pub peer : isSome dest ≡ true → v .peer ≡ dest
   pub waits : ws ≡ drop (v .taken) (v .accepted)
   pub within : v .taken ≤ length (v .accepted)
+  pub errs : error ≡ v .errored
 
 abbrev pub Pair : Qp → Said → Type 0
-Pair s v = s .live ≡ true → Knows (s .pd) (s .dest) (s .waiting) v
+Pair s v = s .live ≡ true → Knows (s .pd) (s .dest) (s .waiting) (isInError s) v
 
 -- a queue pair is created
-pub begins : (r : CreateQp) (named : Bool) (v : Said) → Knows (r .pd) none [] (saidBy (PairNote.created r) true named v)
-begins r named v = record { domain = refl; peer = λ h. absurd (false≢true h); waits = refl; within = omega arith }
+pub begins : (r : CreateQp) (named : Bool) (v : Said) → Knows (r .pd) none [] false (saidBy (PairNote.created r) true named v)
+begins r named v = record { domain = refl; peer = λ h. absurd (false≢true h); waits = refl; within = omega arith; errs = refl }
 
 -- a receive joins
-pub joins : {p : ℕ} {d : Option ℕ} {ws : List Receive} {v : Said} (w : Receive) (named : Bool) → Knows p d ws v →
-    Knows p d (ws ++ (w ∷ [])) (saidBy (PairNote.posted w 0) true named v)
+pub joins : {p : ℕ} {d : Option ℕ} {ws : List Receive} {b : Bool} {v : Said} (w : Receive) (named : Bool) → Knows p d ws b v →
+    Knows p d (ws ++ (w ∷ [])) b (saidBy (PairNote.posted w 0) true named v)
 joins {v} w named k =
     record {
       domain = k .domain;
       peer = k .peer;
       waits = rw (drop-append-le (v .taken) (v .accepted) (w ∷ []) (k .within)) (ap (λ x. x ++ (w ∷ [])) (k .waits));
       within = omega (arith, length-append (v .accepted) (w ∷ []), k .within);
+      errs = k .errs;
     }
 
 drop-more : {A : Type 0} (n : ℕ) (xs : List A) → drop (suc n) xs ≡ tail (drop n xs)
@@ -76,36 +88,52 @@ drop-some (suc n) [] e = absurd (false≢true (sym e))
 drop-some (suc n) (x ∷ xs) e = omega (arith, drop-some n xs e)
 
 abbrev pub took : Bool → Said → Said
-took b v = record { domain = v .domain; peer = v .peer; accepted = v .accepted; taken = cond b (suc (v .taken)) (v .taken) }
+took b v = record { domain = v .domain; peer = v .peer; accepted = v .accepted; taken = cond b (suc (v .taken)) (v .taken); errored = v .errored }
 
 pub said-flush : (own named : Bool) (v : Said) → took own v ≡ saidBy PairNote.flushed own named v
 said-flush true named v = refl
 said-flush false named v = refl
 
-pub said-sent : (r : Request) (s : ℕ) (own named : Bool) (v : Said) → took (named && consumes (r .opcode) s) v ≡ saidBy (PairNote.sent r s) own named v
-said-sent r s true named v = refl
-said-sent r s false named v = refl
+-- it goes to error
+abbrev pub erred : Bool → Said → Said
+erred b v = record { domain = v .domain; peer = v .peer; accepted = v .accepted; taken = v .taken; errored = b || v .errored }
+
+fails-run : (s : ℕ) → eqb s 4 ≡ false → fails s ≡ not (eqb s 0)
+fails-run s e = rw e (and-true (not (eqb s 0)))
+
+pub said-sent : (r : Request) (s : ℕ) → eqb s 4 ≡ false → (own named : Bool) (v : Said) →
+    erred (named && eqb s 7) (took (named && consumes (r .opcode) s) (erred (own && fails s) v)) ≡ saidBy (PairNote.sent r s) own named v
+said-sent r s e true named v = rw (fails-run s e)
+said-sent r s e false named v = refl
+
+-- a request that is flushed tells nothing new
+pub said-flushed : (r : Request) (own named : Bool) (v : Said) → (own ≡ true → v .errored ≡ true) → v ≡ saidBy (PairNote.sent r 4) own named v
+said-flushed r true named v h =
+    rw (and-false (takes (r .opcode)), and-false named) (ap (λ (b : Bool). record { domain = v .domain; peer = v .peer; accepted = v .accepted; taken = v .taken; errored = b }) (h refl))
+said-flushed r false named v h = rw (and-false (takes (r .opcode)), and-false named)
 
 -- the oldest receive leaves
-leaves : {p : ℕ} {d : Option ℕ} {ws : List Receive} {v : Said} → isEmpty ws ≡ false → Knows p d ws v → Knows p d (tail ws) (took true v)
+leaves : {p : ℕ} {d : Option ℕ} {ws : List Receive} {b : Bool} {v : Said} → isEmpty ws ≡ false → Knows p d ws b v → Knows p d (tail ws) b (took true v)
 leaves {v} h k =
     record {
       domain = k .domain;
       peer = k .peer;
       waits = ap tail (k .waits) ∙ sym (drop-more (v .taken) (v .accepted));
       within = drop-some (v .taken) (v .accepted) (rw (← k .waits) h);
+      errs = k .errs;
     }
 
 -- a move, over the tests that its state is 0 and that it is 2
-pub moves : {p : ℕ} {o : Option ℕ} {ws : List Receive} {v : Said} (r : ModifyQp) (named : Bool) → Knows p o ws v →
+pub moves : {p : ℕ} {o : Option ℕ} {ws : List Receive} {b : Bool} {v : Said} (r : ModifyQp) (named : Bool) → Knows p o ws b v →
     Knows p (cond (eqb (r .state) 0) none (cond (eqb (r .state) 2) (some (r .dest)) o)) (cond (eqb (r .state) 0) [] ws)
-    (saidBy (PairNote.changed r) true named v)
+    (eqb (r .state) 6) (saidBy (PairNote.changed r) true named v)
 moves {o} {ws} {v} r named k =
     record {
       domain = k .domain;
       peer = peer (eqb (r .state) 0) (eqb (r .state) 2);
       waits = waits (eqb (r .state) 0);
       within = within (eqb (r .state) 0);
+      errs = refl;
     }
   where
     peer : (z t : Bool) → isSome (cond z none (cond t (some (r .dest)) o)) ≡ true →
@@ -122,19 +150,14 @@ moves {o} {ws} {v} r named k =
     within true = omega arith
     within false = k .within
 
-and-false : (b : Bool) → b && false ≡ false
-and-false true = refl
-and-false false = refl
-
-and-true : (b : Bool) → b && true ≡ b
-and-true true = refl
-and-true false = refl
-
 -- the three steps of a send
 module _ (qp : ℕ → Qp) (v : ℕ → Said) (agree : (j : ℕ) → Pair (qp j) (v j)) (q : ℕ) where
-  pub errors : (b : Bool) (j : ℕ) → Pair (errorIf b q qp j) (v j)
-  errors false j = agree j
-  errors true j = split q (λ j. Pair (errorIf true q qp j) (v j)) (rw same (agree q)) (λ j e. rw e (agree j)) j
+  fails-one : {p : ℕ} {d : Option ℕ} {ws : List Receive} {b : Bool} {v : Said} → Knows p d ws b v → Knows p d ws true (erred true v)
+  fails-one k = record { domain = k .domain; peer = k .peer; waits = k .waits; within = k .within; errs = refl }
+
+  pub errors : (b : Bool) (j : ℕ) → Pair (errorIf b q qp j) (erred (eqb q j && b) (v j))
+  errors false j = rw (and-false (eqb q j)) (agree j)
+  errors true j = split q (λ j. Pair (errorIf true q qp j) (erred (eqb q j && true) (v j))) (rw same (λ e. fails-one (agree q e))) (λ j e. rw e (agree j)) j
 
   pub takes-one : isEmpty (qp q .waiting) ≡ false → (j : ℕ) → Pair (consumeIf true q qp j) (took (eqb q j) (v j))
   takes-one h = split q _ (rw same (λ e. leaves h (agree q e))) (λ j e. rw e (agree j))

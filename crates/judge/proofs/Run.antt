@@ -7,7 +7,7 @@ use Prim.Native.Nat.{ℕ}
 use native.Mathlib.Omega.{arith}
 use lib.Dec.{eqb}
 use lib.ListN.{length}
-use borrow.Author.Tests.{ne-eqb}
+use borrow.Author.Tests.{ne-eqb, not-false}
 use Rattle.wire.specs.Checks.{refusal, Passed}
 use Rattle.wire.proofs.CheckLaws.{passed}
 use Rattle.tables.specs.Card.{Card, fresh}
@@ -18,14 +18,17 @@ use Rattle.rules.specs.Calls.{checks, effect, statusOf, memoryAfter, bufferRefu
 use Rattle.rules.specs.declared.Answer.{Answer}
 use Rattle.rules.specs.declared.Cause.{Cause}
 use Rattle.rules.specs.Touch.{Request, requestOf}
+use Rattle.tables.specs.Records.{receiveChecks}
+use Rattle.rules.specs.Queues.{flushesAtOnce, joinChecks, joinStatus}
+use Rattle.rules.proofs.Tests.{passed-after}
 use Rattle.rules.specs.Send.{sendStatus, sendEffect, sendMemory}
 use Rattle.rules.specs.declared.Cause.the-variants.{Peer, Place}
 use Rattle.rules.specs.declared.Answer.the-variants.{Done, Held, Refused}
 use Rattle.rules.proofs.Answers.{owed-is, step-below, answered-not-done}
 use Rattle.judge.specs.Log.{Log, begins, fed}
-use Rattle.judge.specs.Judge.{Work}
+use Rattle.judge.specs.Judge.{Work, waiting}
 use Rattle.judge.specs.Whole.{Met}
-use Rattle.judge.specs.Demand3.{Correct, Seen, heard, Claim, Each, logAfter, stateAfter, workBy, work, WorkClaim, Ran, OfWork, Linked, Begins, Every, Resumed, Steady}
+use Rattle.judge.specs.Demand3.{Correct, postedOn, FlushedBy, Flushes, Seen, heard, Claim, Each, logAfter, stateAfter, workBy, work, WorkClaim, Ran, OfWork, Linked, Begins, Every, Resumed, Steady}
 use Rattle.judge.proofs.Agree.{Agree, start, Sendable, sendable, accepted-call}
 use Rattle.judge.proofs.Demand3.{works, Proves, correct}
 
@@ -116,6 +119,32 @@ module _ (cardOf : List ℕ → Card) (accepts : List ℕ → Bool) where
 
   pub of-work : (P : WorkClaim) → Proves P → (st : List ℕ) (l : Log) (x : Seen) → Agree (cardOf st) l → Met cardOf accepts st x → OfWork P st l x
   of-work P proves = of-cards (λ l c c′ w s m m′. P l w s m m′) proves
+
+  -- a receive that is done is flushed, or waits, by the log
+  flushes-card : (l : Log) (c : Card) (k : Call) → Passed (checks c k) → Agree c l → FlushedBy l (postedOn k) (Done (statusOf c k))
+  unfolding checks joinChecks statusOf joinStatus waiting
+  flushes-card l c (Call.reset n) p a = tt
+  flushes-card l c (Call.control k b) p a = tt
+  flushes-card l c (Call.send q x m) p a = tt
+  flushes-card l c (Call.receive q x) p a =
+      let h = a .pairs q (not-false _ (passed-after (receiveChecks x) (joinChecks c q) p .0)) in
+      rw (← h .errs, ← h .waits) (go (flushesAtOnce c q))
+    where
+      go : (b : Bool) → eqb (cond b 4 0) 4 ≡ b
+      go true = refl
+      go false = refl
+  flushes-card l c (Call.flush q) p a = tt
+  flushes-card l c (Call.poll n b) p a = tt
+
+  flushes-none : (l : Log) (o : Option ℕ) (n : ℕ) → FlushedBy l o (answered 0 (some n))
+  flushes-none l none n = tt
+  flushes-none l (some q) n = of-refused (FlushedBy l (some q)) (λ x. tt) (λ x. tt) n
+
+  pub flushes : (st : List ℕ) (l : Log) (x : Seen) → Agree (cardOf st) l → Met cardOf accepts st x → Flushes st l x
+  flushes st l x a h =
+      rw (h .answer)
+      (of-owed (λ c k r. Agree c l → FlushedBy l (postedOn k) (r .answer)) (λ c k n a. flushes-none l (postedOn k) n) (λ c k p a. flushes-card l c k p a)
+      cardOf accepts st (x .call) a)
 
   -- every state of a list is accepted where one is
   module _ (sized : (l : List ℕ) → accepts l ≡ true → eqb (length l) stateSize ≡ true) where

@@ -14,9 +14,9 @@ use Rattle.tables.specs.declared.Completion.{Completion}
 use Rattle.rules.specs.declared.Answer.{Answer}
 use Rattle.rules.specs.declared.Answer.the-variants.{Done, Held, Refused}
 use Rattle.rules.specs.Lists.{when, maybe}
-use Rattle.rules.specs.Touch.{requestOf}
+use Rattle.rules.specs.Touch.{requestOf, receiveIn}
 use Rattle.rules.specs.Send.{Put, sendPuts, sendStatus}
-use Rattle.rules.specs.Queues.{flushPut}
+use Rattle.rules.specs.Queues.{flushPut, joinPuts}
 use Rattle.rules.specs.Call.{Call}
 use Rattle.judge.specs.Log.{Log, Note, PairNote, entry, note, begins}
 use Rattle.judge.specs.Demand3.{Seen, Claim, heard, stateAfter, Linked, Begins}
@@ -28,7 +28,7 @@ unfoldable pub puts : Card → Call → List Put
 puts c (Call.reset n) = []
 puts c (Call.control k a) = []
 puts c (Call.send q x m) = sendPuts c q (requestOf x) (sendStatus c q (requestOf x))
-puts c (Call.receive q x) = []
+puts c (Call.receive q x) = joinPuts c q (receiveIn x)
 puts c (Call.flush q) = flushPut c q ∷ []
 puts c (Call.poll n b) = []
 
@@ -86,6 +86,7 @@ pub record Tally : Type 0 where
 abbrev pub none-yet : Tally
 none-yet = record { accepted = 0; put = 0; dropped = 0 }
 
+-- 02, M-103: "The count of accepted receives includes those flushed at once", which are put by the same call
 -- what a note of the queue pair counts, on which w receives waited before the call
 abbrev pub countedBy : PairNote → (w : ℕ) → Tally → Tally
 countedBy (PairNote.created r) w t = none-yet

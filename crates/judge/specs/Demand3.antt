@@ -1,7 +1,7 @@
 -- Demand 3, over lists of calls. Assumes nothing.
 use mathlib.Core.Path.{_≡_}
 use mathlib.Core.Logic.{_≢_}
-use mathlib.Core.Bool.{Bool, true, false}
+use mathlib.Core.Bool.{Bool, true, false, _&&_}
 use mathlib.Core.List.{List, [], _∷_}
 use mathlib.Core.Option.{Option, none, some}
 use Prim.Native.Nat.{ℕ, _^_, _<_}
@@ -12,9 +12,10 @@ use Rattle.rules.specs.declared.Answer.{Answer}
 use Rattle.rules.specs.declared.Answer.the-variants.{Done, Held, Refused}
 use Rattle.rules.specs.Answer.{number}
 use Rattle.rules.specs.Call.{Call, memoryOf, Outcome}
+use Rattle.rules.specs.Lists.{isEmpty}
 use Rattle.rules.specs.Touch.{Byte, requestOf, total}
 use Rattle.judge.specs.Log.{Log, begins, fed}
-use Rattle.judge.specs.Judge.{Party, Right, passes, placed, Work, judge, judgedMemory, writtenSide, Source, sources, valueOf}
+use Rattle.judge.specs.Judge.{errored, waiting, Party, Right, passes, placed, Work, judge, judgedMemory, writtenSide, Source, sources, valueOf}
 
 -- ---- what is claimed of a work request
 
@@ -22,6 +23,8 @@ use Rattle.judge.specs.Judge.{Party, Right, passes, placed, Work, judge,
 pub record Correct (l : Log) (w : Work) (s : ℕ) (m m′ : List ℕ) : Type 0 where
   -- it succeeds exactly when the judge passes it
   pub verdict : eqb s 0 ≡ judge l w
+  -- it is flushed exactly when the log puts its queue pair in error
+  pub flushed : eqb s 4 ≡ errored l (w .qpn)
   -- on success the message bytes are written in turn, with the values before the call; on failure none is
   pub memory : m′ ≡ judgedMemory l w m
   -- a byte that passes lies in the memory, and its address is below 2^64
@@ -112,6 +115,27 @@ Ran P (some w) (Refused n) = Unit {0}
 -- P of the work request that a call runs, if it is neither refused nor held
 abbrev pub OfWork : WorkClaim → Claim
 OfWork P st l x = Ran (λ w s. P l w s (memoryOf (x .call)) (x .left .memory)) (work l x) (x .left .answer)
+
+-- ---- what is claimed of a post receive
+
+-- the queue pair that it is posted on
+abbrev pub postedOn : Call → Option ℕ
+postedOn (Call.reset n) = none
+postedOn (Call.control k a) = none
+postedOn (Call.send q x m) = none
+postedOn (Call.receive q x) = some q
+postedOn (Call.flush q) = none
+postedOn (Call.poll n b) = none
+
+-- done, it is flushed exactly when the log puts its queue pair in error and no older receive waits there
+abbrev pub FlushedBy : Log → Option ℕ → Answer → Type 0
+FlushedBy l none a = Unit {0}
+FlushedBy l (some q) (Done s) = eqb s 4 ≡ (errored l q && isEmpty (waiting l q))
+FlushedBy l (some q) (Held c) = Unit {0}
+FlushedBy l (some q) (Refused n) = Unit {0}
+
+abbrev pub Flushes : Claim
+Flushes st l x = FlushedBy l (postedOn (x .call)) (x .left .answer)
 
 -- ---- the lists: `Made st x` is what is known of the call x on the state st
 module _ (Made : (st : List ℕ) → Seen → Type 0) where

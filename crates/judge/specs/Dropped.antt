@@ -15,7 +15,7 @@ use Rattle.rules.specs.declared.Answer.the-variants.{Done}
 use Rattle.rules.specs.Dropped.{Lost}
 use Rattle.judge.specs.Log.{Log, Note, KeyNote}
 use Rattle.judge.specs.Distinct.{handed}
-use Rattle.judge.specs.Judge.{standing, Work, far, fitsReceive, nearPasses}
+use Rattle.judge.specs.Judge.{standing, Work, far, fitsReceive, nearPasses, errored}
 use Rattle.judge.specs.Demand3.{noByte, Seen, Claim, work, Ran, Linked}
 
 -- the key k was handed out, and then its slot, which is k / 256, was dropped
@@ -33,8 +33,9 @@ dropped (Note.other ∷ l) k = dropped l k
 abbrev pub Gone : Claim
 Gone st l x = (k : ℕ) → dropped l k ≡ true → standing l k ≡ none
 
--- all tests before that of the peer's bytes pass, and byte i of them is named under a key whose registration does not stand
+-- the request is not flushed, all tests before that of the peer's bytes pass, and byte i of them is named under a key whose registration does not stand
 pub record Stale (l : Log) (w : Work) (i : ℕ) : Type 0 where
+  pub running : errored l (w .qpn) ≡ false
   pub near : nearPasses l w ≡ true
   pub fits : fitsReceive l w ≡ true
   pub within : i < length (far l w .bytes)

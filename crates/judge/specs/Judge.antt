@@ -66,6 +66,13 @@ peerBy (PairNote.sent r s) o = o
 unfoldable pub peer : Log → (q : ℕ) → Option ℕ
 peer l q = told peerBy none l q
 
+-- what its own notes and those of the queue pairs whose peer it then was tell: own says that a note is its own, named that it is one of the others
+unfoldable pub toldOfBoth : {A : Type 0} → (f : PairNote → (own named : Bool) → A → A) → (a : A) → Log → (q : ℕ) → A
+toldOfBoth f a [] q = a
+toldOfBoth f a (Note.ofKey n ∷ l) q = toldOfBoth f a l q
+toldOfBoth f a (Note.ofPair x n ∷ l) q = f n (eqb x q) (names (peer l x) q) (toldOfBoth f a l q)
+toldOfBoth f a (Note.other ∷ l) q = toldOfBoth f a l q
+
 -- "Waiting on a QP: its post receives with status 0 since its creation and last move to 0,"
 abbrev pub acceptedBy : PairNote → List Receive → List Receive
 acceptedBy (PairNote.created r) ws = []
@@ -77,8 +84,7 @@ acceptedBy (PairNote.sent r s) ws = ws
 unfoldable pub accepted : Log → (q : ℕ) → List Receive
 accepted l q = told acceptedBy [] l q
 
--- "less the oldest, one per flush of it and per post send whose peer it then was (opcode 1 to 3, status 0 or 7) in that time": own says
--- that the note is its own, named that it is one of a queue pair whose peer it then was
+-- "less the oldest, one per flush of it and per post send whose peer it then was (opcode 1 to 3, status 0 or 7) in that time"
 abbrev pub takenBy : PairNote → (own named : Bool) → ℕ → ℕ
 takenBy (PairNote.created r) own named n = cond own 0 n
 takenBy (PairNote.changed r) own named n = cond (own && eqb (r .state) 0) 0 n
@@ -87,13 +93,22 @@ takenBy PairNote.flushed own named n = cond own (suc n) n
 takenBy (PairNote.sent r s) own named n = cond (named && (leb 1 (r .opcode) && leb (r .opcode) 3 && (eqb s 0 || eqb s 7))) (suc n) n
 
 unfoldable pub taken : Log → (q : ℕ) → ℕ
-taken [] q = 0
-taken (Note.ofKey n ∷ l) q = taken l q
-taken (Note.ofPair x n ∷ l) q = takenBy n (eqb x q) (names (peer l x) q) (taken l q)
-taken (Note.other ∷ l) q = taken l q
+taken l q = toldOfBoth takenBy 0 l q
 
 unfoldable pub waiting : Log → (q : ℕ) → List Receive
 waiting l q = drop (taken l q) (accepted l q)
+
+-- Whether the log puts it in error: "The receive is consumed, both QPs go to error", a status other than 0 puts its sender there, and a
+-- modify to 6; it is not there when it is created, nor after any other modify.
+abbrev pub erroredBy : PairNote → (own named : Bool) → Bool → Bool
+erroredBy (PairNote.created r) own named b = not own && b
+erroredBy (PairNote.changed r) own named b = cond own (eqb (r .state) 6) b
+erroredBy (PairNote.posted w s) own named b = b
+erroredBy PairNote.flushed own named b = b
+erroredBy (PairNote.sent r s) own named b = (named && eqb s 7) || ((own && not (eqb s 0)) || b)
+
+unfoldable pub errored : Log → (q : ℕ) → Bool
+errored l q = toldOfBoth erroredBy false l q
 
 -- ---- one byte
 
@@ -189,9 +204,9 @@ unfoldable pub farPasses : Log → Work → Bool
 farPasses l w = fitsReceive l w && allPass l (far l w)
 
 -- The verdict: the request "succeeds exactly when its length fits the message limit and any receive it fills, and the judge passes every
--- byte it touches".
+-- byte it touches"; 02, M-103: it "counts a flushed request as failing, with no byte judged".
 unfoldable pub judge : Log → Work → Bool
-judge l w = nearPasses l w && farPasses l w
+judge l w = not (errored l (w .qpn)) && (nearPasses l w && farPasses l w)
 
 -- whether the message is moved: where the request succeeds
 abbrev pub moves : Log → Work → Bool
