@@ -19,14 +19,14 @@ use Rattle.rules.specs.Lists.{stored}
 use Rattle.rules.specs.Touch.{requestOf, receiveIn, range, sgeBytes, sgeTotal, total, ownBytes, farBytes, byteOf, message, delivered}
 use Rattle.rules.specs.Permit.{permits, permitsAll, place, lookup, covers}
 use Rattle.rules.specs.Control.{commandChecks, commandAck, commandEffect}
-use Rattle.rules.specs.Send.{deliveryChecks, sendStatus, sendPuts, putAll, sendQps, sendEffect, sendMemory}
-use Rattle.rules.specs.Queues.{joinChecks, joined, flushChecks, flushed, pollChecks, polled}
+use Rattle.rules.specs.Send.{pairChecks, readyChecks, placeChecks, holdChecks, deliveryChecks, runStatus, sendStatus, sendPuts, putAll, sendQps, sendEffect, sendMemory}
+use Rattle.rules.specs.Queues.{joinChecks, joinStatus, joinPuts, joined, received, flushChecks, flushed, pollChecks, polled}
 use Rattle.rules.specs.Call.{Call}
 use Rattle.rules.specs.Contract.{bytesAfter}
 use Rattle.rules.specs.declared.Answer.the-variants.{Done}
 use Rattle.rules.specs.Calls.{checks, resetChecks, controlChecks, bufferChecks, statusOf, effect, memoryAfter, bufferAfter, step}
 use Rattle.judge.specs.Log.{fed, ackData}
-use Rattle.judge.specs.Judge.{judge, nearPasses, farPasses, near, far, passes, filled, waiting, standing, told, domain, peer, accepted, taken}
+use Rattle.judge.specs.Judge.{judge, nearPasses, farPasses, near, far, passes, filled, waiting, standing, told, toldOfBoth, domain, peer, accepted, taken, errored}
 use Rattle.judge.specs.Demand3.{Begins, Every}
 use Rattle.judge.specs.Whole.{FromC}
 use Rattle.judge.proofs.Whole.{exported}
@@ -39,7 +39,7 @@ abbrev callsOf : List Line → List Call
 callsOf ls = map (λ (x : Line). x .call) ls
 
 computed : lines [] (turns (fresh 8) (callsOf run)) ≡ run
-unfolding turns lines fieldsAt putFields leAt putLe rows rowsFrom lowest lowestFrom anyBelow commandOf dataSize ackNeed numberCodec registerCodec createQpCodec modifyQpCodec sendCodec sgeCodec receiveCodec completionCodec sendChecks receiveChecks receiveSges receiveOf sendSge inlineBytes inlineLength all stored requestOf receiveIn range sgeBytes sgeTotal total ownBytes farBytes byteOf message delivered permits permitsAll place lookup covers commandChecks commandAck commandEffect deliveryChecks sendStatus sendPuts putAll sendQps sendEffect sendMemory joinChecks joined flushChecks flushed pollChecks polled checks resetChecks controlChecks bufferChecks statusOf effect memoryAfter bufferAfter step fed ackData judge nearPasses farPasses near far passes filled waiting standing told domain peer accepted taken
+unfolding turns lines fieldsAt putFields leAt putLe rows rowsFrom lowest lowestFrom anyBelow commandOf dataSize ackNeed numberCodec registerCodec createQpCodec modifyQpCodec sendCodec sgeCodec receiveCodec completionCodec sendChecks receiveChecks receiveSges receiveOf sendSge inlineBytes inlineLength all stored requestOf receiveIn range sgeBytes sgeTotal total ownBytes farBytes byteOf message delivered permits permitsAll place lookup covers commandChecks commandAck commandEffect pairChecks readyChecks placeChecks holdChecks deliveryChecks runStatus sendStatus sendPuts putAll sendQps sendEffect sendMemory joinChecks joinStatus joinPuts joined received flushChecks flushed pollChecks polled checks resetChecks controlChecks bufferChecks statusOf effect memoryAfter bufferAfter step fed ackData judge nearPasses farPasses near far passes filled waiting standing told toldOfBoth domain peer accepted taken errored
 computed = refl
 
 module _ (l : List ℕ) (sized : length l ≡ stateSize) where
@@ -71,6 +71,7 @@ module _ (l : List ℕ) (sized : length l ≡ stateSize) where
         begins = begins;
         linked = links;
         judged = exported .judged (made l (Call.reset 8)) begins (madeAll start (callsOf run)) links;
+        flushed = exported .flushed (made l (Call.reset 8)) begins (madeAll start (callsOf run)) links;
         shows = ap (lines []) calls-are ∙ computed;
       }
 

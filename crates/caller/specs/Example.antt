@@ -1,6 +1,6 @@
 -- A run, by the bytes that its calls are given: two domains; writes, a send, inline bytes; a refused command, a refused reset, a hold, a
--- poll, a flush; work requests with the statuses 0, 1, 3, 7 and 8; a region that is dropped under waiting receives, and a write under its
--- key after that; and a second reset. proofs/Example.antt shows that it is a list of the judge's theorem. Assumes nothing.
+-- poll, a flush; work requests with the statuses 0, 1, 3, 4, 7 and 8; a region that is dropped under waiting receives, and a write under its
+-- key after that; a send and receives posted in error; and a second reset. proofs/Example.antt shows that it is a list of the judge's theorem. Assumes nothing.
 use mathlib.Core.Bool.{true, false}
 use mathlib.Core.List.{List, [], _∷_, _++_, map}
 use mathlib.Core.Option.{none, some}
@@ -100,6 +100,13 @@ passes k m = record { call = k; answer = Done 0; memory = m; verdict = some true
 abbrev pub fails : Call → (status : ℕ) → Line
 fails k s = record { call = k; answer = Done s; memory = memory; verdict = some false }
 
+-- a receive that waits, and one that is flushed at once
+abbrev pub queued : Call → Line
+queued k = record { call = k; answer = Done 0; memory = []; verdict = some true }
+
+abbrev pub flushed : Call → Line
+flushed k = record { call = k; answer = Done 4; memory = []; verdict = some false }
+
 abbrev pub waits : Call → Line
 waits k = record { call = k; answer = Held Peer; memory = memory; verdict = none }
 
@@ -137,7 +144,7 @@ delivering =
     passes (send 0 0 200 (keyOf 1) unused 1 two) (1 ∷ 2 ∷ 3 ∷ 4 ∷ 2 ∷ 3 ∷ 7 ∷ 8 ∷ []) ∷
     passes (send 0 8 201 (keyOf 1) (50 ∷ 60 ∷ 70 ∷ replicate 509 0) 3 []) (1 ∷ 2 ∷ 3 ∷ 4 ∷ 5 ∷ 50 ∷ 60 ∷ 70 ∷ []) ∷
     -- a send, into the receive that waits
-    done (receive 202 2) ∷
+    queued (receive 202 2) ∷
     passes (send 2 0 0 (keyOf 0) unused 1 two) (1 ∷ 2 ∷ 3 ∷ 4 ∷ 5 ∷ 6 ∷ 2 ∷ 3 ∷ []) ∷
     done poll ∷
     []
@@ -149,15 +156,20 @@ failing =
     ++ (fails (send 0 0 200 (keyOf 1) unused 1 (piece 201 (four 2) (keyOf 1))) 3 ∷ again)
     ++ (fails (send 0 0 200 (keyOf 1) unused 1 (piece 101 (1 ∷ 16 ∷ 0 ∷ 0 ∷ []) (keyOf 0))) 1 ∷ again)
 
--- the peer's region is dropped while two receives wait for its bytes: the first is consumed in vain, the second is flushed; nor is the key
--- one that can be written under
+-- the peer's region is dropped while two receives wait for its bytes: the first is consumed in vain, and both queue pairs are in error. There a
+-- send is flushed, a third receive waits behind the second, both are flushed, and the fourth is flushed at once. Nor is the key one that can be
+-- written under.
 abbrev pub dropping : List Line
 dropping =
-    done (receive 200 4) ∷
-    done (receive 200 4) ∷
+    queued (receive 200 4) ∷
+    queued (receive 200 4) ∷
     done (deregister 1) ∷
     fails (send 2 0 0 (keyOf 0) unused 1 two) 7 ∷
+    fails (send 2 0 0 (keyOf 0) unused 1 two) 4 ∷
+    queued (receive 200 4) ∷
     done (Call.flush 1) ∷
+    done (Call.flush 1) ∷
+    flushed (receive 200 4) ∷
     again
     ++ (done (move 1 0) ∷ done (move 1 1) ∷ done (aim 1 0) ∷ fails (send 0 0 200 (keyOf 1) unused 1 two) 8 ∷ done poll ∷ [])
 

@@ -1,7 +1,7 @@
 -- Lists of calls with the outcomes that the exported functions' promises name, each call on the state that the last one left; what they
 -- show a caller, and what the judge says of them. Assumes nothing.
 use mathlib.Core.Path.{_≡_}
-use mathlib.Core.Bool.{Bool}
+use mathlib.Core.Bool.{Bool, not}
 use mathlib.Core.List.{List, [], _∷_, map}
 use mathlib.Core.Option.{Option, none, some}
 use Prim.Native.Nat.{ℕ}
@@ -15,8 +15,8 @@ use Rattle.rules.specs.Touch.{requestOf}
 use Rattle.rules.specs.declared.Answer.{Answer}
 use Rattle.rules.specs.declared.Answer.the-variants.{Done, Held, Refused}
 use Rattle.judge.specs.Log.{Log, fed}
-use Rattle.judge.specs.Judge.{judge}
-use Rattle.judge.specs.Demand3.{Seen, Begins, Linked, Each, OfWork, Correct}
+use Rattle.judge.specs.Judge.{judge, flushesAtOnce}
+use Rattle.judge.specs.Demand3.{Seen, Begins, Linked, Each, OfWork, Correct, Flushes}
 use Rattle.judge.specs.Whole.{FromC}
 use Rattle.caller.specs.Served.{seen, Turn, turnOf}
 
@@ -34,7 +34,8 @@ Lists = (l : List ℕ) (ks : List Call) → Linked FromC l (madeAll l ks)
 
 -- ---- what a run shows
 
--- a line of a run: a call, its answer, the memory after it, and the judge's verdict on the work request that it ran
+-- a line of a run: a call, its answer, the memory after it, and the judge's verdict on the work request that it ran, or on the receive that
+-- it posted, whether it waits
 pub record Line : Type 0 where
   pub call : Call
   pub answer : Answer
@@ -47,7 +48,9 @@ verdictBy l (Call.send q x m) (Held c) = none
 verdictBy l (Call.send q x m) (Refused n) = none
 verdictBy l (Call.reset n) a = none
 verdictBy l (Call.control k b) a = none
-verdictBy l (Call.receive q x) a = none
+verdictBy l (Call.receive q x) (Done s) = some (not (flushesAtOnce l q))
+verdictBy l (Call.receive q x) (Held c) = none
+verdictBy l (Call.receive q x) (Refused n) = none
 verdictBy l (Call.flush q) a = none
 verdictBy l (Call.poll n b) a = none
 
@@ -58,10 +61,11 @@ lines l (t ∷ ts) =
     record { call = t .call; answer = t .answer; memory = t .memory; verdict = verdictBy l (t .call) (t .answer) } ∷
     lines (fed l (t .call) (t .answer) (t .buffer)) ts
 
--- The reset `first` and the calls after it are a list of the judge's theorem, each of whose work requests is judged right, and these are
--- its lines.
+-- The reset `first` and the calls after it are a list of the judge's theorem, each of whose work requests and receives is judged right, and
+-- these are its lines.
 pub record Shown (first : Seen) (calls : List Seen) (ls : List Line) : Type 0 where
   pub begins : Begins FromC first
   pub linked : Linked FromC (first .left .state) calls
   pub judged : Each (OfWork Correct) (first .left .state) (begins .base) calls
+  pub flushed : Each Flushes (first .left .state) (begins .base) calls
   pub shows : lines (begins .base) (map turnOf calls) ≡ ls

@@ -1,7 +1,7 @@
--- A run, computed from the bytes of its calls: a write, a hold, a receive, a send, a read and a failed write, each with its answer, the
--- memory after it, and the judge's verdict; and the records' layouts by literal bytes. Assumes nothing.
+-- A run, computed from the bytes of its calls: a write, a hold, a receive, a send, a read and a failed write, then work posted in error, each
+-- with its answer, the memory after it, and the judge's verdict; and the records' layouts by literal bytes. Assumes nothing.
 use mathlib.Core.Path.{_≡_, refl}
-use mathlib.Core.Bool.{Bool, true, false}
+use mathlib.Core.Bool.{Bool, true, false, not}
 use mathlib.Core.List.{List, [], _∷_, _++_}
 use Prim.Native.Nat.{ℕ, _+_, _*_, _^_}
 use lib.ListN.{replicate, take, drop, length}
@@ -13,7 +13,7 @@ use Rattle.tables.specs.Card.{Card, fresh, receiveOf}
 use Rattle.tables.specs.Commands.{commandOf, dataSize, numberCodec, registerCodec, createQpCodec, modifyQpCodec, ackNeed}
 use Rattle.tables.specs.Records.{sendCodec, sgeCodec, receiveCodec, sendChecks, receiveChecks, receiveSges, sendSge, inlineBytes, inlineLength, completionCodec}
 use Rattle.rules.specs.declared.Answer.{Answer}
-use Rattle.rules.specs.declared.Cause.the-variants.{Peer}
+use Rattle.rules.specs.declared.Cause.the-variants.{Peer, Place}
 use Rattle.rules.specs.declared.Answer.the-variants.{Done, Held}
 use Rattle.rules.specs.Lists.{stored}
 use Rattle.rules.specs.Touch.{requestOf, receiveIn, range, sgeBytes, sgeTotal, total, ownBytes, farBytes, byteOf, message, delivered}
@@ -24,7 +24,7 @@ use Rattle.rules.specs.Queues.{joinChecks, joinStatus, joinPuts, joined, receiv
 use Rattle.rules.specs.Call.{Call}
 use Rattle.rules.specs.Calls.{checks, resetChecks, controlChecks, bufferChecks, statusOf, effect, memoryAfter, bufferAfter, step}
 use Rattle.judge.specs.Log.{Log, fed, ackData}
-use Rattle.judge.specs.Judge.{judge, nearPasses, farPasses, near, far, passes, filled, waiting, standing, told, toldOfBoth, domain, peer, accepted, taken, errored}
+use Rattle.judge.specs.Judge.{flushesAtOnce, judge, nearPasses, farPasses, near, far, passes, filled, waiting, standing, told, toldOfBoth, domain, peer, accepted, taken, errored}
 
 abbrev mem : List ℕ
 mem = 1 ∷ 2 ∷ 3 ∷ 4 ∷ 5 ∷ 6 ∷ 7 ∷ 8 ∷ []
@@ -53,9 +53,9 @@ posted o k =
     mem
 
 -- one piece of 3 bytes at 4097, which is memory byte 5
-abbrev waited : Call
-waited =
-    Call.receive 1
+abbrev waited : (q : ℕ) → Call
+waited q =
+    Call.receive q
     (encode receiveCodec (replicate 40 0) 0
     (record { wr = 9; count = 1; first = record { address = 4097; length = 3; key = 257 }; second = record { address = 0; length = 0; key = 0 } }))
 
@@ -75,12 +75,12 @@ setup =
     modified 1 32769 2 0 ∷
     []
 
--- the judge's verdict on a work request
+-- the judge's verdict on a work request, and on a receive whether it waits
 abbrev says : Log → Call → Bool
 says l (Call.reset n) = true
 says l (Call.control k a) = true
 says l (Call.send q x m) = judge l (record { qpn = q; request = requestOf x })
-says l (Call.receive q x) = true
+says l (Call.receive q x) = not (flushesAtOnce l q)
 says l (Call.flush q) = true
 says l (Call.poll n b) = true
 
@@ -90,13 +90,27 @@ run c l (k ∷ ks) =
     let r = step c k in
     (r .answer, (r .memory, says l k)) ∷ run (r .card) (fed l k (r .answer) (r .buffer)) ks
 
-pub works : drop 11 (run (fresh 8) [] (setup ++ (posted 0 257 ∷ posted 2 0 ∷ waited ∷ posted 2 0 ∷ posted 4 257 ∷ posted 0 258 ∷ [])))
+-- queue pair 0 is in error: a write that would pass and a receive are flushed; queue pair 1, on which a receive waits, is moved there, and another
+-- joins; the eighth completion fills the queue, and a write and a receive are held
+abbrev inError : List Call
+inError =
+    posted 0 257 ∷ waited 0 ∷ waited 1 ∷ modified 1 1 6 0 ∷ waited 1 ∷ posted 0 257 ∷ posted 0 257 ∷ waited 0 ∷ []
+
+pub works : drop 11 (run (fresh 8) [] (setup ++ (posted 0 257 ∷ posted 2 0 ∷ waited 1 ∷ posted 2 0 ∷ posted 4 257 ∷ posted 0 258 ∷ inError)))
     ≡ (Done 0, (1 ∷ 2 ∷ 3 ∷ 4 ∷ 2 ∷ 3 ∷ 7 ∷ 8 ∷ [], true))
     ∷ (Held Peer, (1 ∷ 2 ∷ 3 ∷ 4 ∷ 5 ∷ 6 ∷ 7 ∷ 8 ∷ [], false))
     ∷ (Done 0, ([], true))
     ∷ (Done 0, (1 ∷ 2 ∷ 3 ∷ 4 ∷ 5 ∷ 2 ∷ 3 ∷ 8 ∷ [], true))
     ∷ (Done 0, (1 ∷ 5 ∷ 6 ∷ 4 ∷ 5 ∷ 6 ∷ 7 ∷ 8 ∷ [], true))
     ∷ (Done 8, (1 ∷ 2 ∷ 3 ∷ 4 ∷ 5 ∷ 6 ∷ 7 ∷ 8 ∷ [], false))
+    ∷ (Done 4, (1 ∷ 2 ∷ 3 ∷ 4 ∷ 5 ∷ 6 ∷ 7 ∷ 8 ∷ [], false))
+    ∷ (Done 4, ([], false))
+    ∷ (Done 0, ([], true))
+    ∷ (Done 0, ([], true))
+    ∷ (Done 0, ([], true))
+    ∷ (Done 4, (1 ∷ 2 ∷ 3 ∷ 4 ∷ 5 ∷ 6 ∷ 7 ∷ 8 ∷ [], false))
+    ∷ (Held Place, (1 ∷ 2 ∷ 3 ∷ 4 ∷ 5 ∷ 6 ∷ 7 ∷ 8 ∷ [], false))
+    ∷ (Held Place, ([], false))
     ∷ []
 unfolding run fieldsAt putFields leAt putLe rows rowsFrom lowest lowestFrom anyBelow commandOf dataSize ackNeed numberCodec registerCodec createQpCodec modifyQpCodec sendCodec sgeCodec receiveCodec completionCodec sendChecks receiveChecks receiveSges receiveOf sendSge inlineBytes inlineLength all stored requestOf receiveIn range sgeBytes sgeTotal total ownBytes farBytes byteOf message delivered permits permitsAll place lookup covers commandChecks commandAck commandEffect pairChecks readyChecks placeChecks holdChecks deliveryChecks runStatus sendStatus sendPuts putAll sendQps sendEffect sendMemory joinChecks joinStatus joinPuts joined received flushChecks flushed pollChecks polled checks resetChecks controlChecks bufferChecks statusOf effect memoryAfter bufferAfter step fed ackData judge nearPasses farPasses near far passes filled waiting standing told toldOfBoth domain peer accepted taken errored
 works = refl

@@ -1,7 +1,7 @@
 -- Demand 3, over lists of calls. Assumes nothing.
 use mathlib.Core.Path.{_≡_}
 use mathlib.Core.Logic.{_≢_}
-use mathlib.Core.Bool.{Bool, true, false, _&&_}
+use mathlib.Core.Bool.{Bool, true, false}
 use mathlib.Core.List.{List, [], _∷_}
 use mathlib.Core.Option.{Option, none, some}
 use Prim.Native.Nat.{ℕ, _^_, _<_}
@@ -12,10 +12,9 @@ use Rattle.rules.specs.declared.Answer.{Answer}
 use Rattle.rules.specs.declared.Answer.the-variants.{Done, Held, Refused}
 use Rattle.rules.specs.Answer.{number}
 use Rattle.rules.specs.Call.{Call, memoryOf, Outcome}
-use Rattle.rules.specs.Lists.{isEmpty}
 use Rattle.rules.specs.Touch.{Byte, requestOf, total}
 use Rattle.judge.specs.Log.{Log, begins, fed}
-use Rattle.judge.specs.Judge.{errored, waiting, Party, Right, passes, placed, Work, judge, judgedMemory, writtenSide, Source, sources, valueOf}
+use Rattle.judge.specs.Judge.{errored, flushesAtOnce, Party, Right, passes, placed, Work, judge, judgedMemory, writtenSide, Source, sources, valueOf}
 
 -- ---- what is claimed of a work request
 
@@ -130,7 +129,7 @@ postedOn (Call.poll n b) = none
 -- done, it is flushed exactly when the log puts its queue pair in error and no older receive waits there
 abbrev pub FlushedBy : Log → Option ℕ → Answer → Type 0
 FlushedBy l none a = Unit {0}
-FlushedBy l (some q) (Done s) = eqb s 4 ≡ (errored l q && isEmpty (waiting l q))
+FlushedBy l (some q) (Done s) = eqb s 4 ≡ flushesAtOnce l q
 FlushedBy l (some q) (Held c) = Unit {0}
 FlushedBy l (some q) (Refused n) = Unit {0}
 

@@ -10,7 +10,7 @@ use Rattle.wire.specs.Scan.{all}
 use Rattle.tables.specs.Limits.{mostMessage}
 use Rattle.tables.specs.Card.{Receive, noReceive}
 use Rattle.tables.specs.declared.Registration.{Registration}
-use Rattle.rules.specs.Lists.{names, when, stored}
+use Rattle.rules.specs.Lists.{names, isEmpty, when, stored}
 use Rattle.rules.specs.Touch.{Request, Byte, total, sgeTotal, ownBytes, farBytes, byteOf}
 use Rattle.judge.specs.Log.{Log, Note, KeyNote, PairNote}
 
@@ -109,6 +109,10 @@ erroredBy (PairNote.sent r s) own named b = (named && eqb s 7) || ((own && not (
 
 unfoldable pub errored : Log → (q : ℕ) → Bool
 errored l q = toldOfBoth erroredBy false l q
+
+-- 02, M-103: "Older waiting receives go first": whether a receive posted after the log is flushed at once
+abbrev pub flushesAtOnce : Log → (q : ℕ) → Bool
+flushesAtOnce l q = errored l q && isEmpty (waiting l q)
 
 -- ---- one byte
 
