@@ -1,7 +1,7 @@
 -- Every call on every state has an outcome that the promise of the exported functions allows: what a call that passes its tests owes, by
 -- the laws that the functions are proved by. Assumes nothing.
 use mathlib.Core.Path.{_≡_, refl, sym, ap, _∙_}
-use mathlib.Core.Bool.{true}
+use mathlib.Core.Bool.{Bool, true, false, not}
 use mathlib.Core.List.{List, _++_}
 use mathlib.Core.Option.{Option, none, some, Option·some-ne-none}
 use Prim.Native.Nat.{ℕ, _≤_}
@@ -12,7 +12,7 @@ use Rattle.wire.specs.Checks.{Check, refusal, Passed}
 use Rattle.wire.specs.Codec.{decode, encode}
 use Rattle.wire.specs.Table.{rowAt}
 use Rattle.wire.proofs.CheckLaws.{passed}
-use Rattle.wire.proofs.ScanLaws.{and-left, and-right}
+use Rattle.wire.proofs.ScanLaws.{and-left, and-right, and-off}
 use Rattle.tables.specs.Commands.{commandOf, ackNeed}
 use Rattle.tables.specs.Layout.{stateSize, cqT}
 use Rattle.tables.specs.Limits.{mostMemory}
@@ -26,14 +26,14 @@ use Rattle.tables.specs.declared.ReceiveRead.the-variants as read
 use Rattle.tables.specs.declared.ReceiveRecord.{ReceiveRecord}
 use Rattle.validate.specs.Accept.{accepts, memoryOk}
 use Rattle.rules.specs.Answer.{codeOf, isDone}
-use Rattle.rules.specs.Bytes.{commandBytes, flushBytes}
+use Rattle.rules.specs.Bytes.{commandBytes, flushedBytes, flushBytes}
 use Rattle.rules.specs.Call.{Call}
 use Rattle.rules.specs.Calls.{checks, resetChecks, controlChecks, bufferChecks, owed, owedChecks}
 use Rattle.rules.specs.Contract.{Owes, Exports, bytesAfter}
 use Rattle.rules.specs.Control.{commandAck}
 use Rattle.rules.specs.Lists.{maybe}
-use Rattle.rules.specs.Queues.{joinChecks, flushChecks, pollChecks}
-use Rattle.rules.specs.Send.{deliveryChecks}
+use Rattle.rules.specs.Queues.{flushesAtOnce, joinChecks, flushChecks, pollChecks}
+use Rattle.rules.specs.Send.{deliveryChecks, room}
 use Rattle.rules.specs.Touch.{requestOf}
 use Rattle.rules.specs.declared.Answer.{Answer}
 use Rattle.rules.proofs.Exported.{refused-owes}
@@ -43,7 +43,7 @@ use Rattle.commands.proofs.CallLaws.{control-done}
 use Rattle.queues.specs.Live.{LiveQueue, LivePair}
 use Rattle.queues.proofs.LiveLaws.{unread-none}
 use Rattle.queues.proofs.ResetLaws.{reset-done}
-use Rattle.queues.proofs.ReceiveLaws.{receive-done}
+use Rattle.queues.proofs.ReceiveLaws.{receive-done, receive-flushed}
 use Rattle.queues.proofs.FlushLaws.{flush-done}
 use Rattle.queues.proofs.PollLaws.{poll-done}
 use Rattle.engine.proofs.OwedLaws.{ran}
@@ -100,12 +100,25 @@ module _ (l : List ℕ) where
 
   receive-ends : (q : ℕ) (x : List ℕ) → Passed (owedChecks card accepts l (Call.receive q x)) → HasOutcome l (Call.receive q x)
   unfolding checks receiveChecks joinChecks receiveRead
-  receive-ends q x p =
-      let r : ReceiveRecord = decode receiveCodec x 0 in
-      let well : receiveRead x ≡ read.Record r = rw (p .1 .0, p .1 .1 .0, p .1 .1 .1 .0) in
-      let j = p .1 .1 .1 .1 in
-      let s : LivePair l q = record { ok = not-false _ (p .0); live = not-false _ (j .0) } in
-      outcome _ _ _ _ _ _ (receive-done l q x r well s (j .1 .0) (j .1 .1 .0) (postBytes l q r) refl)
+  receive-ends q x p = go (flushesAtOnce (card l) q) refl
+    where
+      r : ReceiveRecord
+      r = decode receiveCodec x 0
+
+      well : receiveRead x ≡ read.Record r
+      well = rw (p .1 .0, p .1 .1 .0, p .1 .1 .1 .0)
+
+      j : Passed (joinChecks (card l) q)
+      j = p .1 .1 .1 .1
+
+      s : LivePair l q
+      s = record { ok = not-false _ (p .0); live = not-false _ (j .0) }
+
+      go : (b : Bool) → flushesAtOnce (card l) q ≡ b → HasOutcome l (Call.receive q x)
+      go true e =
+          let place : room (card l .cq (card l .qp q .rcq)) 1 ≡ true = not-false _ (and-off (flushesAtOnce (card l) q) (not (room (card l .cq (card l .qp q .rcq)) 1)) (j .1 .1 .0) e) in
+          outcome _ _ _ _ _ _ (receive-flushed l q x r well s e place (flushedBytes l q (r .wr)) refl)
+      go false e = outcome _ _ _ _ _ _ (receive-done l q x r well s (j .1 .0) e (j .1 .1 .1 .0) (postBytes l q r) refl)
 
   flush-ends : (q : ℕ) → Passed (owedChecks card accepts l (Call.flush q)) → HasOutcome l (Call.flush q)
   unfolding checks flushChecks
