@@ -4,6 +4,8 @@ use crate::script::{device_ack, port_ack, ACCESSES};
 use cards::build::*;
 use cards::{Call, Card};
 use reference::layout::*;
+use reference::queues::RECEIVED;
+use reference::record::Completion;
 use reference::{accepts, fault, Fault, Outcome, ACK_BYTES};
 
 const LEFT: u8 = 0xa5;
@@ -11,13 +13,14 @@ const LEFT: u8 = 0xa5;
 type Check = (&'static str, fn(&dyn Card));
 
 /// Every check by its name.
-pub const CHECKS: [Check; 14] = [
+pub const CHECKS: [Check; 15] = [
     ("reset_takes_1_to_16777216", reset_takes_1_to_16777216),
     ("ack_needs_13_bytes", ack_needs_13_bytes),
     ("queries_need_129_or_33_bytes", queries_need_129_or_33_bytes),
     ("queries_report_the_card", queries_report_the_card),
     ("poll_needs_24_bytes", poll_needs_24_bytes),
     ("memory_has_the_reset_length", memory_has_the_reset_length),
+    ("flushed_work_writes_its_completion_alone", flushed_work_writes_its_completion_alone),
     ("numbers_past_the_tables_are_not_live", numbers_past_the_tables_are_not_live),
     ("a_bad_state_comes_before_all_else", a_bad_state_comes_before_all_else),
     ("a_reset_mends_a_damaged_state", a_reset_mends_a_damaged_state),
@@ -50,6 +53,12 @@ fn sample(card: &dyn Card) -> Vec<u8> {
     }
     assert_eq!(card.post_receive(&mut state, 1, &receive(5, &[piece(0, 1, 1)])), answer(0));
     assert_eq!(card.post_send(&mut state, &mut memory, 0, &Send::new(1, 0).bytes()), answer(0));
+    state
+}
+
+/// The state with a pair in error.
+fn in_error(mut state: Vec<u8>, pair: usize) -> Vec<u8> {
+    state[pair_row(pair) + PAIR_STATE] = ERROR;
     state
 }
 
@@ -172,13 +181,40 @@ pub fn poll_needs_24_bytes(card: &dyn Card) {
 
 pub fn memory_has_the_reset_length(card: &dyn Card) {
     let good = sample(card);
-    for length in [0, 1, 4095, 4096, 4097, 8192] {
-        for (qpn, record, wanted) in [(0, Send::new(1, 0).bytes(), 0), (0, vec![], 1), (9, Send::new(1, 0).bytes(), 2)] {
-            let (mut state, mut memory) = (good.clone(), vec![LEFT; length]);
-            let outcome = card.post_send(&mut state, &mut memory, qpn, &record);
-            assert_eq!(outcome, answer(if length == 4096 { wanted } else { 7 }));
-            assert_eq!(memory, vec![LEFT; length]);
+    for (good, status) in [(good.clone(), 0), (in_error(good, 0), 4)] {
+        for length in [0, 1, 4095, 4096, 4097, 8192] {
+            for (qpn, record, wanted) in [(0, Send::new(1, 0).bytes(), 0), (0, vec![], 1), (9, Send::new(1, 0).bytes(), 2)] {
+                let (mut state, mut memory) = (good.clone(), vec![LEFT; length]);
+                let outcome = card.post_send(&mut state, &mut memory, qpn, &record);
+                let wanted = match (length, wanted) {
+                    (4096, 0) => Outcome { answer: 0, status },
+                    (4096, _) => answer(wanted),
+                    _ => answer(7),
+                };
+                assert_eq!(outcome, wanted);
+                assert_eq!(memory, vec![LEFT; length]);
+                assert_eq!(state == good, wanted.answer != 0);
+            }
         }
+    }
+}
+
+/// Work posted in error writes the next place of its own queue and that queue's head, and no other byte of state or memory.
+pub fn flushed_work_writes_its_completion_alone(card: &dyn Card) {
+    let mut good = in_error(sample(card), 0);
+    good[pair_row(0) + PAIR_ZERO..][..2].fill(LEFT);
+    let record = Send::new(7, 3).immediate(9).piece(1 << 32, 4, 1).bytes();
+    for (opcode, is_send) in [(0, true), (RECEIVED, false)] {
+        let (mut state, mut memory) = (good.clone(), vec![LEFT; 4096]);
+        let outcome = match is_send {
+            true => card.post_send(&mut state, &mut memory, 0, &record),
+            false => card.post_receive(&mut state, 0, &receive(7, &[piece(1 << 32, 4, 1)])),
+        };
+        assert_eq!(outcome, Outcome { answer: 0, status: 4 });
+        let mut wanted = good.clone();
+        wanted[queue_row(0) + QUEUE_COUNT] += 1;
+        Completion { wr_id: 7, status: 4, opcode, length: 0, immediate: 0, owner: 0 }.write(&mut wanted, completion_row(0, 1));
+        assert!(state == wanted && memory == [LEFT; 4096]);
     }
 }
 
@@ -226,23 +262,27 @@ pub fn a_reset_mends_a_damaged_state(card: &dyn Card) {
 }
 
 pub fn forged_but_acceptable_states(card: &dyn Card) {
-    type Change<'a> = (&'a str, &'a [(usize, u8)], u8);
-    let changes: [Change; 7] = [
-        ("ready to send without destination", &[(pair_row(0) + PAIR_DESTINATION, 8)], 5),
-        ("destination not live", &[(pair_row(0) + PAIR_DESTINATION, 7)], 5),
-        ("peer in state 0 with a waiting receive", &[(pair_row(1) + PAIR_STATE, 0)], 5),
-        ("free slot with any variant", &[(region_row(9) + REGION_VARIANT, 255)], 0),
-        ("queue's first place past its places", &[(queue_row(0) + QUEUE_FIRST, 15), (queue_row(0) + QUEUE_COUNT, 0)], 0),
-        ("free queue with any head", &[(queue_row(7) + QUEUE_PLACES, 17), (queue_row(7) + QUEUE_COUNT, 18)], 0),
-        ("free pair with any row", &[(pair_row(7) + PAIR_STATE, 4), (waiting_row(7) + WAITING_COUNT, 5)], 0),
+    type Change<'a> = (&'a str, &'a [(usize, u8)], u8, u8);
+    let changes: [Change; 11] = [
+        ("ready to send without destination", &[(pair_row(0) + PAIR_DESTINATION, 8)], 5, 0),
+        ("destination not live", &[(pair_row(0) + PAIR_DESTINATION, 7)], 5, 0),
+        ("peer in state 0 with a waiting receive", &[(pair_row(1) + PAIR_STATE, 0)], 5, 0),
+        ("in error", &[(pair_row(0) + PAIR_STATE, 6)], 0, 4),
+        ("in error without destination", &[(pair_row(0) + PAIR_STATE, 6), (pair_row(0) + PAIR_DESTINATION, 8)], 0, 4),
+        ("in error, destination not live", &[(pair_row(0) + PAIR_STATE, 6), (pair_row(0) + PAIR_DESTINATION, 7)], 0, 4),
+        ("in error, its queue full", &[(pair_row(0) + PAIR_STATE, 6), (queue_row(0) + QUEUE_PLACES, 1)], 6, 0),
+        ("free slot with any variant", &[(region_row(9) + REGION_VARIANT, 255)], 0, 0),
+        ("queue's first place past its places", &[(queue_row(0) + QUEUE_FIRST, 15), (queue_row(0) + QUEUE_COUNT, 0)], 0, 0),
+        ("free queue with any head", &[(queue_row(7) + QUEUE_PLACES, 17), (queue_row(7) + QUEUE_COUNT, 18)], 0, 0),
+        ("free pair with any row", &[(pair_row(7) + PAIR_STATE, 4), (waiting_row(7) + WAITING_COUNT, 5)], 0, 0),
     ];
-    for (name, bytes, wanted) in changes {
+    for (name, bytes, answer, status) in changes {
         let mut state = sample(card);
         for &(at, value) in bytes {
             state[at] = value;
         }
         let outcome = card.post_send(&mut state, &mut vec![0; 4096], 0, &Send::new(1, 0).bytes());
-        assert_eq!(outcome, answer(wanted), "{name}");
+        assert_eq!(outcome, Outcome { answer, status }, "{name}");
     }
 }
 

@@ -1,6 +1,7 @@
-//! Named lists of calls with the answers that document 01 gives them. Each runs on any card and can be written as a replay tape.
+//! Named lists of calls with the answers that documents 01 and 02 give them. Each runs on any card and can be written as a replay tape.
 
 mod control;
+mod errors;
 pub mod lent;
 mod posting;
 mod queues;
@@ -14,6 +15,6 @@ pub use script::{Case, Script, Step, Wanted};
 
 /// Every case; names are unique.
 pub fn all() -> Vec<Case> {
-    let groups = [control::cases(), posting::cases(), queues::cases(), traps::cases(), tape::cases()];
+    let groups = [control::cases(), posting::cases(), queues::cases(), errors::cases(), traps::cases(), tape::cases()];
     groups.into_iter().flatten().collect()
 }

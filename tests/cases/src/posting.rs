@@ -106,9 +106,9 @@ fn pair_states() -> Vec<Case> {
     states.create(create_pair(0, 2, 0, 0, 0), 2).send(2, write(1), 3, 0);
     states.done(move_to(2, 1)).send(2, write(1), 3, 0).done(join(2, 1)).send(2, write(1), 3, 0);
     states.send(2, Send::new(1, 5), 4, 0).done(move_to(2, 3)).send(2, write(1), 5, 0);
-    states.done(move_to(2, 6)).send(2, write(1), 3, 0);
+    states.done(move_to(2, 6)).send(2, write(1), 0, 4).done(move_to(2, 0)).send(2, write(1), 3, 0);
     let mut error = Script::joined();
-    error.send(0, write(1).remote(B_VIRT, 0), 0, 8).send(0, write(1), 3, 0);
+    error.send(0, write(1).remote(B_VIRT, 0), 0, 8).send(0, write(1), 0, 4);
     error.done(move_to(0, 0)).ready(0, 1).send(0, write(1), 0, 0);
     vec![numbers.named("send-numbers-not-live"), states.named("send-only-in-rts"), error.named("send-after-a-failed-send")]
 }
@@ -278,6 +278,13 @@ fn totals() -> Vec<Case> {
     order.send(0, Send::new(1, WRITE).piece(0, 4097, 0), 0, 1).done(move_to(0, 0)).ready(0, 1);
     order.send(0, Send::new(1, WRITE).piece(0, 4096, 0), 0, 3);
     cases.push(order.named("total-status-1-before-3-before-8"));
+    let mut each = Script::joined();
+    each.receive(1, 5, &[], 0);
+    for (opcode, completed) in [(WRITE, 1), (WRITE_IMMEDIATE, 1), (SEND, 0), (SEND_IMMEDIATE, 0), (READ, 2)] {
+        each.send(0, Send { opcode, ..write(4097) }, 0, 1).poll(0, 7, 1, completed, 0, 0).done(move_to(0, 0)).ready(0, 1);
+    }
+    each.poll_empty(1).send(0, Send::new(8, SEND), 0, 0).poll(1, 5, 0, 3, 0, 1);
+    cases.push(each.named("total-4097-of-each-opcode"));
     cases
 }
 

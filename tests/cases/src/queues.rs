@@ -26,11 +26,11 @@ fn receives() -> Vec<Case> {
         full.receive(1, n, &[], 0);
     }
     full.receive(1, 4, &[], 8).send(0, Send::new(1, SEND), 0, 0).receive(1, 5, &[], 0).receive(1, 6, &[], 8);
-    full.done(move_to(1, 6)).receive(1, 7, &[], 3);
+    full.done(move_to(1, 6)).receive(1, 7, &[], 8);
     let mut states = Script::joined();
     states.create(create_pair(0, 2, 0, 0, 0), 2).receive(2, 1, &[], 3).done(move_to(2, 1)).receive(2, 1, &[], 0);
     states.done(join(2, 1)).receive(2, 1, &[], 0).done(move_to(2, 3)).receive(2, 1, &[], 0);
-    states.done(move_to(2, 6)).receive(2, 1, &[], 3).receive(8, 1, &[], 2).receive(255, 1, &[], 2);
+    states.done(move_to(2, 0)).receive(2, 1, &[], 3).receive(8, 1, &[], 2).receive(255, 1, &[], 2);
     vec![
         records.named("receive-record-lengths-and-count"),
         reserved.named("receive-reserved-bytes-ignored"),

@@ -2,10 +2,10 @@
 
 use cards::build::{self, Send};
 use cards::{Call, Outcome};
+use reference::ack_need;
 use reference::layout::COMPLETION_BYTES;
 use reference::record::{Completion, Piece};
 use reference::replay::MEMORY;
-use reference::ack_need;
 
 pub struct Case {
     pub name: String,
@@ -176,6 +176,11 @@ impl Script {
 
     pub fn receive_bytes(&mut self, qpn: u8, record: Vec<u8>, answer: u8) -> &mut Script {
         self.call(Call::Receive { qpn: qpn.into(), record }, answer, 0, vec![])
+    }
+
+    /// A receive of a pair in error that is flushed at once.
+    pub fn receive_flushed(&mut self, qpn: u8, wr_id: u64, pieces: &[Piece]) -> &mut Script {
+        self.call(Call::Receive { qpn: qpn.into(), record: build::receive(wr_id, pieces) }, 0, 4, vec![])
     }
 
     pub fn flush(&mut self, qpn: u8, answer: u8) -> &mut Script {

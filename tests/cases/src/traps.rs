@@ -115,7 +115,8 @@ fn receive_lists() -> Vec<Case> {
         let moved = if status == 0 { length } else { 0 };
         script.poll(0, 1, status, 0, moved, 0).poll(1, 5, receiver, 3, moved, 1);
         if status == 7 {
-            script.receive(1, 6, &[], 3).send(0, send(0), 3, 0).flush(1, 9).memory(0, &[0; 4096]);
+            script.receive_flushed(1, 6, &[]).send(0, send(0), 0, 4).flush(1, 9).memory(0, &[0; 4096]);
+            script.poll(0, 1, 4, 0, 0, 0).poll(1, 6, 4, 3, 0, 1);
         }
         cases.push(script.named(format!("receive-list-{name}")));
     }
@@ -155,7 +156,7 @@ fn dropped_regions() -> Vec<Case> {
     let mut plain = Script::joined();
     waiting(&mut plain);
     plain.done(deregister(1)).send(0, send(8), 0, 7).poll(0, 1, 7, 0, 0, 0).poll(1, 5, 3, 3, 0, 1).memory(B_START, &[0; 8]);
-    plain.flush(1, 9).receive(1, 6, &[], 3).send(0, send(8), 3, 0);
+    plain.flush(1, 9).receive_flushed(1, 6, &[]).send(0, send(8), 0, 4).memory(B_START, &[0; 8]);
     let mut again = Script::joined();
     waiting(&mut again);
     again.done(deregister(1)).register(1, 7, B_START as u64, REGION.into(), B_VIRT, B_KEY + 1);

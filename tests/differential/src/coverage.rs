@@ -4,7 +4,8 @@ use crate::side::Done;
 use cards::Call;
 use reference::layout::*;
 use reference::listing::{Listing, PairListing};
-use reference::record::{total, Command, Completion, Local, SendRecord, CONTROL_CLASS, READ};
+use reference::record::{total, Command, Completion, Local, SendRecord, CONTROL_CLASS, READ, SIGNALED};
+use reference::Pair;
 use std::collections::BTreeMap;
 
 #[derive(Default)]
@@ -17,7 +18,7 @@ const ANSWERS: [(&str, &[u8]); 6] = [
     ("reset", &[0, 11, 15]),
     ("control", &[0, 1, 2, 3, 4, 8, 10, 11, 12, 13, 15]),
     ("send", &[0, 1, 2, 3, 4, 5, 6, 7, 15]),
-    ("receive", &[0, 1, 2, 3, 4, 8, 15]),
+    ("receive", &[0, 1, 2, 3, 4, 6, 8, 15]),
     ("flush", &[0, 2, 3, 6, 9, 15]),
     ("poll", &[0, 2, 9, 12, 15]),
 ];
@@ -56,10 +57,32 @@ const ACCESSES: [(u8, &[u8]); 8] = [(0, &[0]), (1, &[0]), (2, &[4]), (3, &[0]), 
 
 /// Every status of each opcode.
 const STATUSES: [(u8, &[u8]); 5] =
-    [(0, &[0, 1, 3, 8]), (1, &[0, 1, 3, 8]), (2, &[0, 1, 3, 7]), (3, &[0, 1, 3, 7]), (4, &[0, 1, 3, 8])];
+    [(0, &[0, 1, 3, 4, 8]), (1, &[0, 1, 3, 4, 8]), (2, &[0, 1, 3, 4, 7]), (3, &[0, 1, 3, 4, 7]), (4, &[0, 1, 3, 4, 8])];
 
 /// Every status of each completion opcode.
-const COMPLETIONS: [(u8, &[u8]); 5] = [(0, &[0, 1, 3, 7]), (1, &[0, 1, 3, 8]), (2, &[0, 1, 3, 8]), (3, &[0, 1, 3, 4]), (4, &[0])];
+const COMPLETIONS: [(u8, &[u8]); 5] =
+    [(0, &[0, 1, 3, 4, 7]), (1, &[0, 1, 3, 4, 8]), (2, &[0, 1, 3, 4, 8]), (3, &[0, 1, 3, 4]), (4, &[0])];
+
+/// What comes of work posted on a pair in error.
+const ERRORS: [&str; 17] = [
+    "send flushed",
+    "send flushed unsignaled",
+    "send flushed, no destination",
+    "send flushed, peer not live",
+    "send flushed, peer not ready",
+    "send flushed, peer ready",
+    "send flushed past waiting receives",
+    "send held with 6",
+    "receive flushed",
+    "receive flushed, the send queue full",
+    "receive held with 6",
+    "receive joins behind 1",
+    "receive joins behind 2",
+    "receive joins behind 3",
+    "receive joins without a place",
+    "receive 8",
+    "receive 8 without a place",
+];
 
 const STEPS: [&str; 21] = [
     "1 no destination",
@@ -97,6 +120,12 @@ impl Coverage {
                 }
                 if let Some(card) = card {
                     self.count_steps(card, *qpn, record, answer, done.outcome.status);
+                    self.count_error(card, *qpn, Some(record), answer);
+                }
+            }
+            Call::Receive { qpn, .. } => {
+                if let Some(card) = card {
+                    self.count_error(card, *qpn, None, answer);
                 }
             }
             Call::Poll { .. } if answer == 0 => {
@@ -137,7 +166,7 @@ impl Coverage {
     fn count_steps(&mut self, card: &Listing, qpn: u32, record: &[u8], answer: u8, status: u8) {
         let sender = card.pairs.get(qpn as usize).and_then(Option::as_ref);
         let (sender, send) = match (sender, SendRecord::read(record)) {
-            (Some(sender), Ok(send)) => (sender, send),
+            (Some(sender), Ok(send)) if sender.pair.state == READY_TO_SEND => (sender, send),
             _ => return,
         };
         let peer = card.pairs.get(usize::from(sender.pair.destination)).and_then(Option::as_ref);
@@ -146,6 +175,40 @@ impl Coverage {
             (6, Some(peer)) => self.add(format!("step {}", hold_of_place(card, &send, sender, peer))),
             (0, Some(peer)) if status == 0 => self.count_success(&send, sender, peer),
             _ => {}
+        }
+    }
+
+    /// Work posted on a pair in error: a send with its record, or a receive.
+    fn count_error(&mut self, card: &Listing, qpn: u32, send: Option<&[u8]>, answer: u8) {
+        let pair = match card.pairs.get(qpn as usize).and_then(Option::as_ref) {
+            Some(pair) if pair.pair.state == ERROR => pair,
+            _ => return,
+        };
+        let (waiting, place) = (pair.waiting.len(), !is_full(card, pair.pair.receive_queue));
+        let seen = match (send, answer) {
+            (Some(record), 0) => {
+                let unsignaled = pair.pair.signal == 1 && record[9] & SIGNALED == 0;
+                vec![
+                    ("send flushed", true),
+                    ("send flushed unsignaled", unsignaled),
+                    (flushed_past(card, qpn, pair), true),
+                    ("send flushed past waiting receives", waiting > 0),
+                ]
+            }
+            (Some(_), 6) => vec![("send held with 6", true)],
+            (None, 0) if waiting == 0 => {
+                vec![("receive flushed", true), ("receive flushed, the send queue full", is_full(card, pair.pair.send_queue))]
+            }
+            (None, 0) => {
+                let behind = ["receive joins behind 1", "receive joins behind 2", "receive joins behind 3"];
+                vec![(behind[waiting - 1], true), ("receive joins without a place", !place)]
+            }
+            (None, 6) => vec![("receive held with 6", true)],
+            (None, 8) => vec![("receive 8", place), ("receive 8 without a place", !place)],
+            _ => vec![],
+        };
+        for (name, _) in seen.into_iter().filter(|(_, seen)| *seen) {
+            self.add(format!("error: {name}"));
         }
     }
 
@@ -204,6 +267,7 @@ fn groups() -> Vec<(&'static str, Vec<String>)> {
         ("registrations with each access", cells("access", "answer", &ACCESSES)),
         ("statuses of each opcode", cells("opcode", "status", &STATUSES)),
         ("completions polled", cells("completion", "status", &COMPLETIONS)),
+        ("work posted in error", ERRORS.iter().map(|name| format!("error: {name}")).collect()),
         ("steps of post send", STEPS.iter().map(|step| format!("step {step}")).collect()),
     ]
 }
@@ -219,10 +283,25 @@ fn hold_of_peer(qpn: u32, sender: &PairListing, peer: Option<&PairListing>) -> &
     }
 }
 
+/// The peer that a flushed send does not look at.
+fn flushed_past(card: &Listing, qpn: u32, sender: &PairListing) -> &'static str {
+    match card.pairs.get(usize::from(sender.pair.destination)).and_then(Option::as_ref).map(|peer| peer.pair) {
+        _ if sender.pair.destination == NO_DESTINATION => "send flushed, no destination",
+        None => "send flushed, peer not live",
+        Some(Pair { state: READY_TO_RECEIVE | READY_TO_SEND, destination, .. }) if u32::from(destination) == qpn => {
+            "send flushed, peer ready"
+        }
+        Some(_) => "send flushed, peer not ready",
+    }
+}
+
+fn is_full(card: &Listing, queue: u8) -> bool {
+    card.queues[usize::from(queue)].as_ref().map_or(false, |queue| queue.unread.len() == queue.places)
+}
+
 /// Why step 2 holds.
 fn hold_of_place(card: &Listing, send: &SendRecord, sender: &PairListing, peer: &PairListing) -> &'static str {
-    let full = |n: u8| card.queues[usize::from(n)].as_ref().map_or(false, |queue| queue.unread.len() == queue.places);
-    if full(sender.pair.send_queue) {
+    if is_full(card, sender.pair.send_queue) {
         "2 no place in the send queue"
     } else if send.takes_receive() && sender.pair.send_queue == peer.pair.receive_queue {
         "2 no two places in a shared queue"

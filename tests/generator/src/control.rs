@@ -37,8 +37,7 @@ impl Generator {
             RESET => Some(move_to(number, INIT)),
             INIT => Some(join(number, if self.rng.percent(95) { neighbour as u32 } else { self.other_pair(number) })),
             READY_TO_RECEIVE => Some(move_to(number, READY_TO_SEND)),
-            _ if pair.waiting.is_empty() || self.rng.percent(15) => Some(move_to(number, RESET)),
-            _ => None,
+            _ => self.rng.percent(if pair.waiting.is_empty() { 60 } else { 15 }).then(|| move_to(number, RESET)),
         }
     }
 

@@ -88,6 +88,11 @@ impl Generator {
                 return control(command);
             }
         }
+        if self.rng.percent(10) {
+            if let Some(call) = self.held_in_error(card) {
+                return call;
+            }
+        }
         if self.rng.percent(45) {
             if let Some(call) = self.poll_full(card) {
                 return call;

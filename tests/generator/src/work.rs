@@ -1,6 +1,6 @@
 //! Sends and receives that the card can deliver.
 
-use crate::{pairs_where, regions_of, Generator};
+use crate::{pairs_where, queues_where, regions_of, Generator};
 use cards::build::{receive, Send};
 use cards::Call;
 use reference::layout::*;
@@ -9,15 +9,39 @@ use reference::record::*;
 use reference::Region;
 
 impl Generator {
-    /// A send of a pair that is ready, or the receive that it needs.
+    /// A send of a pair that is ready or in error, or the receive that it needs.
     pub(crate) fn send_or_receive(&mut self, card: &Listing) -> Call {
         let ready = pairs_where(card, |pair| pair.pair.state == READY_TO_SEND);
         let joined: Vec<usize> = ready.iter().copied().filter(|&n| peer_of(card, n).is_some()).collect();
         let candidates = if joined.is_empty() || self.rng.percent(4) { &ready } else { &joined };
-        let number = match self.rng.choose(candidates) {
-            Some(number) if self.rng.percent(98) => number,
+        let number = match (self.failed_pair(card, 15), self.rng.choose(candidates)) {
+            (Some(number), _) => number,
+            (None, Some(number)) if self.rng.percent(98) => number,
             _ => self.rng.index(PAIRS),
         };
+        self.send_on(card, number)
+    }
+
+    /// `part` times in a hundred a pair in error, if there is one.
+    fn failed_pair(&mut self, card: &Listing, part: u64) -> Option<usize> {
+        let failed = pairs_where(card, |pair| pair.pair.state == ERROR);
+        if self.rng.percent(part) {
+            self.rng.choose(&failed)
+        } else {
+            None
+        }
+    }
+
+    /// Work on a pair in error one of whose queues is full, if there is one.
+    pub(crate) fn held_in_error(&mut self, card: &Listing) -> Option<Call> {
+        let full = queues_where(card, |queue| queue.unread.len() == queue.places);
+        let is_full = |queue: u8| full.contains(&queue.into());
+        let held = |pair: &PairListing| is_full(pair.pair.send_queue) || is_full(pair.pair.receive_queue);
+        let number = self.rng.choose(&pairs_where(card, |pair| pair.pair.state == ERROR && held(pair)))?;
+        Some(if self.rng.percent(70) { self.receive(card, Some(number)) } else { self.send_on(card, number) })
+    }
+
+    fn send_on(&mut self, card: &Listing, number: usize) -> Call {
         let opcode = self.rng.below(5) as u8;
         let peer = peer_of(card, number);
         let needs_receive = matches!(opcode, WRITE_IMMEDIATE | SEND | SEND_IMMEDIATE);
@@ -123,6 +147,7 @@ impl Generator {
     /// A receive on the given pair, or on one that takes it.
     pub(crate) fn receive(&mut self, card: &Listing, pair: Option<usize>) -> Call {
         let open = pairs_where(card, |pair| !matches!(pair.pair.state, RESET | ERROR));
+        let pair = pair.or_else(|| self.failed_pair(card, 40));
         let qpn = match pair.or_else(|| self.rng.choose(&open)) {
             Some(number) if self.rng.percent(95) => number as u32,
             _ => self.number(PAIRS),

@@ -258,7 +258,9 @@ fn commands(records: &mut Records, rng: &mut Rng) {
 
 /// Queries and what looks like them, with ack buffers of every length up to some past the longest ack.
 fn acks(records: &mut Records) {
-    for command in [&[6, 0][..], &[6, 0, 0], &[6, 1], &[6, 1, 1, 1, 1, 1], &[6, 2, 1, 0, 0, 0], &[6, 4], &[6], &[5, 0], &[7, 1], &[]] {
+    for command in
+        [&[6, 0][..], &[6, 0, 0], &[6, 1], &[6, 1, 1, 1, 1, 1], &[6, 2, 1, 0, 0, 0], &[6, 4], &[6], &[5, 0], &[7, 1], &[]]
+    {
         for ack in 0..=140 {
             let call = Call::Control { command: command.to_vec(), ack };
             records.both.count("ack", &call, &records.state, &records.memory);

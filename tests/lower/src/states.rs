@@ -7,6 +7,7 @@ use cards::{Call, Rng};
 use generator::{damage, fields, reached_state, region_slots};
 use reference::layout::*;
 use reference::listing::Listing;
+use reference::record::SEND_IMMEDIATE;
 use reference::{fault, Fault};
 
 const REACHED: usize = 120;
@@ -27,6 +28,13 @@ pub fn compare(both: &mut Both, rng: &mut Rng) {
     for (check, answers) in [("destroy", &[0, 2, 10][..]), ("poll", &[0, 2, 9]), ("flush", &[0, 2, 3, 6, 9])] {
         for answer in answers {
             both.tally.require(check, format!("answer {answer}"));
+        }
+    }
+    for (check, outcomes) in
+        [("send", &["0", "0 status 4", "2", "3", "5", "6"][..]), ("receive", &["0", "0 status 4", "2", "3", "6", "8"])]
+    {
+        for outcome in outcomes {
+            both.tally.require(check, format!("answer {outcome}"));
         }
     }
     for n in 0..REACHED {
@@ -88,8 +96,11 @@ fn creations(both: &mut Both, state: &[u8], card: &Listing) {
     }
 }
 
-/// Every object, and the number past each table, destroyed, polled and flushed; of regions those of the given slots.
+/// Every object, and the number past each table, destroyed, polled, flushed and given a send and a receive of no bytes; of regions those of
+/// the given slots.
 fn each_object(both: &mut Both, state: &[u8], slots: &[usize]) {
+    let memory = vec![0; get64(state, MEMORY_LENGTH) as usize];
+    let (send, receive) = (Send::new(1, SEND_IMMEDIATE).immediate(2).bytes(), receive(3, &[piece(4, 5, 6)]));
     for &slot in slots {
         both.count("destroy", &control(deregister(slot as u32)), state, &[]);
     }
@@ -99,6 +110,8 @@ fn each_object(both: &mut Both, state: &[u8], slots: &[usize]) {
         both.count("destroy", &control(destroy_pair(number)), state, &[]);
         both.count("poll", &Call::Poll { cqn: number, buffer: COMPLETION_BYTES + 1 }, state, &[]);
         both.count("flush", &Call::Flush { qpn: number }, state, &[]);
+        both.count("send", &Call::Send { qpn: number, record: send.clone(), memory: memory.len() }, state, &memory);
+        both.count("receive", &Call::Receive { qpn: number, record: receive.clone() }, state, &[]);
     }
 }
 

@@ -13,15 +13,17 @@ pub struct Coverage {
 const ANSWERS: [(&str, &[u8]); 6] = [
     ("control", &[0, 1, 2, 3, 4, 8, 10, 11, 13]),
     ("send", &[0, 1, 2, 3, 4, 5, 6]),
-    ("receive", &[0, 1, 2, 3, 4, 8]),
+    ("receive", &[0, 1, 2, 3, 4, 6, 8]),
     ("poll", &[0, 2, 9]),
     ("flush", &[0, 2, 3, 6, 9]),
     ("bad record", &[14]),
 ];
 /// Every length of what a control command writes: refused or without data, a number, keys, the reports of a port and of a device.
 const ACKS: [usize; 5] = [1, 5, 13, 33, 129];
-const STATUSES: [u8; 5] = [0, 1, 3, 7, 8];
-const COMPLETIONS: [(u8, &[u8]); 5] = [(0, &[0, 1, 3, 7]), (1, &[0, 1, 3, 8]), (2, &[0, 1, 3, 8]), (3, &[0, 1, 3, 4]), (4, &[0])];
+/// Every status of a work request and of a receive that is done.
+const STATUSES: [(&str, &[u8]); 2] = [("send", &[0, 1, 3, 4, 7, 8]), ("receive", &[0, 4])];
+const COMPLETIONS: [(u8, &[u8]); 5] =
+    [(0, &[0, 1, 3, 4, 7]), (1, &[0, 1, 3, 4, 8]), (2, &[0, 1, 3, 4, 8]), (3, &[0, 1, 3, 4]), (4, &[0])];
 
 impl Coverage {
     pub fn count(&mut self, tape: &[u8], output: &[u8]) {
@@ -43,8 +45,8 @@ impl Coverage {
             if kind == "control" {
                 self.add(format!("ack of {} bytes", bytes.len()));
             }
-            if kind == "send" && answer == 0 {
-                self.add(format!("status {status}"));
+            if answer == 0 {
+                self.add(format!("{kind} status {status}"));
             }
             if kind == "poll" && answer == 0 {
                 self.add(format!("completion {} status {}", bytes[9], bytes[8]));
@@ -60,7 +62,7 @@ impl Coverage {
     pub fn report(&self) -> usize {
         let answers = ANSWERS.iter().flat_map(|(kind, list)| list.iter().map(move |answer| format!("{kind} answer {answer}")));
         let acks = ACKS.iter().map(|length| format!("ack of {length} bytes"));
-        let statuses = STATUSES.iter().map(|status| format!("status {status}"));
+        let statuses = STATUSES.iter().flat_map(|(kind, list)| list.iter().map(move |status| format!("{kind} status {status}")));
         let completions = COMPLETIONS
             .iter()
             .flat_map(|(opcode, list)| list.iter().map(move |status| format!("completion {opcode} status {status}")));

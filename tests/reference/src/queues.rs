@@ -24,17 +24,33 @@ pub fn post_receive(state: &mut [u8], qpn: u32, record: &[u8]) -> Outcome {
     try_post_receive(state, qpn, record).into()
 }
 
-fn try_post_receive(state: &mut [u8], qpn: u32, record: &[u8]) -> Result<(), Refusal> {
+fn try_post_receive(state: &mut [u8], qpn: u32, record: &[u8]) -> Result<Status, Refusal> {
     let mut card = Card::open(state)?;
     let receive = ReceiveRecord::read(record)?;
     let number = card.pair_number(qpn)?;
-    if matches!(card.pair(number).state, RESET | ERROR) {
+    let pair = card.pair(number);
+    if pair.state == RESET {
         return Err(Refusal::WrongState);
+    }
+    // in error it is flushed at once, unless older ones wait
+    if pair.state == ERROR && card.waiting(number) == 0 {
+        complete_flushed(&mut card, number, pair.receive_queue.into(), receive.wr_id)?;
+        return Ok(Status::Flushed);
     }
     if card.waiting(number) == MOST_WAITING {
         return Err(Refusal::Full);
     }
     card.put_receive(number, &receive);
+    Ok(Status::Success)
+}
+
+/// A receive's flushed completion, if there is a place for it.
+fn complete_flushed(card: &mut Card, owner: usize, queue: usize, wr_id: u64) -> Result<(), Refusal> {
+    if card.free_places(queue) == 0 {
+        return Err(Refusal::NoPlace);
+    }
+    let status = Status::Flushed as u8;
+    card.put_completion(queue, &Completion { wr_id, status, opcode: RECEIVED, length: 0, immediate: 0, owner: owner as u32 });
     Ok(())
 }
 
@@ -53,20 +69,9 @@ fn try_flush(state: &mut [u8], qpn: u32) -> Result<(), Refusal> {
     if card.waiting(number) == 0 {
         return Err(Refusal::Nothing);
     }
-    let queue = usize::from(pair.receive_queue);
-    if card.free_places(queue) == 0 {
-        return Err(Refusal::NoPlace);
-    }
-    let completion = Completion {
-        wr_id: card.receive(number, 0).wr_id,
-        status: Status::Flushed as u8,
-        opcode: RECEIVED,
-        length: 0,
-        immediate: 0,
-        owner: number as u32,
-    };
+    let oldest = card.receive(number, 0).wr_id;
+    complete_flushed(&mut card, number, pair.receive_queue.into(), oldest)?;
     card.drop_receive(number);
-    card.put_completion(queue, &completion);
     Ok(())
 }
 

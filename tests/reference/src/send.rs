@@ -42,8 +42,10 @@ fn try_post_send(state: &mut [u8], memory: &mut [u8], qpn: u32, record: &[u8]) -
     let record = SendRecord::read(record)?;
     let sender = card.pair_number(qpn)?;
     let sender_pair = card.pair(sender);
-    if sender_pair.state != READY_TO_SEND {
-        return Err(Refusal::WrongState);
+    match sender_pair.state {
+        READY_TO_SEND => {}
+        ERROR => return flush_at_once(&mut card, sender, &sender_pair, &record),
+        _ => return Err(Refusal::WrongState),
     }
     let peer = ready_peer(&card, sender, &sender_pair, record.takes_receive())?;
     let request = Request { record, sender, sender_pair, peer, peer_pair: card.pair(peer) };
@@ -53,6 +55,15 @@ fn try_post_send(state: &mut [u8], memory: &mut [u8], qpn: u32, record: &[u8]) -
         card.set_pair_state(sender, ERROR);
     }
     Ok(status)
+}
+
+/// A request posted in error: it asks for one place and completes there, whatever its peer, its keys and its length are.
+fn flush_at_once(card: &mut Card, sender: usize, pair: &Pair, record: &SendRecord) -> Result<Status, Refusal> {
+    if card.free_places(pair.send_queue.into()) == 0 {
+        return Err(Refusal::NoPlace);
+    }
+    complete_sender(card, sender, pair, record, Status::Flushed, 0);
+    Ok(Status::Flushed)
 }
 
 /// Step 1: the peer, ready and naming the sender back.
@@ -184,20 +195,7 @@ impl Request<'_> {
     }
 
     fn complete_sender(&self, card: &mut Card, status: Status, length: usize) {
-        let opcode = match self.record.opcode {
-            WRITE | WRITE_IMMEDIATE => WRITTEN,
-            READ => WAS_READ,
-            _ => SENT,
-        };
-        let completion = Completion {
-            wr_id: self.record.wr_id,
-            status: status as u8,
-            opcode,
-            length: length as u32,
-            immediate: 0,
-            owner: self.sender as u32,
-        };
-        card.put_completion(self.sender_pair.send_queue.into(), &completion);
+        complete_sender(card, self.sender, &self.sender_pair, &self.record, status, length);
     }
 
     /// Uses up the peer's oldest receive.
@@ -214,6 +212,23 @@ impl Request<'_> {
         card.drop_receive(self.peer);
         card.put_completion(self.peer_pair.receive_queue.into(), &completion);
     }
+}
+
+fn complete_sender(card: &mut Card, sender: usize, pair: &Pair, record: &SendRecord, status: Status, length: usize) {
+    let opcode = match record.opcode {
+        WRITE | WRITE_IMMEDIATE => WRITTEN,
+        READ => WAS_READ,
+        _ => SENT,
+    };
+    let completion = Completion {
+        wr_id: record.wr_id,
+        status: status as u8,
+        opcode,
+        length: length as u32,
+        immediate: 0,
+        owner: sender as u32,
+    };
+    card.put_completion(pair.send_queue.into(), &completion);
 }
 
 /// Where a range stands, if every byte of it is permitted. An empty range looks at no key.
