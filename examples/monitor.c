@@ -37,7 +37,7 @@ static void expect(int holds, const char *what)
     }
 }
 
-/* A result in words. Answer 0 says that a work request is finished, and its status whether it went well. */
+/* A result in words. Answer 0 says that a request is finished, and its status whether it went well. */
 static void show_result(uint32_t result)
 {
     const unsigned answer = lesungkap_answer(result), status = lesungkap_status(result);
@@ -52,7 +52,7 @@ static void show_result(uint32_t result)
     }
 }
 
-/* Whether a work request is finished with this status. */
+/* Whether a work request or a receive is finished with this status. */
 static int ended(uint32_t result, unsigned status)
 {
     return lesungkap_answer(result) == LESUNGKAP_DONE && lesungkap_status(result) == status;
@@ -176,7 +176,7 @@ static uint32_t send_text(const struct account *who, struct lesungkap_sge text)
     return post_send(who, LESUNGKAP_SEND, text, none);
 }
 
-static void post_receive(const struct account *who, struct lesungkap_sge sge)
+static uint32_t post_receive(const struct account *who, struct lesungkap_sge sge)
 {
     struct lesungkap_receive receive;
     uint8_t record[LESUNGKAP_RECEIVE_MOST_BYTES];
@@ -188,7 +188,13 @@ static void post_receive(const struct account *who, struct lesungkap_sge sge)
     const uint32_t result = lesungkap_recorded_post_receive(&recorder, state, sizeof state, who->qpn, record, length);
     printf("  post_receive  %s: request %" PRIu64 ", up to %" PRIu32 " bytes: ", who->name, receive.wr_id, sge.length);
     show_result(result);
-    expect(result == LESUNGKAP_DONE, "a receive");
+    return result;
+}
+
+/* A receive that waits. */
+static void wait_for(const struct account *who, struct lesungkap_sge sge)
+{
+    expect(post_receive(who, sge) == LESUNGKAP_DONE, "a receive");
 }
 
 static uint32_t flush(const struct account *who)
@@ -243,7 +249,7 @@ static void show_messages(const struct account *north, const struct account *coa
     printf("\n1. North sends a message before Coast waits for one, and again after.\n");
     struct lesungkap_sge text = put_text(north, 0, "Train 17 leaves at 08:05");
     expect(lesungkap_answer(send_text(north, text)) == LESUNGKAP_HELD_PEER, "a send without a receive");
-    post_receive(coast, entry(coast, 100, 64));
+    wait_for(coast, entry(coast, 100, 64));
     expect(ended(send_text(north, text), LESUNGKAP_SUCCESS), "a send");
     poll_all(north);
     poll_all(coast);
@@ -294,8 +300,8 @@ static void show_overhang(const struct account *north, const struct account *coa
 static void show_dropped_region(const struct account *north, const struct account *coast)
 {
     printf("\n4. Coast drops its region while two receives wait on it; what still waits after the failure is flushed.\n");
-    post_receive(coast, entry(coast, 0, 64));
-    post_receive(coast, entry(coast, 64, 64));
+    wait_for(coast, entry(coast, 0, 64));
+    wait_for(coast, entry(coast, 64, 64));
     const struct lesungkap_deregister_mr data = {coast->mrn};
     control(lesungkap_put_deregister_mr(command, sizeof command, &data));
     printf("  control       Coast: deregister MR: answer 0, done\n");
@@ -306,6 +312,17 @@ static void show_dropped_region(const struct account *north, const struct accoun
     expect(flush(coast) == LESUNGKAP_DONE, "a flush");
     poll_all(coast);
     expect(lesungkap_answer(flush(coast)) == LESUNGKAP_NOTHING, "a flush where nothing waits");
+}
+
+static void show_flushed_work(const struct account *north, const struct account *coast)
+{
+    printf("\n5. Both queue pairs are in error. What is posted on them is flushed at once: it completes, and no byte moves.\n");
+    expect(ended(send_text(north, entry(north, 0, TEXT_BYTES)), LESUNGKAP_FLUSHED), "a send in error");
+    expect(ended(post_receive(coast, entry(coast, 0, 64)), LESUNGKAP_FLUSHED), "a receive in error");
+    poll_all(north);
+    poll_all(coast);
+    show_qp(north);
+    show_qp(coast);
 }
 
 static void play(void)
@@ -328,6 +345,7 @@ static void play(void)
     show_messages(&north, &coast);
     show_overhang(&north, &coast, &ridge);
     show_dropped_region(&north, &coast);
+    show_flushed_work(&north, &coast);
 }
 
 /* Plays the story, recorded to the two files or, without names, to buffers that are not kept. */

@@ -47,8 +47,9 @@
 extern "C" {
 #endif
 
-/* Each call returns its answer in bits 0 to 7 and, of a work request answered LESUNGKAP_DONE, its status in bits 8 to 15. The answers of
- * each stand below in the order of their tests, without LESUNGKAP_: the first that is met is the answer. */
+/* Each call returns its answer in bits 0 to 7 and, of a work request answered LESUNGKAP_DONE, its status in bits 8 to 15; so does a receive
+ * that was flushed at once, and no other call. The answers of each stand below in the order of their tests, without LESUNGKAP_: the first
+ * that is met is the answer. */
 
 /* Makes a fresh card over a memory of memory_len bytes, whatever the state held.
  *   BAD_STATE         state_len isn't LESUNGKAP_STATE_BYTES; the content is not looked at
@@ -70,14 +71,17 @@ uint32_t lesungkap_control(uint8_t *state, size_t state_len, const uint8_t *comm
 
 /* Runs a work request to its end. A write moves the local bytes (the entries in order, or the inline bytes) to the remote range, a read the
  * remote range to the local entries, a send the local bytes to the entries of the peer's oldest waiting receive. Sends and writes with
- * immediate take that receive; a write touches none of its bytes.
+ * immediate take that receive; a write touches none of its bytes. On a queue pair in error the request is flushed: it completes, and that
+ * is all that comes of it.
  *   BAD_STATE         the state is not acceptable
  *   MEMORY_LENGTH     memory_len isn't that of the reset
  *   RECORD_LENGTH     under LESUNGKAP_SEND_BYTES
  *   BAD_FIELD         opcode, flag bit, inline with a read, too many inline bytes or entries
  *   RECORD_LENGTH     not exactly what its entries ask for
  *   NOT_LIVE, WRONG_STATE
- *                     the queue pair; it is not in RTS
+ *                     the queue pair; it is neither in RTS nor in ERROR
+ *   HELD_PLACE        in ERROR: no place in the send CQ, signaled or not
+ *   DONE              in ERROR: it is flushed, with status FLUSHED; its peer, keys and total are not looked at
  *   HELD_PEER         the destination isn't live, not in RTR or RTS, or names another; no receive waits where one is taken
  *   HELD_PLACE        no place in the send CQ, or in the peer's receive CQ where a receive is taken (two if it is one CQ), signaled or not
  *   DONE              it is finished, with the first status that is met:
@@ -92,15 +96,18 @@ uint32_t lesungkap_control(uint8_t *state, size_t state_len, const uint8_t *comm
 uint32_t lesungkap_post_send(uint8_t *state, size_t state_len, uint8_t *memory, size_t memory_len, uint32_t qpn,
                              const uint8_t *record, size_t record_len);
 
-/* Lets a receive wait behind the others. Its keys are looked at when a message comes, not before.
+/* Lets a receive wait behind the others. Its keys are looked at when a message comes, not before. On a queue pair in error it is flushed at
+ * once, unless older ones wait: these go first, by lesungkap_flush.
  *   BAD_STATE         the state is not acceptable
  *   RECORD_LENGTH     under LESUNGKAP_RECEIVE_BYTES
  *   BAD_FIELD         over LESUNGKAP_RECEIVE_MOST_SGES entries
  *   RECORD_LENGTH     not exactly what its entries ask for
  *   NOT_LIVE, WRONG_STATE
- *                     the queue pair; it is in RESET or ERROR
+ *                     the queue pair; it is in RESET
+ *   HELD_PLACE        in ERROR, none waiting: no place in its receive CQ
+ *   DONE              in ERROR, none waiting: it is flushed, with status FLUSHED; its completion has opcode COMPLETED_RECEIVE, length 0
  *   FULL              LESUNGKAP_QP_MOST_RECEIVES wait already
- *   DONE              it waits */
+ *   DONE              it waits, in ERROR too, without a place being asked for; the status is 0 */
 uint32_t lesungkap_post_receive(uint8_t *state, size_t state_len, uint32_t qpn, const uint8_t *record, size_t record_len);
 
 /* Completes the oldest waiting receive of a queue pair in error. The call's own status is 0.

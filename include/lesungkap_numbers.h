@@ -11,9 +11,9 @@
 /* The minor number grows by one with each landing that changes what a call answers or does, a record or the state's layout, its length
  * included; a state and a tape belong to one minor number. */
 #define LESUNGKAP_VERSION_MAJOR 0
-#define LESUNGKAP_VERSION_MINOR 5
+#define LESUNGKAP_VERSION_MINOR 6
 #define LESUNGKAP_VERSION_PATCH 0
-#define LESUNGKAP_VERSION "0.5.0"
+#define LESUNGKAP_VERSION "0.6.0"
 
 #ifdef __cplusplus
 extern "C" {
@@ -36,7 +36,7 @@ enum {
 
 /* Answers. Held calls did nothing and may be made again later. */
 enum {
-    LESUNGKAP_DONE = 0,             /* a work request also has a status, and may have failed */
+    LESUNGKAP_DONE = 0,             /* a work request or a receive also has a status, and may have failed */
     LESUNGKAP_RECORD_LENGTH = 1,
     LESUNGKAP_NOT_LIVE = 2,         /* no object of this number */
     LESUNGKAP_WRONG_STATE = 3,      /* of the queue pair, or no such move */
@@ -54,12 +54,12 @@ enum {
     LESUNGKAP_BAD_STATE = 15
 };
 
-/* Statuses of work requests and completions. lesungkap_status_verbs has their names in libibverbs, whose numbers are others. */
+/* Statuses of work requests, receives and completions. lesungkap_status_verbs has their names in libibverbs, whose numbers are others. */
 enum {
     LESUNGKAP_SUCCESS = 0,
     LESUNGKAP_LOCAL_LENGTH = 1,     /* over LESUNGKAP_MOST_MESSAGE; of a receive: the message is longer than its entries */
     LESUNGKAP_LOCAL_PROTECTION = 3, /* a byte of its own entries is not permitted */
-    LESUNGKAP_FLUSHED = 4,
+    LESUNGKAP_FLUSHED = 4,          /* posted on a queue pair in error, or waiting when it failed */
     LESUNGKAP_REMOTE_INVALID = 7,   /* the peer's receive could not take it */
     LESUNGKAP_REMOTE_ACCESS = 8     /* a byte of the remote range is not permitted */
 };
@@ -85,7 +85,8 @@ enum { LESUNGKAP_LOCAL_WRITE = 1, LESUNGKAP_REMOTE_WRITE = 2, LESUNGKAP_REMOTE_R
 
 /* Queue pairs. A new one is in RESET. Modify QP moves it from RESET to INIT, from INIT to RTR (with the destination), from RTR to RTS, and
  * from any state to RESET or ERROR; a work request that fails moves it to ERROR. RESET drops waiting receives and the destination, ERROR
- * nothing. Receives may be posted in INIT, RTR and RTS, work requests in RTS, to a peer in RTR or RTS.
+ * nothing. Receives may be posted in INIT, RTR and RTS, work requests in RTS, to a peer in RTR or RTS. In ERROR both are taken and flushed: they
+ * complete with LESUNGKAP_FLUSHED, a receive behind those that wait.
  *
  * Type and states are as IBV_QPT_* and IBV_QPS_*. Signal and the mask's bits are the card's own: signal 0 completes everything, where
  * libibverbs has sq_sig_all 1 for that; the destination is bit 15, where IBV_QP_DEST_QPN is bit 20. */

@@ -1,5 +1,5 @@
-/* Each function of the header, called from C: receives wait, their queue pair fails, and they are flushed one by one. A call that gives
- * anything else than this file expects is a line; the exit status is then 1. */
+/* Each function of the header, called from C: receives wait, their queue pair fails, and they are flushed one by one; what is posted then
+ * is flushed at once. A call that gives anything else than this file expects is a line; the exit status is then 1. */
 #include "lesungkap.h"
 
 #include <stdio.h>
@@ -89,18 +89,18 @@ static void refused_flush(uint32_t qpn, uint32_t answer, const char *what)
     expect(memcmp(before, state, sizeof state) == 0, "a refused flush that changes the state");
 }
 
-/* The queue's oldest completion is that of a flushed receive; the buffer's later bytes stay. */
-static void polls_flushed(uint64_t request)
+/* The queue's oldest completion is that of a flushed request; the buffer's later bytes stay. */
+static void polls_flushed(uint64_t request, uint8_t opcode)
 {
     uint8_t buffer[LESUNGKAP_COMPLETION_BYTES + 1], wanted[LESUNGKAP_COMPLETION_BYTES + 1] = {0};
     memset(buffer, 0xa5, sizeof buffer);
     put(wanted, 8, request);
     wanted[8] = LESUNGKAP_FLUSHED;
-    wanted[9] = LESUNGKAP_COMPLETED_RECEIVE;
+    wanted[9] = opcode;
     put(wanted + 20, 4, PAIR);
     wanted[LESUNGKAP_COMPLETION_BYTES] = 0xa5;
     expect(lesungkap_poll(state, LESUNGKAP_STATE_BYTES, QUEUE, buffer, sizeof buffer) == LESUNGKAP_DONE, "a poll");
-    expect(memcmp(buffer, wanted, sizeof wanted) == 0, "the completion of a flushed receive");
+    expect(memcmp(buffer, wanted, sizeof wanted) == 0, "the completion of a flushed request");
 }
 
 static void resets(void)
@@ -151,14 +151,26 @@ static void flushes(void)
     expect(post_receive(11) == LESUNGKAP_DONE && post_receive(22) == LESUNGKAP_DONE, "two receives");
     expect(move_to(LESUNGKAP_QP_ERROR) == LESUNGKAP_DONE, "a move to error");
     expect(post_send(MEMORY_BYTES + 1) == LESUNGKAP_MEMORY_LENGTH, "a send with more memory than at reset");
-    expect(post_send(MEMORY_BYTES) == LESUNGKAP_WRONG_STATE, "a send on a failed queue pair");
     expect(flush(PAIR) == LESUNGKAP_DONE, "a flush");
     refused_flush(PAIR, LESUNGKAP_HELD_PLACE, "a flush without a place");
-    polls_flushed(11);
+    polls_flushed(11, LESUNGKAP_COMPLETED_RECEIVE);
     expect(flush(PAIR) == LESUNGKAP_DONE, "a second flush");
-    polls_flushed(22);
+    polls_flushed(22, LESUNGKAP_COMPLETED_RECEIVE);
     refused_flush(PAIR, LESUNGKAP_NOTHING, "a flush with nothing waiting");
     refused_flush(LESUNGKAP_QP_COUNT, LESUNGKAP_NOT_LIVE, "a flush of a number past the table");
+}
+
+/* Work posted on the failed queue pair; its queue has one place. */
+static void posted_in_error(void)
+{
+    const uint32_t flushed = LESUNGKAP_DONE | LESUNGKAP_FLUSHED << 8;
+    expect(post_send(MEMORY_BYTES) == flushed, "a send on a failed queue pair");
+    expect(post_send(MEMORY_BYTES) == LESUNGKAP_HELD_PLACE, "a send on a failed queue pair without a place");
+    expect(post_receive(33) == LESUNGKAP_HELD_PLACE, "a receive on a failed queue pair without a place");
+    polls_flushed(0, LESUNGKAP_COMPLETED_WRITE);
+    expect(post_receive(33) == flushed, "a receive on a failed queue pair");
+    polls_flushed(33, LESUNGKAP_COMPLETED_RECEIVE);
+    refused_flush(PAIR, LESUNGKAP_NOTHING, "a flush of a receive that was flushed at once");
 }
 
 int main(void)
@@ -166,5 +178,6 @@ int main(void)
     resets();
     queries();
     flushes();
+    posted_in_error();
     return faults != 0;
 }

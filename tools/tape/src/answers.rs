@@ -1,6 +1,6 @@
 //! Answers as text.
 
-use crate::calls::{ack_bytes, CONTROL, POLL, SEND};
+use crate::calls::{ack_bytes, CONTROL, POLL, RECEIVE, SEND};
 use crate::tape::{hex, number, Header, Record};
 
 pub const HEADER: Header =
@@ -34,15 +34,21 @@ pub fn fits(call: &Record, answer: &Record) -> bool {
         POLL if done => 24,
         _ => 0,
     };
-    answer.body.len() == written && (answer.second == 0 || done && call.first == SEND)
+    let status = match call.first {
+        SEND if done => true,
+        // 4: posted in error, it was flushed at once
+        RECEIVE if done => matches!(answer.second, 0 | 4),
+        _ => answer.second == 0,
+    };
+    answer.body.len() == written && status
 }
 
 pub fn describe(call: &Record, answer: &Record) -> String {
     let name = ANSWERS[usize::from(answer.first)];
-    let status = match (call.first, answer.first) {
-        (SEND, 0) => format!(", status {} {}", answer.second, status(answer.second)),
-        _ if answer.second != 0 => format!(", status {}", answer.second),
-        _ => String::new(),
+    let status = match (call.first, answer.first, answer.second) {
+        (SEND, 0, number) | (RECEIVE, 0, number @ 1..) => format!(", status {number} {}", status(number)),
+        (_, _, 0) => String::new(),
+        (_, _, number) => format!(", status {number}"),
     };
     format!("{} {name}{status}{}", answer.first, written(call, answer))
 }

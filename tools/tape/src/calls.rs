@@ -4,6 +4,7 @@ use crate::tape::{bits, hex, number, Header, Record};
 
 pub const CONTROL: u8 = 1;
 pub const SEND: u8 = 2;
+pub const RECEIVE: u8 = 3;
 pub const POLL: u8 = 4;
 
 pub const HEADER: Header = Header { mark: [0x52, 0x4b], fault };
@@ -21,7 +22,7 @@ pub fn describe(call: &Record) -> String {
     match call.first {
         CONTROL => format!("control  {}", command(&call.body)),
         SEND => format!("send     QP {}: {}", call.second, send(&call.body)),
-        3 => format!("receive  QP {}: {}", call.second, receive(&call.body)),
+        RECEIVE => format!("receive  QP {}: {}", call.second, receive(&call.body)),
         POLL => format!("poll     CQ {}", call.second),
         _ => format!("flush    QP {}", call.second),
     }
