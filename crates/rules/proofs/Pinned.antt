@@ -19,7 +19,7 @@ use Rattle.rules.specs.Call.{Call}
 use Rattle.rules.specs.Calls.{bufferAfter, controlChecks}
 use Rattle.rules.specs.Control.{commandChecks, commandEffect, commandAck, deviceOf, portOf}
 use Rattle.rules.specs.Marks.{platform, after, uses}
-use Rattle.rules.specs.Send.{deliveryChecks, sendStatus, sendPuts}
+use Rattle.rules.specs.Send.{deliveryChecks, sendStatus, sendPuts, pairChecks, readyChecks, placeChecks, holdChecks, runStatus}
 use Rattle.rules.specs.Queues.{joined, flushPut}
 use Rattle.wire.specs.Scan.{lowest, lowestFrom, anyBelow, all}
 use Rattle.tables.specs.Commands.{Command, commandOf, dataSize, ackNeed}
@@ -90,7 +90,7 @@ pub posted :
     refusal (deliveryChecks pair 0 (request 0 4096 [])) ∷ refusal (deliveryChecks pair 0 (fourfold 25 1)) ∷
     refusal (deliveryChecks (waits 257) 0 (fourfold 25 1)) ∷ []
     ≡ none ∷ some 5 ∷ some 6 ∷ []
-unfolding after platform commandChecks commandEffect lowest lowestFrom anyBelow joined deliveryChecks
+unfolding after platform commandChecks commandEffect lowest lowestFrom anyBelow joined deliveryChecks pairChecks holdChecks readyChecks placeChecks
 posted = refl
 
 -- 100 bytes into the peer's region; into a region of the sender's domain; out of one of the peer's; a total over 4096, though no piece is
@@ -98,7 +98,7 @@ pub statuses :
     sendStatus (waits 257) 0 (fourfold 25 1) ∷ sendStatus (waits 1) 0 (fourfold 25 1) ∷
     sendStatus (waits 257) 0 (fourfold 25 257) ∷ sendStatus (waits 257) 0 (fourfold 1025 1) ∷ []
     ≡ 0 ∷ 7 ∷ 3 ∷ 1 ∷ []
-unfolding all after platform range sgeBytes sgeTotal total ownBytes farBytes permitsAll permits lookup covers commandChecks commandEffect lowest lowestFrom anyBelow joined sendStatus
+unfolding all after platform range sgeBytes sgeTotal total ownBytes farBytes permitsAll permits lookup covers commandChecks commandEffect lowest lowestFrom anyBelow joined sendStatus runStatus
 statuses = refl
 
 -- status and length of the completions that a send of 100 bytes puts, by its status: the sender's, the receiver's
