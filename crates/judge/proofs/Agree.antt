@@ -238,7 +238,8 @@ posted-agrees : (c : Card) (q : ℕ) (w : Receive) (l : Log) → Agree c l →
 unfolding received joined standing dropped handed Distinct told toldOfBoth domain peer accepted taken errored
 posted-agrees c q w l a = record { keys = go (flushesAtOnce c q); pairs = posted-pairs c q w l a }
   where
-    go : (b : Bool) → let c′ = cond {A = Card} b (withCq c (putAll (joinPuts c q w) (c .cq))) (joined c q w) in Keys (c′ .memory) (c′ .mr) (standing l) (dropped l) (handed l) (Distinct l)
+    go : (b : Bool) → let c′ = cond {A = Card} b (withCq c (putAll (joinPuts c q w) (c .cq))) (joined c q w) in
+        Keys (c′ .memory) (c′ .mr) (standing l) (dropped l) (handed l) (Distinct l)
     go true = a .keys
     go false = a .keys
 

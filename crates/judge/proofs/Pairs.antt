@@ -109,7 +109,8 @@ said-sent r s e false named v = refl
 -- a request that is flushed tells nothing new
 pub said-flushed : (r : Request) (own named : Bool) (v : Said) → (own ≡ true → v .errored ≡ true) → v ≡ saidBy (PairNote.sent r 4) own named v
 said-flushed r true named v h =
-    rw (and-false (takes (r .opcode)), and-false named) (ap (λ (b : Bool). record { domain = v .domain; peer = v .peer; accepted = v .accepted; taken = v .taken; errored = b }) (h refl))
+    rw (and-false (takes (r .opcode)), and-false named)
+    (ap (λ (b : Bool). record { domain = v .domain; peer = v .peer; accepted = v .accepted; taken = v .taken; errored = b }) (h refl))
 said-flushed r false named v h = rw (and-false (takes (r .opcode)), and-false named)
 
 -- the oldest receive leaves

@@ -77,19 +77,20 @@ fine k = within (k .no)
 command-fine : (c : Card) (o : Option Command) → all fine (maybe [] (commandChecks c) o) ≡ true
 command-fine = command-tests within refl refl refl refl refl refl
 
-hold-fine : (c : Card) (q : ℕ) (r : Request) → all fine (holdChecks c q r) ≡ true
+-- a fact of 5 and 6 is one of each test that holds a request
+pub hold-tests : (f : ℕ → Bool) → f 5 ≡ true → f 6 ≡ true → (c : Card) (q : ℕ) (r : Request) → all (λ t. f (t .no)) (holdChecks c q r) ≡ true
 unfolding all holdChecks placeChecks readyChecks
-hold-fine c q r = go (isInError (c .qp q))
+hold-tests f five six c q r = go (isInError (c .qp q))
   where
-    go : (b : Bool) → all fine (cond b (placeChecks c q) (readyChecks c q r)) ≡ true
-    go true = refl
-    go false = refl
+    go : (b : Bool) → all (λ t. f (t .no)) (cond b (placeChecks c q) (readyChecks c q r)) ≡ true
+    go true = rw six
+    go false = rw (five, six)
 
 checks-fine : (c : Card) (k : Call) → all fine (checks c k) ≡ true
 unfolding all checks resetChecks controlChecks bufferChecks sendChecks receiveChecks pairChecks deliveryChecks joinChecks flushChecks pollChecks
 checks-fine c (Call.reset n) = refl
 checks-fine c (Call.control k a) = rw (all-split fine (controlChecks k a) (maybe [] (commandChecks c) (commandOf k)), command-fine c (commandOf k))
-checks-fine c (Call.send q x m) = hold-fine c q (requestOf x)
+checks-fine c (Call.send q x m) = hold-tests within refl refl c q (requestOf x)
 checks-fine c (Call.receive q x) = refl
 checks-fine c (Call.flush q) = refl
 checks-fine c (Call.poll n b) = refl
@@ -205,7 +206,8 @@ unfolding all
 without [] n b ys e h i = rw e (first-with plain ys i h)
 without (x ∷ xs) n b ys e h i = go (x .bad) (without xs n b ys e (and-right (plain (x .no)) (all (λ t. plain (t .no)) (xs ++ ys)) h) i)
   where
-    go : (f : Bool) → (refusal (xs ++ (n if b ∷ ys)) ≡ some i → plain i ≡ true) → cond f (some (x .no)) (refusal (xs ++ (n if b ∷ ys))) ≡ some i → plain i ≡ true
+    go : (f : Bool) → (refusal (xs ++ (n if b ∷ ys)) ≡ some i → plain i ≡ true) → cond f (some (x .no)) (refusal (xs ++ (n if b ∷ ys))) ≡ some i →
+        plain i ≡ true
     go true ih p = let z : x .no ≡ i = cc in subst (λ j. plain j ≡ true) z (and-left (plain (x .no)) (all (λ t. plain (t .no)) (xs ++ ys)) h)
     go false ih p = ih p
 

@@ -22,8 +22,9 @@ use Rattle.rules.specs.Calls.{checks, controlChecks, bufferChecks, owedChecks}
 use Rattle.rules.specs.Control.{commandChecks}
 use Rattle.rules.specs.Lists.{maybe}
 use Rattle.rules.specs.Queues.{joinChecks, flushChecks, pollChecks}
-use Rattle.rules.specs.Send.{deliveryChecks}
-use Rattle.rules.proofs.Answers.{first-with, command-tests}
+use Rattle.rules.specs.Send.{pairChecks, deliveryChecks}
+use Rattle.rules.specs.Touch.{requestOf}
+use Rattle.rules.proofs.Answers.{first-with, command-tests, hold-tests}
 use Rattle.rules.proofs.Ranges.{all-split}
 use Rattle.tape.specs.Tape.{completionSize, tapeAck, callOf}
 
@@ -55,8 +56,8 @@ module _ (l : List ℕ) where
       (rw (le-ltb tapeAck (ackNeed b) (need-most b)) at e)
 
   send-never : (q : ℕ) (x m : List ℕ) → Never l (Call.send q x m)
-  unfolding all checks sendChecks deliveryChecks
-  send-never q x m e = without (owedChecks card accepts l (Call.send q x m)) refl e
+  unfolding all checks sendChecks pairChecks deliveryChecks
+  send-never q x m e = without (owedChecks card accepts l (Call.send q x m)) (hold-tests other refl refl (card l) q (requestOf x)) e
 
   receive-never : (q : ℕ) (x : List ℕ) → Never l (Call.receive q x)
   unfolding all checks receiveChecks joinChecks
