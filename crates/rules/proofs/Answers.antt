@@ -83,8 +83,8 @@ unfolding all holdChecks placeChecks readyChecks
 hold-tests f five six c q r = go (isInError (c .qp q))
   where
     go : (b : Bool) → all (λ t. f (t .no)) (cond b (placeChecks c q) (readyChecks c q r)) ≡ true
-    go true = rw six
-    go false = rw (five, six)
+    go true = cc
+    go false = cc
 
 checks-fine : (c : Card) (k : Call) → all fine (checks c k) ≡ true
 unfolding all checks resetChecks controlChecks bufferChecks sendChecks receiveChecks pairChecks deliveryChecks joinChecks flushChecks pollChecks
