@@ -39,9 +39,9 @@ pub create-read : commandOf (6 ∷ 9 ∷ 1 ∷ 0 ∷ 0 ∷ 0 ∷ 2 ∷ 3 ∷ 99 
 unfolding fieldsAt leAt commandOf numberCodec registerCodec createQpCodec modifyQpCodec
 create-read = refl
 
--- qpn, mask, state, 3 padding bytes, destination
-pub modify-read : commandOf (6 ∷ 10 ∷ 1 ∷ 0 ∷ 0 ∷ 0 ∷ 1 ∷ 128 ∷ 0 ∷ 0 ∷ 2 ∷ 3 ∷ 4 ∷ 5 ∷ 6 ∷ 0 ∷ 0 ∷ 0 ∷ [])
-    ≡ some (Command.modifyQp (record { qpn = 1; mask = 32769; state = 2; pad0 = 3; pad1 = 4; pad2 = 5; dest = 6 }))
+-- qpn, mask, state, 3 padding bytes, destination, access flags
+pub modify-read : commandOf (6 ∷ 10 ∷ 1 ∷ 0 ∷ 0 ∷ 0 ∷ 5 ∷ 128 ∷ 0 ∷ 0 ∷ 2 ∷ 3 ∷ 4 ∷ 5 ∷ 6 ∷ 0 ∷ 0 ∷ 0 ∷ 7 ∷ 0 ∷ 0 ∷ 8 ∷ [])
+    ≡ some (Command.modifyQp (record { qpn = 1; mask = 32773; state = 2; pad0 = 3; pad1 = 4; pad2 = 5; dest = 6; flags = 7 + 8 * 2 ^ 24 }))
 unfolding fieldsAt leAt commandOf numberCodec registerCodec createQpCodec modifyQpCodec
 modify-read = refl
 
@@ -138,9 +138,9 @@ pub region-row : Pinned regionCodec
 unfolding fieldsAt putFields leAt putLe regionCodec
 region-row = record { read = refl; wrote = refl }
 
--- pd, signal, send cqn, receive cqn, state, destination
-pub pair-row : Pinned pairCodec (1 ∷ 2 ∷ 3 ∷ 4 ∷ 5 ∷ 6 ∷ 99 ∷ 99 ∷ []) (replicate 9 99) (1 ∷ 2 ∷ 3 ∷ 4 ∷ 5 ∷ 6 ∷ 0 ∷ 0 ∷ 99 ∷ [])
-    (record { pd = 1; signal = 2; scq = 3; rcq = 4; state = 5; dest = 6 })
+-- pd, signal, send cqn, receive cqn, state, destination, rights
+pub pair-row : Pinned pairCodec (1 ∷ 2 ∷ 3 ∷ 4 ∷ 5 ∷ 6 ∷ 7 ∷ 99 ∷ []) (replicate 9 99) (1 ∷ 2 ∷ 3 ∷ 4 ∷ 5 ∷ 6 ∷ 7 ∷ 0 ∷ 99 ∷ [])
+    (record { pd = 1; signal = 2; scq = 3; rcq = 4; state = 5; dest = 6; rights = 7 })
 unfolding fieldsAt putFields leAt putLe pairCodec
 pair-row = record { read = refl; wrote = refl }
 

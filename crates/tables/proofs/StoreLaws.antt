@@ -31,7 +31,7 @@ queue-fits l n = (leAt-below 1 l _, (leAt-below 1 l _, (leAt-below 1 l _, (omega
 pub pair-fits : (l : List ℕ) (n : ℕ) → Fits pairCodec (rowAt qpT l n)
 unfolding rowAt qpT pairCodec fieldsAt Fit
 pair-fits l n =
-    (leAt-below 1 l _, (leAt-below 1 l _, (leAt-below 1 l _, (leAt-below 1 l _, (leAt-below 1 l _, (leAt-below 1 l _, (omega arith, (omega arith, tt))))))))
+    (leAt-below 1 l _, (leAt-below 1 l _, (leAt-below 1 l _, (leAt-below 1 l _, (leAt-below 1 l _, (leAt-below 1 l _, (leAt-below 1 l _, (omega arith, tt))))))))
 
 pub waiting-fits : (l : List ℕ) (n : ℕ) → Fits waitingCodec (rowAt waitingT l n)
 unfolding rowAt waitingT waitingCodec fieldsAt

@@ -25,7 +25,8 @@ pub record Receive : Type 0 where
 unfoldable pub receiveOf : ReceiveRecord → Receive
 receiveOf r = record { wr = r .wr; sges = receiveSges r }
 
--- a queue pair, with its send and receive completion queues, its destination and its waiting receives, the oldest first
+-- a queue pair, with its send and receive completion queues, its destination, its access flags (02, M-104) and its waiting receives, the
+-- oldest first
 pub record Qp : Type 0 where
   pub live : Bool
   pub pd : ℕ
@@ -34,6 +35,7 @@ pub record Qp : Type 0 where
   pub rcq : ℕ
   pub state : ℕ
   pub dest : Option ℕ
+  pub rights : ℕ
   pub waiting : List Receive
 
 -- a completion queue and its unread completions, the oldest first
@@ -69,7 +71,17 @@ withQp c f = record { memory = c .memory; pd = c .pd; cq = c .cq; mr = c .mr; qp
 -- a queue pair with other waiting receives
 abbrev pub withWaiting : Qp → List Receive → Qp
 withWaiting q ws =
-    record { live = q .live; pd = q .pd; signal = q .signal; scq = q .scq; rcq = q .rcq; state = q .state; dest = q .dest; waiting = ws }
+    record {
+      live = q .live;
+      pd = q .pd;
+      signal = q .signal;
+      scq = q .scq;
+      rcq = q .rcq;
+      state = q .state;
+      dest = q .dest;
+      rights = q .rights;
+      waiting = ws;
+    }
 
 -- a completion queue with other unread completions
 abbrev pub withEntries : Cq → List Completion → Cq
@@ -87,7 +99,7 @@ abbrev pub freeMr : ℕ → Mr
 freeMr v = record { live = false; variant = v; reg = noRegistration }
 
 abbrev pub freeQp : Qp
-freeQp = record { live = false; pd = 0; signal = 0; scq = 0; rcq = 0; state = 0; dest = none; waiting = [] }
+freeQp = record { live = false; pd = 0; signal = 0; scq = 0; rcq = 0; state = 0; dest = none; rights = 0; waiting = [] }
 
 abbrev pub freeCq : Cq
 freeCq = record { live = false; places = 0; entries = [] }

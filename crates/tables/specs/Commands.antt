@@ -74,11 +74,12 @@ createQpCodec = record {
   back = λ r. refl;
 }
 
--- "10 modify QP (house, 16 bytes): qpn, mask, state u8, 3 zero bytes, destination qpn"
+-- "10 modify QP (house, 16 bytes): qpn, mask, state u8, 3 zero bytes, destination qpn"; 02, M-104: "access flags as a last 32-bit number,
+-- so the modify record becomes 20 bytes for all masks"
 unfoldable pub modifyQpCodec : Codec ModifyQp
 unfolding within clear apart
 modifyQpCodec = record {
-  size = 16;
+  size = 20;
   lines =
       line 0 4 (λ r. r .qpn) ∷
       line 4 4 (λ r. r .mask) ∷
@@ -87,6 +88,7 @@ modifyQpCodec = record {
       line 10 1 (λ r. r .pad1) ∷
       line 11 1 (λ r. r .pad2) ∷
       line 12 4 (λ r. r .dest) ∷
+      line 16 4 (λ r. r .flags) ∷
       [];
   make = λ vs. record {
     qpn = getD vs 0 0;
@@ -96,6 +98,7 @@ modifyQpCodec = record {
     pad1 = getD vs 4 0;
     pad2 = getD vs 5 0;
     dest = getD vs 6 0;
+    flags = getD vs 7 0;
   };
   ends = tt;
   clears = tt;

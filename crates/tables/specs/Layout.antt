@@ -78,7 +78,7 @@ pairCodec = record {
       line 3 1 (λ r. r .rcq) ∷
       line 4 1 (λ r. r .state) ∷
       line 5 1 (λ r. r .dest) ∷
-      line 6 1 (λ r. 0) ∷
+      line 6 1 (λ r. r .rights) ∷
       line 7 1 (λ r. 0) ∷
       [];
   make = λ vs. record {
@@ -88,6 +88,7 @@ pairCodec = record {
     rcq = getD vs 3 0;
     state = getD vs 4 0;
     dest = getD vs 5 0;
+    rights = getD vs 6 0;
   };
   ends = tt;
   clears = tt;

@@ -97,6 +97,7 @@ liveQp r =
       rcq = r .row .rcq;
       state = r .row .state;
       dest = destOf (r .row .dest);
+      rights = r .row .rights;
       waiting = map receiveOf (posted r);
     }
 

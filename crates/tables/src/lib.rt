@@ -38,7 +38,8 @@ pub struct CompletionQueue {
     pub places: usize,
 }
 
-// A queue pair: scq and rcq are its send and its receive completion queue; dest 8 is no destination.
+// A queue pair: scq and rcq are its send and its receive completion queue; dest 8 is no destination; rights are the access flags that
+// remote uses of its memory need.
 pub struct QueuePair {
     pub pd: u8,
     pub signal: u8,
@@ -46,6 +47,7 @@ pub struct QueuePair {
     pub rcq: u8,
     pub state: u8,
     pub dest: u8,
+    pub rights: u8,
 }
 
 // Where a queue pair's waiting receives stand among its 4 places: the oldest, and how many.
@@ -113,7 +115,7 @@ pub struct CreateQp {
     pub rcq: u32,
 }
 
-// The data of command 10, modify QP; the paddings must be zero.
+// The data of command 10, modify QP; the paddings must be zero; flags are access flags.
 pub struct ModifyQp {
     pub qpn: u32,
     pub mask: u32,
@@ -122,6 +124,7 @@ pub struct ModifyQp {
     pub pad1: u8,
     pub pad2: u8,
     pub dest: u32,
+    pub flags: u32,
 }
 
 // What a command's class and command byte read as: its number, or the answer that refuses it.

@@ -285,7 +285,7 @@ pub fn read_create_qp(command: &[u8]) -> CreateQpRead
 pub fn read_modify_qp(command: &[u8]) -> ModifyQpRead
     ensures { λ r. ⌜ r ≡ modifyQpRead (now (command .entry)) ⌝ }
 {
-    if command.len() != 18 {
+    if command.len() != 22 {
         return ModifyQpRead::Wrong;
     }
     ModifyQpRead::Value(ModifyQp {
@@ -296,5 +296,6 @@ pub fn read_modify_qp(command: &[u8]) -> ModifyQpRead
         pad1: wire::get8(command, 12),
         pad2: wire::get8(command, 13),
         dest: wire::get32(command, 14),
+        flags: wire::get32(command, 18),
     })
 }

@@ -210,6 +210,7 @@ pub fn load_qp(state: &[u8], n: usize) -> QueuePair
         rcq: b[3],
         state: b[4],
         dest: b[5],
+        rights: b[6],
     }
 }
 
@@ -227,7 +228,7 @@ pub fn store_qp(state: &mut [u8], n: usize, r: QueuePair)
         r.rcq,
         r.state,
         r.dest,
-        0,
+        r.rights,
         0,
     );
 }

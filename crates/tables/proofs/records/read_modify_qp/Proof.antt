@@ -9,7 +9,7 @@ use Rattle.tables.proofs.records.read_modify_qp.Tie as tie
 
 returns : tie.Need-returns
 unfolding modifyQpCodec
-returns c = rw (ne-eqb (length (now (c .before .before .args .command))) 18 (c .if1 .taken))
+returns c = rw (ne-eqb (length (now (c .before .before .args .command))) 22 (c .if1 .taken))
 
 get32-requires : tie.Need-get32-requires
 get32-requires c κs = search needs
@@ -32,9 +32,12 @@ get8-requires-4 c κs = search needs
 get32-requires-3 : tie.Need-get32-requires-3
 get32-requires-3 c κs = search needs
 
+get32-requires-4 : tie.Need-get32-requires-4
+get32-requires-4 c κs = search needs
+
 returns-2 : tie.Need-returns-2
 unfolding modifyQpCodec fieldsAt
-returns-2 c = let e = eq-eqb (length (now (c .before .before .before .before .before .before .before .before .before .args .command))) 18 (c .before .before .before .before .before .before .before .if1 .left) in rw e (cc)
+returns-2 c = let e = eq-eqb (length (now (c .before .before .before .before .before .before .before .before .before .before .args .command))) 22 (c .before .before .before .before .before .before .before .before .if1 .left) in rw e (cc)
 
 pub read-modify-qp-spec : {M : Type 1} → statement M
 read-modify-qp-spec =
@@ -48,4 +51,5 @@ read-modify-qp-spec =
     get8-requires-3
     get8-requires-4
     get32-requires-3
+    get32-requires-4
     returns-2)

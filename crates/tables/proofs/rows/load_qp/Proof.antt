@@ -35,6 +35,9 @@ array-read-t21 c = search needs
 array-read-t24 : tie.Need-array-read-t24
 array-read-t24 c = search needs
 
+array-read-t27 : tie.Need-array-read-t27
+array-read-t27 c = search needs
+
 returns : tie.Need-returns
 unfolding rowAt qpT pairCodec place bytesFrom
 returns c = rw (c .get-bytes8 .ensures)
@@ -52,4 +55,5 @@ load-qp-spec =
     array-read-t18
     array-read-t21
     array-read-t24
+    array-read-t27
     returns)
