@@ -53,9 +53,10 @@ abbrev pub regionOk : ℕ → Region → Bool
 regionOk memory r =
     accessOk (r .access) && leb 1 (r .variant) && leb 1 (r .length) && leb (r .start + r .length) memory && leb (r .virt + r .length) mostAddress
 
--- a live queue pair n: "QP state", and "(so is a QP that names itself as destination)"
+-- a live queue pair n: "QP state", its access flags (02, M-104: no bit above 2), and "(so is a QP that names itself as destination)"
 abbrev pub pairOk : ℕ → QueuePair → Bool
-pairOk n p = leb (p .signal) 1 && isState (p .state) && leb (p .dest) qpCount && not (eqb (p .dest) n)
+pairOk n p =
+    leb (p .signal) 1 && isState (p .state) && only mostAccess (p .rights) && leb (p .dest) qpCount && not (eqb (p .dest) n)
 
 -- "each with up to 4 waiting receives"
 abbrev pub waitingOk : WaitingHead → Bool

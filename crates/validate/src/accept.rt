@@ -143,6 +143,9 @@ fn pair_ok(n: usize, p: QueuePair) -> bool
     if !is_state(p.state) {
         return false;
     }
+    if p.rights & MOST_ACCESS != p.rights {
+        return false;
+    }
     let dest = p.dest as usize;
     if QP_COUNT < dest {
         return false;
