@@ -8,6 +8,7 @@ pub mod Marks
 pub mod Dropped
 pub mod Pinned
 pub mod InError
+pub mod Flags
 pub mod Runs
 pub mod Meeting
 pub mod Replay

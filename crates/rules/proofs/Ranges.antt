@@ -15,8 +15,9 @@ use Rattle.wire.specs.Scan.{all}
 use Rattle.tables.specs.Card.{Card}
 use Rattle.tables.specs.declared.Registration.{Registration}
 use Rattle.tables.specs.declared.Sge.{Sge}
+use Rattle.rules.specs.declared.Party.{Party}
 use Rattle.rules.specs.Touch.{Byte, range, sgeBytes}
-use Rattle.rules.specs.Permit.{Use, granted, lookup, covers, permits, permitsAll}
+use Rattle.rules.specs.Permit.{Use, granted, opens, partyOf, lookup, covers, permits, permitsAll}
 use Rattle.rules.proofs.Stored.{range-length}
 
 pub all-split : {A : Type 0} (p : A → Bool) (xs ys : List A) → all p (xs ++ ys) ≡ (all p xs && all p ys)
@@ -30,10 +31,14 @@ all-split p (x ∷ xs) ys = rw (all-split p xs ys) (and-assoc (p x) (all p xs) (
 
 -- ---- one range
 
--- the ends of n bytes from a on lie in the region, which has the domain and the right; the sums are whole numbers
-abbrev pub ends : Option Registration → (pd : ℕ) → Use → (a n : ℕ) → Bool
+-- the region has the party's domain, and both have the right
+abbrev pub admits : Registration → Party → Use → Bool
+admits g p u = eqb (g .pd) (p .pd) && granted u (g .access) && opens u (p .rights)
+
+-- and the ends of n bytes from a on lie in it; the sums are whole numbers
+abbrev pub ends : Option Registration → Party → Use → (a n : ℕ) → Bool
 ends none p u a n = false
-ends (some g) p u a n = eqb (g .pd) p && granted u (g .access) && leb (g .virt) a && leb (a + n) (g .virt + g .length)
+ends (some g) p u a n = admits g p u && leb (g .virt) a && leb (a + n) (g .virt + g .length)
 
 bool-ext : (x y : Bool) → (x ≡ true → y ≡ true) → (y ≡ true → x ≡ true) → x ≡ y
 bool-ext true y f g = sym (f refl)
@@ -69,26 +74,26 @@ module _ (c : Card) (q : ℕ) (u : Use) (k : ℕ) where
   abbrev o : Option Registration
   o = lookup (c .mr) k
 
-  abbrev pd : ℕ
-  pd = c .qp q .pd
+  abbrev p : Party
+  p = partyOf c q
 
-  one-more : (r : Option Registration) (a n : ℕ) → (covers r pd u a && cond (eqb n 0) true (ends r pd u (suc a) n)) ≡ ends r pd u a (suc n)
+  one-more : (r : Option Registration) (a n : ℕ) → (covers r p u a && cond (eqb n 0) true (ends r p u (suc a) n)) ≡ ends r p u a (suc n)
   unfolding covers
   one-more none a n = refl
   one-more (some g) a zero =
-      and-true (eqb (g .pd) pd && granted u (g .access) && leb (g .virt) a && ltb a (g .virt + g .length)) ∙
+      and-true (admits g p u && leb (g .virt) a && ltb a (g .virt + g .length)) ∙
       (let e : suc a ≡ a + 1 = omega arith in rw (← e))
   one-more (some g) a (suc n) =
-      rw (ne-eqb (suc n) 0 (omega arith)) (more (eqb (g .pd) pd && granted u (g .access)) (g .virt) (g .virt + g .length) a n)
+      rw (ne-eqb (suc n) 0 (omega arith)) (more (admits g p u) (g .virt) (g .virt + g .length) a n)
 
-  range-some : (a n : ℕ) → permitsAll c q u (range a k (suc n)) ≡ ends o pd u a (suc n)
+  range-some : (a n : ℕ) → permitsAll c q u (range a k (suc n)) ≡ ends o p u a (suc n)
   unfolding permitsAll all permits range
-  range-some a zero = and-true (covers o pd u a) ∙ sym (and-true (covers o pd u a)) ∙ one-more o a 0
+  range-some a zero = and-true (covers o p u a) ∙ sym (and-true (covers o p u a)) ∙ one-more o a 0
   range-some a (suc n) =
       rw (range-some (suc a) n)
-      (ap (λ (b : Bool). covers o pd u a && b) (sym (rw (ne-eqb (suc n) 0 (omega arith)))) ∙ one-more o a (suc n))
+      (ap (λ (b : Bool). covers o p u a && b) (sym (rw (ne-eqb (suc n) 0 (omega arith)))) ∙ one-more o a (suc n))
 
-  pub range-permitted : (a n : ℕ) → permitsAll c q u (range a k n) ≡ cond (eqb n 0) true (ends o pd u a n)
+  pub range-permitted : (a n : ℕ) → permitsAll c q u (range a k n) ≡ cond (eqb n 0) true (ends o p u a n)
   unfolding permitsAll all range
   range-permitted a zero = refl
   range-permitted a (suc n) = rw (ne-eqb (suc n) 0 (omega arith)) (range-some a n)

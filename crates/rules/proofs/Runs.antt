@@ -16,9 +16,10 @@ use Rattle.tables.specs.declared.Registration.{Registration}
 use Rattle.tables.specs.declared.Sge.{Sge}
 use Rattle.rules.specs.Lists.{stored}
 use Rattle.rules.specs.Touch.{Byte, range, sgeBytes, sgeTotal, cut, byteOf}
-use Rattle.rules.specs.Permit.{Use, granted, lookup, place, placeIn}
+use Rattle.rules.specs.declared.Party.{Party}
+use Rattle.rules.specs.Permit.{Use, lookup, place, placeIn}
 use Rattle.rules.specs.Send.{Put, pushed, putAll}
-use Rattle.rules.proofs.Ranges.{ends, sges-take-short, sges-take-long}
+use Rattle.rules.proofs.Ranges.{admits, ends, sges-take-short, sges-take-long}
 
 -- ---- places
 
@@ -48,10 +49,10 @@ pub record Lies (g : Registration) (a n memory : ℕ) : Type 0 where
   pub high : a + n ≤ g .virt + g .length
   pub room : byteOf g a + n ≤ memory
 
-pub lies : (g : Registration) (p : ℕ) (u : Use) (a n memory : ℕ) → ends (some g) p u a n ≡ true → g .start + g .length ≤ memory → Lies g a n memory
+pub lies : (g : Registration) (p : Party) (u : Use) (a n memory : ℕ) → ends (some g) p u a n ≡ true → g .start + g .length ≤ memory → Lies g a n memory
 unfolding byteOf
 lies g p u a n memory e h =
-    let t : Bool = eqb (g .pd) p && granted u (g .access) in
+    let t : Bool = admits g p u in
     let x : Bool = leb (g .virt) a in
     let y : Bool = leb (a + n) (g .virt + g .length) in
     let l : g .virt ≤ a = leb-true (g .virt) a (and-right t x (and-left (t && x) y e)) in

@@ -13,6 +13,7 @@ use Rattle.tables.specs.Records.{receiveCodec}
 use Rattle.tables.specs.Reset.{resetBytes}
 use Rattle.validate.specs.Search.{freePdn, freeCqn, freeMrn, freeQpn}
 use Rattle.tables.specs.declared.CreateQp.{CreateQp}
+use Rattle.tables.specs.declared.ModifyQp.{ModifyQp}
 use Rattle.tables.specs.declared.QueueHead.{QueueHead}
 use Rattle.tables.specs.declared.QueuePair.{QueuePair}
 use Rattle.tables.specs.declared.ReceiveRecord.{ReceiveRecord}
@@ -20,7 +21,7 @@ use Rattle.tables.specs.declared.Region.{Region}
 use Rattle.tables.specs.declared.Registration.{Registration}
 use Rattle.tables.specs.declared.WaitingHead.{WaitingHead}
 use Rattle.rules.specs.Call.{Call}
-use Rattle.rules.specs.Control.{newVariant}
+use Rattle.rules.specs.Control.{newVariant, rightsAfter}
 use Rattle.rules.specs.Queues.{flushedPut, flushesAtOnce}
 use Rattle.rules.specs.Send.{Put, peerOf, oldest, sendStatus, sendPuts, consumes, fails}
 use Rattle.rules.specs.Touch.{Request, requestOf}
@@ -36,23 +37,25 @@ emptyQueue places = record { places = places; first = 0; count = 0 }
 abbrev pub regionRow : Registration → ℕ → Region
 regionRow g v = record { access = g .access; variant = v; pd = g .pd; start = g .start; length = g .length; virt = g .virt }
 
--- a new queue pair, in state 0 and with no destination
+-- a new queue pair, in state 0, with no destination and no right
 abbrev pub newPair : CreateQp → QueuePair
-newPair r = record { pd = r .pd; signal = r .signal; scq = r .scq; rcq = r .rcq; state = 0; dest = qpCount }
+newPair r = record { pd = r .pd; signal = r .signal; scq = r .scq; rcq = r .rcq; state = 0; dest = qpCount; rights = 0 }
 
 abbrev pub noneWait : WaitingHead
 noneWait = record { first = 0; count = 0 }
 
--- a queue pair after a move to the state t, which names the destination d where it is 2
-abbrev pub movedPair : QueuePair → (t d : ℕ) → QueuePair
-movedPair p t d =
+-- a queue pair after a move, which names the destination where it is one to 2
+abbrev pub movedPair : QueuePair → ModifyQp → QueuePair
+movedPair p r =
+    let t = r .state in
     record {
       pd = p .pd;
       signal = p .signal;
       scq = p .scq;
       rcq = p .rcq;
       state = t;
-      dest = cond (eqb t 0) qpCount (cond (eqb t 2) d (p .dest));
+      dest = cond (eqb t 0) qpCount (cond (eqb t 2) (r .dest) (p .dest));
+      rights = rightsAfter (p .rights) r;
     }
 
 -- its receives are dropped by a move to 0
@@ -75,7 +78,7 @@ commandBytes l (Command.createQp r) =
     let n = freeQpn (card l) in putRow qpFlagT (putRow qpT (putRow waitingT l n noneWait) n (newPair r)) n 1
 commandBytes l (Command.modifyQp r) =
     let q = r .qpn in
-    putRow waitingT (putRow qpT l q (movedPair (rowAt qpT l q) (r .state) (r .dest))) q (movedHead (rowAt waitingT l q) (r .state))
+    putRow waitingT (putRow qpT l q (movedPair (rowAt qpT l q) r)) q (movedHead (rowAt waitingT l q) (r .state))
 commandBytes l (Command.destroyQp q) = putRow qpFlagT l q 0
 
 -- ---- post send
@@ -86,7 +89,7 @@ pushAll l (p ∷ ps) = pushAll (pushBytes l (p .cqn) (p .entry)) ps
 
 -- a queue pair in error
 abbrev pub erring : QueuePair → QueuePair
-erring p = record { pd = p .pd; signal = p .signal; scq = p .scq; rcq = p .rcq; state = 6; dest = p .dest }
+erring p = record { pd = p .pd; signal = p .signal; scq = p .scq; rcq = p .rcq; state = 6; dest = p .dest; rights = p .rights }
 
 -- the queue pair q in error, where b holds
 abbrev pub errorBytes : Bool → List ℕ → (q : ℕ) → List ℕ

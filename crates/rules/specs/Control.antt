@@ -1,4 +1,5 @@
--- Document 01, "Control commands", and the queries of 02, M-100: for each command its tests in order, its ack, and the card after it.
+-- Document 01, "Control commands", with the queries of 02, M-100, and the access flags of M-104: for each command its tests in order, its
+-- ack, and the card after it.
 -- Assumes nothing.
 use mathlib.Core.Bool.{Bool, true, false, cond, not, _&&_, _||_}
 use mathlib.Core.List.{List, [], _∷_}
@@ -7,13 +8,14 @@ use Prim.Native.Nat.{ℕ, _+_}
 use lib.Dec.{eqb, ltb, leb}
 use Rattle.wire.specs.Checks.{Check, _if_, has, only}
 use Rattle.wire.specs.Slots.{upd}
-use Rattle.tables.specs.Limits.{pdCount, cqCount, mrCount, qpCount, mostPlaces, mostWaiting, mostAddress, mostMessage, mostSges, mostReceiveSges}
+use Rattle.tables.specs.Limits.{pdCount, cqCount, mrCount, qpCount, mostPlaces, mostWaiting, mostAddress, mostAccess, mostMessage, mostSges, mostReceiveSges}
 use Rattle.tables.specs.Card.{Card, Qp, withPd, withCq, withMr, withQp, freeCq, freeMr, freeQp, cqLive}
 use Rattle.validate.specs.Accept.{isState, accessOk}
 use Rattle.tables.specs.Commands.{Command}
 use Rattle.tables.specs.declared.Ack.{Ack}
 use Rattle.tables.specs.declared.Ack.the-variants as ack
 use Rattle.tables.specs.declared.Device.{Device}
+use Rattle.tables.specs.declared.ModifyQp.{ModifyQp}
 use Rattle.tables.specs.declared.Port.{Port}
 use Rattle.validate.specs.Search.{freePdn, freeCqn, freeMrn, freeQpn, pdInUse, cqInUse}
 use Rattle.rules.specs.Permit.{keyOf}
@@ -30,9 +32,12 @@ newVariant c = c .mr (freeMrn c) .variant + 1
 abbrev pub isMove : (from to : ℕ) → Bool
 isMove s t = eqb t 0 || eqb t 6 || (eqb t (s + 1) && leb t 3)
 
--- mask bits 0, the state, and 15, the destination
+-- mask bits 0, the state, 2, the access flags (02: "Add modify mask bit 2"), and 15, the destination
 abbrev pub stateBit : ℕ
 stateBit = 1
+
+abbrev pub rightsBit : ℕ
+rightsBit = 4
 
 abbrev pub destBit : ℕ
 destBit = 32768
@@ -64,13 +69,14 @@ commandChecks c (Command.createQp r) =
     8 if leb qpCount (freeQpn c) ∷
     []
 commandChecks c (Command.modifyQp r) =
-    4 if not (only (stateBit + destBit) (r .mask)) ∷
+    4 if not (only (stateBit + rightsBit + destBit) (r .mask)) ∷
     4 if not (has stateBit (r .mask)) ∷
     4 if not (isState (r .state)) ∷
     4 if not (eqb (r .pad0) 0 && eqb (r .pad1) 0 && eqb (r .pad2) 0) ∷
     4 if (has destBit (r .mask) && not (eqb (r .state) 2)) ∷
     4 if (not (has destBit (r .mask)) && eqb (r .state) 2) ∷
     4 if (has destBit (r .mask) && (leb qpCount (r .dest) || eqb (r .dest) (r .qpn))) ∷
+    4 if (has rightsBit (r .mask) && not (only mostAccess (r .flags))) ∷
     2 if not (c .qp (r .qpn) .live) ∷
     3 if not (isMove (c .qp (r .qpn) .state) (r .state)) ∷
     []
@@ -107,9 +113,15 @@ commandAck c (Command.destroyQp q) = ack.Done
 
 -- ---- the card after it
 
+-- 02, M-104: "The QP's flags are 0 .. after a move to reset, even one with bit 2"; another move with bit 2 sets them, and "without bit 2 the
+-- number is ignored"
+abbrev pub rightsAfter : (rights : ℕ) → ModifyQp → ℕ
+rightsAfter f r = cond (eqb (r .state) 0) 0 (cond (has rightsBit (r .mask)) (r .flags) f)
+
 -- "Move to 0 drops waiting receives and the destination"; a move to 2 takes the destination that bit 15 names
-abbrev pub moved : Qp → (state dest : ℕ) → Qp
-moved s t d =
+abbrev pub moved : Qp → ModifyQp → Qp
+moved s r =
+    let t = r .state in
     record {
       live = s .live;
       pd = s .pd;
@@ -117,7 +129,8 @@ moved s t d =
       scq = s .scq;
       rcq = s .rcq;
       state = t;
-      dest = cond (eqb t 0) none (cond (eqb t 2) (some d) (s .dest));
+      dest = cond (eqb t 0) none (cond (eqb t 2) (some (r .dest)) (s .dest));
+      rights = rightsAfter (s .rights) r;
       waiting = cond (eqb t 0) [] (s .waiting);
     }
 
@@ -134,6 +147,6 @@ commandEffect c (Command.deregister n) = withMr c (upd (c .mr) n (freeMr (c .mr 
 commandEffect c (Command.createQp r) =
     withQp c
     (upd (c .qp) (freeQpn c)
-    (record { live = true; pd = r .pd; signal = r .signal; scq = r .scq; rcq = r .rcq; state = 0; dest = none; waiting = [] }))
-commandEffect c (Command.modifyQp r) = withQp c (upd (c .qp) (r .qpn) (moved (c .qp (r .qpn)) (r .state) (r .dest)))
+    (record { live = true; pd = r .pd; signal = r .signal; scq = r .scq; rcq = r .rcq; state = 0; dest = none; rights = 0; waiting = [] }))
+commandEffect c (Command.modifyQp r) = withQp c (upd (c .qp) (r .qpn) (moved (c .qp (r .qpn)) r))
 commandEffect c (Command.destroyQp q) = withQp c (upd (c .qp) q freeQp)

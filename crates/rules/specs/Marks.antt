@@ -31,12 +31,16 @@ after c (k ∷ ks) = after (obeyed (refusal (commandChecks c k)) c k) ks
 abbrev pub region : (start virt : ℕ) → Registration
 region s v = record { pd = 0; access = 7; start = s; length = 100; virt = v }
 
--- "Memory 4,096", the domain, a queue pair in it, and the region
+-- a move of queue pair 0 to init, with access flags
+abbrev pub flagged : (flags : ℕ) → Command
+flagged f = Command.modifyQp (record { qpn = 0; mask = 5; state = 1; pad0 = 0; pad1 = 0; pad2 = 0; dest = 0; flags = f })
+
+-- "Memory 4,096", the domain, a queue pair in it with the access flags 7, and the region
 unfoldable pub platform : Card
 platform =
     after (fresh 4096)
     (Command.createPd ∷ Command.createCq 1 ∷ Command.createQp (record { pd = 0; kind = 2; signal = 0; scq = 0; rcq = 0 }) ∷
-    Command.register (region 256 4096) ∷ [])
+    flagged 7 ∷ Command.register (region 256 4096) ∷ [])
 
 -- it, dropped and registered again
 unfoldable pub renewed : Card
@@ -86,7 +90,7 @@ pub data Verdict : Type 0 where
   keys : (first next : Option (List ℕ)) → Verdict
   done : Verdict
   refused : (number : ℕ) → Verdict
-  -- permitted for one use and not for another: the region has every right, so that this never happens
+  -- permitted for one use and not for another: the region and the queue pair have every right, so that this never happens
   mixed : Verdict
 
 abbrev pub uses : List Use

@@ -181,8 +181,17 @@ sendPuts c q r s =
 
 abbrev pub inError : Qp → Qp
 inError s =
-    record
-    { live = s .live; pd = s .pd; signal = s .signal; scq = s .scq; rcq = s .rcq; state = 6; dest = s .dest; waiting = s .waiting }
+    record {
+      live = s .live;
+      pd = s .pd;
+      signal = s .signal;
+      scq = s .scq;
+      rcq = s .rcq;
+      state = 6;
+      dest = s .dest;
+      rights = s .rights;
+      waiting = s .waiting;
+    }
 
 abbrev pub errorIf : Bool → (q : ℕ) → (ℕ → Qp) → ℕ → Qp
 errorIf b q f = cond b (upd f q (inError (f q))) f

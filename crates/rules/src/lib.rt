@@ -17,6 +17,12 @@ pub enum Answer {
     Refused(u8),
 }
 
+// Whose use of a byte is asked: a queue pair's, by its domain and its access flags.
+pub struct Party {
+    pub pd: u8,
+    pub rights: u8,
+}
+
 fn cause_number(c: Cause) -> u8
     ensures { λ r. ⌜ r ≡ causeNumber c ⌝ }
 {
