@@ -3,30 +3,66 @@ use mathlib.Core.Path.{_≡_, refl, sym, ap, _∙_}
 use mathlib.Core.Bool.{Bool, true, false, cond, not, _&&_, _||_, false≢true}
 use mathlib.Core.List.{List, [], _∷_}
 use mathlib.Core.Option.{some}
-use Prim.Native.Nat.{ℕ, _+_, _%_, _≤_, _<_}
-use native.Mathlib.Nat.{mod-eq-of-lt}
+use Prim.Native.Nat.{ℕ, _+_, _≤_, _<_}
 use native.Mathlib.Omega.{arith}
+use lib.Bits.{bitAnd}
 use lib.Dec.{eqb, leb}
-use borrow.Author.Tests.{le-leb, lt-leb, leb-false}
+use borrow.Author.Tests.{eq-eqb, ne-eqb, le-leb, lt-leb, leb-false, not-false}
 use Rattle.wire.specs.Checks.{Check, _if_, refusal, has, only}
 use Rattle.wire.proofs.ScanLaws.{and-left, and-right, or-left, or-right}
-use Rattle.wire.specs.Table.{rowAt, putRow}
+use Rattle.wire.specs.Table.{rowAt}
 use Rattle.tables.specs.Card.{cqLive, Qp}
 use Rattle.validate.specs.Accept.{isState}
 use Rattle.tables.specs.State.{card, pairAt}
-use Rattle.tables.specs.Layout.{qpT, waitingT}
-use Rattle.tables.specs.Limits.{pdCount, cqCount, qpCount}
+use Rattle.tables.specs.Layout.{qpT}
+use Rattle.tables.specs.Limits.{pdCount, cqCount, qpCount, mostAccess}
 use Rattle.tables.proofs.ObjectLaws.{pd-below, cq-below, qp-below, qp-flag, qp-row}
 use Rattle.tables.specs.Commands.{Command}
 use Rattle.validate.specs.Search.{freeQpn}
 use Rattle.tables.specs.declared.Ack.the-variants as ack
 use Rattle.tables.specs.declared.CreateQp.{CreateQp}
 use Rattle.tables.specs.declared.ModifyQp.{ModifyQp}
-use Rattle.rules.specs.Control.{commandChecks, commandAck, isMove, stateBit, destBit}
-use Rattle.rules.specs.Bytes.{commandBytes, movedPair, movedHead}
+use Rattle.validate.proofs.AcceptedLaws.{only-most}
+use Rattle.rules.specs.Control.{commandChecks, commandAck, isMove, stateBit, rightsBit, destBit}
+use Rattle.rules.specs.Bytes.{commandBytes}
 use Rattle.commands.specs.Control.{Ran, createFine, createLive, modifyBad}
 use Rattle.commands.specs.declared.Outcome.the-variants.{Refused, Done}
 use Rattle.commands.proofs.CaseLaws.{ran-refused, ran-done, over}
+
+-- ---- the fields of modify QP that pass their tests
+module _ (r : ModifyQp) where
+  -- the tests of answer 4 in four parts
+  abbrev early : Bool
+  early =
+      not (only (stateBit + rightsBit + destBit) (r .mask)) || not (has stateBit (r .mask)) || not (isState (r .state))
+      || not (eqb (r .pad0) 0 && eqb (r .pad1) 0 && eqb (r .pad2) 0) || (has destBit (r .mask) && not (eqb (r .state) 2))
+
+  abbrev unnamed : Bool
+  unnamed = not (has destBit (r .mask)) && eqb (r .state) 2
+
+  abbrev misnamed : Bool
+  misnamed = has destBit (r .mask) && (leb qpCount (r .dest) || eqb (r .dest) (r .qpn))
+
+  abbrev misflagged : Bool
+  misflagged = has rightsBit (r .mask) && not (only mostAccess (r .flags))
+
+  module _ (good : modifyBad r ≡ false) where
+    -- a destination is named where it is stored
+    pub dest-small : r .state ≡ 2 → r .dest < qpCount
+    dest-small t =
+        let f : (early || unnamed || misnamed) ≡ false = or-left (early || unnamed || misnamed) misflagged good in
+        go (has destBit (r .mask)) (or-right early unnamed (or-left (early || unnamed) misnamed f)) (or-right (early || unnamed) misnamed f)
+      where
+        go : (d : Bool) → (not d && eqb (r .state) 2) ≡ false → (d && (leb qpCount (r .dest) || eqb (r .dest) (r .qpn))) ≡ false
+            → r .dest < qpCount
+        go true e f = leb-false qpCount (r .dest) (or-left (leb qpCount (r .dest)) (eqb (r .dest) (r .qpn)) f)
+        go false e f = absurd (false≢true (sym e ∙ eq-eqb (r .state) 2 t))
+
+    -- and access flags have no bit above 2 where they are stored
+    pub flags-small : (bitAnd (r .mask) rightsBit ≡ 0 → ⊥) → r .flags ≤ mostAccess
+    flags-small f =
+        let e : misflagged ≡ false = or-right (early || unnamed || misnamed) misflagged good in
+        only-most (r .flags) (not-false (only mostAccess (r .flags)) (rw (ne-eqb (bitAnd (r .mask) rightsBit) 0 f) at e))
 
 module _ (l : List ℕ) where
   -- ---- create QP
@@ -82,37 +118,27 @@ module _ (l : List ℕ) where
     abbrev q : ℕ
     q = r .qpn
 
-    -- the tests of answer 4 in three parts
-    abbrev early : Bool
-    early =
-        not (only (stateBit + destBit) (r .mask)) || not (has stateBit (r .mask)) || not (isState (r .state))
-        || not (eqb (r .pad0) 0 && eqb (r .pad1) 0 && eqb (r .pad2) 0) || (has destBit (r .mask) && not (eqb (r .state) 2))
-
-    abbrev unnamed : Bool
-    unnamed = not (has destBit (r .mask)) && eqb (r .state) 2
-
-    abbrev misnamed : Bool
-    misnamed = has destBit (r .mask) && (leb qpCount (r .dest) || eqb (r .dest) q)
-
     modify-tests : refusal (commandChecks (card l) (Command.modifyQp r))
         ≡ cond (modifyBad r) (some 4) (refusal (2 if not (card l .qp q .live) ∷ 3 if not (isMove (card l .qp q .state) (r .state)) ∷ []))
     unfolding commandChecks
     modify-tests =
-        seven (not (only (stateBit + destBit) (r .mask))) (not (has stateBit (r .mask))) (not (isState (r .state)))
+        eight (not (only (stateBit + rightsBit + destBit) (r .mask))) (not (has stateBit (r .mask))) (not (isState (r .state)))
         (not (eqb (r .pad0) 0 && eqb (r .pad1) 0 && eqb (r .pad2) 0)) (has destBit (r .mask) && not (eqb (r .state) 2))
-        (not (has destBit (r .mask)) && eqb (r .state) 2) (has destBit (r .mask) && (leb qpCount (r .dest) || eqb (r .dest) q))
+        (unnamed r) (misnamed r) (misflagged r)
         (2 if not (card l .qp q .live) ∷ 3 if not (isMove (card l .qp q .state) (r .state)) ∷ [])
       where
-        seven : (t u v w x y z : Bool) (cs : List Check)
-            → refusal (4 if t ∷ 4 if u ∷ 4 if v ∷ 4 if w ∷ 4 if x ∷ 4 if y ∷ 4 if z ∷ cs) ≡ cond (t || u || v || w || x || y || z) (some 4) (refusal cs)
-        seven true u v w x y z cs = refl
-        seven false true v w x y z cs = refl
-        seven false false true w x y z cs = refl
-        seven false false false true x y z cs = refl
-        seven false false false false true y z cs = refl
-        seven false false false false false true z cs = refl
-        seven false false false false false false true cs = refl
-        seven false false false false false false false cs = refl
+        eight : (s t u v w x y z : Bool) (cs : List Check)
+            → refusal (4 if s ∷ 4 if t ∷ 4 if u ∷ 4 if v ∷ 4 if w ∷ 4 if x ∷ 4 if y ∷ 4 if z ∷ cs)
+            ≡ cond (s || t || u || v || w || x || y || z) (some 4) (refusal cs)
+        eight true t u v w x y z cs = refl
+        eight false true u v w x y z cs = refl
+        eight false false true v w x y z cs = refl
+        eight false false false true w x y z cs = refl
+        eight false false false false true x y z cs = refl
+        eight false false false false false true y z cs = refl
+        eight false false false false false false true z cs = refl
+        eight false false false false false false false true cs = refl
+        eight false false false false false false false false cs = refl
 
     pub modify-fields : modifyBad r ≡ true → Ran l (some (Command.modifyQp r)) (Refused 4) l
     modify-fields e = ran-refused l (Command.modifyQp r) 4 (modify-tests ∙ rw e)
@@ -133,22 +159,3 @@ module _ (l : List ℕ) where
             → Ran l (some (Command.modifyQp r)) (Done ack.Done) l′
         unfolding commandAck
         modify-done e l′ s = ran-done l (Command.modifyQp r) (modify-tests ∙ rw (good, live, state-is, e)) (Done ack.Done) l′ refl s
-
-      -- a destination is named where it is stored
-      low-dest : (x : ℕ) → cond (eqb (r .state) 2) (r .dest % 256) x ≡ cond (eqb (r .state) 2) (r .dest) x
-      low-dest x =
-          go (has destBit (r .mask)) (eqb (r .state) 2)
-          (or-right early unnamed (or-left (early || unnamed) misnamed good)) (or-right (early || unnamed) misnamed good)
-        where
-          go : (d t : Bool) → (not d && t) ≡ false → (d && (leb qpCount (r .dest) || eqb (r .dest) q)) ≡ false
-              → cond t (r .dest % 256) x ≡ cond t (r .dest) x
-          go d false e f = refl
-          go false true e f = absurd (false≢true (sym e))
-          go true true e f =
-              let h : r .dest < qpCount = leb-false qpCount (r .dest) (or-left (leb qpCount (r .dest)) (eqb (r .dest) q) f) in
-              mod-eq-of-lt (omega arith)
-
-      pub modify-bytes : putRow waitingT (putRow qpT l q (movedPair (rowAt qpT l q) (r .state) (r .dest % 256))) q (movedHead (rowAt waitingT l q) (r .state))
-          ≡ commandBytes l (Command.modifyQp r)
-      unfolding commandBytes
-      modify-bytes = rw (low-dest (rowAt qpT l q .dest))

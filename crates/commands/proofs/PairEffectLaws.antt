@@ -19,7 +19,7 @@ use Rattle.wire.proofs.TableLaws.{putRow-length}
 use Rattle.tables.specs.Card.{cqLive, receiveOf}
 use Rattle.tables.specs.State.{PairRows, card, pairAt, qpOf, liveQp, destOf, receivesAt, posted}
 use Rattle.tables.specs.Layout.{qpFlagT, qpT, waitingT, flagCodec, pairCodec, waitingCodec}
-use Rattle.tables.specs.Limits.{qpCount, mostWaiting}
+use Rattle.tables.specs.Limits.{qpCount, mostWaiting, mostAccess}
 use Rattle.tables.specs.Commands.{Command}
 use Rattle.tables.proofs.KindLaws.{PairsOnly, only-then, pair-card}
 use Rattle.tables.proofs.ObjectLaws.{pd-below, cq-below, qp-below, qp-flag, qp-row}
@@ -30,10 +30,10 @@ use Rattle.tables.specs.declared.QueuePair.{QueuePair}
 use Rattle.tables.specs.declared.WaitingHead.{WaitingHead}
 use Rattle.validate.specs.Accept.{isState, receiveOk, pairOk, qpSound}
 use Rattle.validate.specs.Search.{freeQpn}
-use Rattle.validate.proofs.AcceptedLaws.{Accepted, pairing}
+use Rattle.validate.proofs.AcceptedLaws.{Accepted, pairing, only-most}
 use Rattle.validate.proofs.KeptLaws.{pair-accepted}
 use Rattle.validate.proofs.WaitingLaws.{pair-sound}
-use Rattle.rules.specs.Control.{commandChecks, commandEffect, isMove, moved, stateBit, destBit}
+use Rattle.rules.specs.Control.{commandChecks, commandEffect, isMove, moved, rightsAfter, stateBit, rightsBit, destBit}
 use Rattle.rules.specs.Bytes.{commandBytes, newPair, noneWait, movedPair, movedHead}
 use Rattle.commands.proofs.EffectLaws.{Kept}
 
@@ -140,15 +140,16 @@ module _ (l : List ℕ) (ok : Accepted l) where
     d = r .dest
 
     -- the tests, in order
-    tests-of : Passed (4 if not (only (stateBit + destBit) (r .mask)) ∷ 4 if not (has stateBit (r .mask)) ∷ 4 if not (isState t) ∷
+    tests-of : Passed (4 if not (only (stateBit + rightsBit + destBit) (r .mask)) ∷ 4 if not (has stateBit (r .mask)) ∷ 4 if not (isState t) ∷
         4 if not (eqb (r .pad0) 0 && eqb (r .pad1) 0 && eqb (r .pad2) 0) ∷ 4 if (has destBit (r .mask) && not (eqb t 2)) ∷
         4 if (not (has destBit (r .mask)) && eqb t 2) ∷ 4 if (has destBit (r .mask) && (leb qpCount d || eqb d q)) ∷
+        4 if (has rightsBit (r .mask) && not (only mostAccess (r .flags))) ∷
         2 if not (card l .qp q .live) ∷ 3 if not (isMove (card l .qp q .state) t) ∷ [])
     unfolding commandChecks
     tests-of = passed (commandChecks (card l) (Command.modifyQp r)) e
 
     on : card l .qp q .live ≡ true
-    on = not-false (card l .qp q .live) (tests-of .1 .1 .1 .1 .1 .1 .1 .0)
+    on = not-false (card l .qp q .live) (tests-of .1 .1 .1 .1 .1 .1 .1 .1 .0)
 
     within : q < qpCount
     within = qp-below l q on
@@ -174,14 +175,27 @@ module _ (l : List ℕ) (ok : Accepted l) where
         by true y z = (leb-false qpCount d (or-left (leb qpCount d) (eqb d q) z), or-right (leb qpCount d) (eqb d q) z)
         by false y z = absurd (false≢true (sym y))
 
+    -- flags that are set have no bit above 2
+    flagged : has rightsBit (r .mask) ≡ true → only mostAccess (r .flags) ≡ true
+    flagged x = not-false (only mostAccess (r .flags)) (rw x at (tests-of .1 .1 .1 .1 .1 .1 .1 .0))
+
     abbrev p : QueuePair
     p = rowAt qpT l q
+
+    -- the flags after the move are among its old ones, those that are set, and 0
+    flags-are : (P : ℕ → Type 0) → P 0 → (has rightsBit (r .mask) ≡ true → P (r .flags)) → P (p .rights) → P (rightsAfter (p .rights) r)
+    flags-are P at-zero at-set at-old = by (eqb t 0) (has rightsBit (r .mask)) refl
+      where
+        by : (a b : Bool) → has rightsBit (r .mask) ≡ b → P (cond a 0 (cond b (r .flags) (p .rights)))
+        by true b e = at-zero
+        by false true e = at-set e
+        by false false e = at-old
 
     abbrev h : WaitingHead
     h = rowAt waitingT l q
 
     abbrev p′ : QueuePair
-    p′ = movedPair p t d
+    p′ = movedPair p r
 
     abbrev h′ : WaitingHead
     h′ = movedHead h t
@@ -191,7 +205,9 @@ module _ (l : List ℕ) (ok : Accepted l) where
     moved-fits =
         let f = store.pair-fits l q in
         let s = state-small in
-        (f .0, (f .1 .0, (f .1 .1 .0, (f .1 .1 .1 .0, (omega arith, (by (eqb t 0) (eqb t 2) (λ x. named x .0) (f .1 .1 .1 .1 .1 .0), f .1 .1 .1 .1 .1 .1))))))
+        let rights : rightsAfter (p .rights) r < 256 ^ 1 =
+        flags-are (λ x. x < 256 ^ 1) (omega arith) (λ x. let m = only-most (r .flags) (flagged x) in omega arith) (f .1 .1 .1 .1 .1 .1 .0) in
+        (f .0, (f .1 .0, (f .1 .1 .0, (f .1 .1 .1 .0, (omega arith, (by (eqb t 0) (eqb t 2) (λ x. named x .0) (f .1 .1 .1 .1 .1 .0), (rights, f .1 .1 .1 .1 .1 .1 .1)))))))
       where
         by : (a b : Bool) → (b ≡ true → d < qpCount) → p .dest < 256 ^ 1 → cond a qpCount (cond b d (p .dest)) < 256 ^ 1
         by true b x y = omega arith
@@ -225,14 +241,23 @@ module _ (l : List ℕ) (ok : Accepted l) where
         (store.qp-row-at l q within p′ (ok .sized) moved-fits)
 
     -- the rows mean the card's queue pair after the move
-    means : qpOf (rows h′) ≡ moved (card l .qp q) t d
+    means : qpOf (rows h′) ≡ moved (card l .qp q) r
     unfolding qpOf pairAt ringList
     means = rw (qp-row l q within live, eq-eqb (rowAt qpFlagT l q) 1 live) (by (eqb t 0) (eqb t 2) (λ x. named x .0))
       where
         by : (a b : Bool) → (b ≡ true → d < qpCount)
             → liveQp (record {
               flag = rowAt qpFlagT l q;
-              row = record { pd = p .pd; signal = p .signal; scq = p .scq; rcq = p .rcq; state = t; dest = cond a qpCount (cond b d (p .dest)) };
+              row =
+                  record {
+                    pd = p .pd;
+                    signal = p .signal;
+                    scq = p .scq;
+                    rcq = p .rcq;
+                    state = t;
+                    dest = cond a qpCount (cond b d (p .dest));
+                    rights = rightsAfter (p .rights) r;
+                  };
               head = record { first = h .first; count = cond a 0 (h .count) };
               ring = receivesAt l q;
             })
@@ -244,6 +269,7 @@ module _ (l : List ℕ) (ok : Accepted l) where
               rcq = p .rcq;
               state = t;
               dest = cond a none (cond b (some d) (destOf (p .dest)));
+              rights = rightsAfter (p .rights) r;
               waiting = cond a [] (map receiveOf (posted (pairAt l q)));
             }
         by true b x = refl
@@ -257,11 +283,13 @@ module _ (l : List ℕ) (ok : Accepted l) where
         let s = pair-sound l ok q within live in
         let a : Bool = leb (p .signal) 1 in
         let b : Bool = isState (p .state) in
+        let f : Bool = only mostAccess (p .rights) in
         let c : Bool = leb (p .dest) qpCount in
-        let x : (a && b && c) ≡ true = and-left (a && b && c) (not (eqb (p .dest) q)) (s .limits) in
-        let y : (a && b) ≡ true = and-left (a && b) c x in
-        rw (and-left a b y, state-fine)
-        (by (eqb t 0) (eqb t 2) named (and-right (a && b) c x) (and-right (a && b && c) (not (eqb (p .dest) q)) (s .limits)))
+        let x : (a && b && f && c) ≡ true = and-left (a && b && f && c) (not (eqb (p .dest) q)) (s .limits) in
+        let y : (a && b && f) ≡ true = and-left (a && b && f) c x in
+        let rights = flags-are (λ x. only mostAccess x ≡ true) refl flagged (and-right (a && b) f y) in
+        rw (and-left a b (and-left (a && b) f y), state-fine, rights)
+        (by (eqb t 0) (eqb t 2) named (and-right (a && b && f) c x) (and-right (a && b && f && c) (not (eqb (p .dest) q)) (s .limits)))
       where
         by : (a b : Bool) → (b ≡ true → (d < qpCount) × (eqb d q ≡ false)) → leb (p .dest) qpCount ≡ true → not (eqb (p .dest) q) ≡ true
             → (leb (cond a qpCount (cond b d (p .dest))) qpCount && not (eqb (cond a qpCount (cond b d (p .dest))) q)) ≡ true

@@ -10,7 +10,7 @@ use lib.ListN.{length}
 use Rattle.wire.specs.Checks.{Check, _if_, refusal, has, only}
 use Rattle.tables.specs.Card.{cqLive, Card}
 use Rattle.tables.specs.State.{card}
-use Rattle.tables.specs.Limits.{qpCount, mostAddress}
+use Rattle.tables.specs.Limits.{qpCount, mostAddress, mostAccess}
 use Rattle.tables.specs.Commands.{headChecks, Command, dataSize, commandOf}
 use Rattle.tables.specs.declared.Ack.{Ack}
 use Rattle.tables.specs.declared.Ack.the-variants as ack
@@ -28,7 +28,7 @@ use Rattle.tables.specs.declared.Registration.{Registration}
 use Rattle.validate.specs.Accept.{isState}
 use Rattle.validate.specs.Search.{pdInUse, cqInUse}
 use Rattle.rules.specs.Bytes.{commandBytes}
-use Rattle.rules.specs.Control.{commandChecks, commandAck, stateBit, destBit}
+use Rattle.rules.specs.Control.{commandChecks, commandAck, stateBit, rightsBit, destBit}
 use Rattle.rules.specs.Lists.{isSome, maybe}
 use Rattle.rules.specs.declared.Answer.{Answer}
 use Rattle.rules.specs.declared.Answer.the-variants as answer
@@ -147,13 +147,14 @@ abbrev pub createLive : Card → CreateQp → Bool
 createLive c r = c .pd (r .pd) && cqLive c (r .scq) && cqLive c (r .rcq)
 
 -- "Modify: mask with bits other than 0 and 15, or without bit 0; state 4, 5 or above 6; a padding byte not zero; bit 15 set unless state is
--- 2, or clear when it is; with bit 15, a destination above 7 or equal to qpn"
+-- 2, or clear when it is; with bit 15, a destination above 7 or equal to qpn"; 02, M-104: "mask bit 2", "flag bits above 2 give 4"
 abbrev pub modifyBad : ModifyQp → Bool
 modifyBad r =
-    not (only (stateBit + destBit) (r .mask))
+    not (only (stateBit + rightsBit + destBit) (r .mask))
     || not (has stateBit (r .mask))
     || not (isState (r .state))
     || not (eqb (r .pad0) 0 && eqb (r .pad1) 0 && eqb (r .pad2) 0)
     || (has destBit (r .mask) && not (eqb (r .state) 2))
     || (not (has destBit (r .mask)) && eqb (r .state) 2)
     || (has destBit (r .mask) && (leb qpCount (r .dest) || eqb (r .dest) (r .qpn)))
+    || (has rightsBit (r .mask) && not (only mostAccess (r .flags)))

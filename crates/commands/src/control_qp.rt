@@ -14,6 +14,7 @@ use tables::ModifyQpRead;
 use tables::QueuePair;
 use tables::WaitingHead;
 use tables::limits::ERROR;
+use tables::limits::MOST_ACCESS;
 use tables::limits::QP_COUNT;
 use tables::limits::RESET;
 use tables::limits::RTR;
@@ -31,13 +32,17 @@ ghost use Rattle.tables.specs.Layout.{stateSize};
 ghost use Rattle.tables.specs.Limits.{qpCount};
 ghost use Rattle.tables.specs.Commands.{Command};
 ghost use Rattle.rules.specs.Bytes.{commandBytes, newPair, movedPair, movedHead};
-ghost use Rattle.rules.specs.Control.{isMove};
+ghost use Rattle.rules.specs.Control.{isMove, rightsAfter};
 ghost use Rattle.commands.specs.Control.{Ran, creating, modifying, createFine, createLive, modifyBad};
 
-// The attribute mask of modify QP: the state, and the destination.
+// The attribute mask of modify QP: the state, the access flags, and the destination.
 const STATE_BIT: u32 = 1;
 
+const RIGHTS_BIT: u32 = 4;
+
 const DEST_BIT: u32 = 32768;
+
+const MASK_BITS: u32 = STATE_BIT + RIGHTS_BIT + DEST_BIT;
 
 const RC: u8 = 2;
 
@@ -71,6 +76,7 @@ fn new_pair(r: CreateQp) -> QueuePair
         rcq: r.rcq as u8,
         state: RESET,
         dest: NO_DEST,
+        rights: 0,
     }
 }
 
@@ -110,16 +116,19 @@ pub fn create_qp(state: &mut [u8], read: CreateQpRead) -> Outcome
 fn modify_bad(r: ModifyQp) -> bool
     ensures { λ x. ⌜ x ≡ modifyBad r ⌝ }
 {
-    let unknown = r.mask & (STATE_BIT + DEST_BIT) != r.mask;
+    let unknown = r.mask & MASK_BITS != r.mask;
     let state_bit = r.mask & STATE_BIT != 0;
+    let rights_bit = r.mask & RIGHTS_BIT != 0;
     let dest_bit = r.mask & DEST_BIT != 0;
     let state = accept::is_state(r.state);
     let padding = (r.pad0 == 0) & (r.pad1 == 0) & (r.pad2 == 0);
     let ready = r.state == RTR;
     let number = r.dest as usize;
     let dest = (QP_COUNT <= number) | (r.dest == r.qpn);
+    let rights = r.flags & (MOST_ACCESS as u32) != r.flags;
     let fields = unknown | !state_bit | !state | !padding;
-    fields | (dest_bit & !ready) | (!dest_bit & ready) | (dest_bit & dest)
+    let named = fields | (dest_bit & !ready) | (!dest_bit & ready) | (dest_bit & dest);
+    named | (rights_bit & rights)
 }
 
 fn is_move(from: u8, to: u8) -> bool
@@ -129,19 +138,35 @@ fn is_move(from: u8, to: u8) -> bool
     (to == RESET) | (to == ERROR) | ((to as u32 == next) & (to <= RTS))
 }
 
-fn moved_pair(p: QueuePair, to: u8, dest: u8) -> QueuePair
-    ensures { λ r. ⌜ r ≡ movedPair p to dest ⌝ }
+// A queue pair's access flags after a move.
+fn rights_after(rights: u8, r: ModifyQp) -> u8
+    requires { ⌜ modifyBad r ≡ false ⌝ }
+    ensures { λ x. ⌜ x ≡ rightsAfter rights r ⌝ }
 {
-    let mut r = p;
-    r.state = to;
-    if to == RESET {
-        r.dest = NO_DEST;
-        return r;
+    if r.state == RESET {
+        return 0;
     }
-    if to == RTR {
-        r.dest = dest;
+    if r.mask & RIGHTS_BIT == 0 {
+        return rights;
     }
-    r
+    r.flags as u8
+}
+
+fn moved_pair(p: QueuePair, r: ModifyQp) -> QueuePair
+    requires { ⌜ modifyBad r ≡ false ⌝ }
+    ensures { λ x. ⌜ x ≡ movedPair p r ⌝ }
+{
+    let mut x = p;
+    x.state = r.state;
+    x.rights = rights_after(p.rights, r);
+    if r.state == RESET {
+        x.dest = NO_DEST;
+        return x;
+    }
+    if r.state == RTR {
+        x.dest = r.dest as u8;
+    }
+    x
 }
 
 fn moved_head(h: WaitingHead, to: u8) -> WaitingHead
@@ -154,7 +179,7 @@ fn moved_head(h: WaitingHead, to: u8) -> WaitingHead
     r
 }
 
-// The live queue pair in the state that it moves to; a move to 0 drops its receives and its destination.
+// The live queue pair in the state that it moves to; a move to 0 drops its receives, its destination and its access flags.
 fn move_pair(state: &mut [u8], r: ModifyQp)
     requires { ⌜ (r .qpn < qpCount) × (length (now state) ≡ stateSize) × (modifyBad r ≡ false) ⌝ }
     ensures { λ _. ⌜ now (state .exit) ≡ commandBytes (now (state .entry)) (Command.modifyQp r) ⌝ }
@@ -162,7 +187,7 @@ fn move_pair(state: &mut [u8], r: ModifyQp)
     let n = r.qpn as usize;
     let p = rows::load_qp(state, n);
     let h = rows::load_waiting(state, n);
-    rows::store_qp(state, n, moved_pair(p, r.state, (r.dest % 256) as u8));
+    rows::store_qp(state, n, moved_pair(p, r));
     rows::store_waiting(state, n, moved_head(h, r.state));
 }
 

@@ -128,11 +128,15 @@ module _ (pd : ℕ → Bool) (memory : ℕ) (r : RegionRows) where
   pub registering : Registered pd memory r → mrSound pd memory r ≡ true
   registering q = rw (eq-eqb (r .flag) 1 (q .live), q .domain, q .limits) (or-true (eqb (r .flag) 0))
 
-pub access-most : (a : ℕ) → accessOk a ≡ true → a ≤ mostAccess
-access-most a e =
-    let x : bitAnd a mostAccess ≡ a = eqb-true (bitAnd a mostAccess) a (and-left (only mostAccess a) _ e) in
+-- access bits and access flags have no bit above 2
+pub only-most : (a : ℕ) → only mostAccess a ≡ true → a ≤ mostAccess
+only-most a e =
+    let x : bitAnd a mostAccess ≡ a = eqb-true (bitAnd a mostAccess) a e in
     let y : bitAnd a mostAccess ≤ mostAccess = and-le-r a mostAccess in
     omega arith
+
+pub access-most : (a : ℕ) → accessOk a ≡ true → a ≤ mostAccess
+access-most a e = only-most a (and-left (only mostAccess a) _ e)
 
 -- the region's range, as whole numbers
 pub record Ranged (memory : ℕ) (r : Region) : Type 0 where

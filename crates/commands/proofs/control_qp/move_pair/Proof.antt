@@ -1,5 +1,4 @@
-use Rattle.commands.proofs.PairCaseLaws.{modify-bytes}
-use denote.Ref.{now}
+use Rattle.rules.specs.Bytes.{commandBytes}
 use borrow.Author.Needs.{needs}
 use Rattle.commands.proofs.control_qp.move_pair.Statement.{statement}
 use Rattle.commands.proofs.control_qp.move_pair.Tie as tie
@@ -12,9 +11,6 @@ load-qp-requires c κs = search needs
 
 load-waiting-requires : tie.Need-load-waiting-requires
 load-waiting-requires c κs = search needs
-
-cast-moved-pair : tie.Need-cast-moved-pair
-cast-moved-pair c = search needs
 
 moved-pair-requires : tie.Need-moved-pair-requires
 moved-pair-requires c κs = search needs
@@ -32,12 +28,12 @@ same-length : tie.Need-same-length
 same-length c = search needs
 
 returns : tie.Need-returns
+unfolding commandBytes
 returns c =
     let row = c .before .before .before .before .before .before .before in
     let moved = row .before in
-    let head = row .before .before .before .before in
-    let s = head .before .before .before .before .before .before in
-    rw (← modify-bytes (now (s .args .state)) (s .args .r) (s .pre .2), c .before .before .store-waiting .ensures, row .store-qp .ensures)
+    let head = row .before .before .before in
+    rw (c .before .before .store-waiting .ensures, row .store-qp .ensures)
     (rw (moved .moved-pair .ensures, c .before .before .before .moved-head .ensures, head .before .before .load-qp .ensures, head .load-waiting .ensures))
 
 pub move-pair-spec : {M : Type 1} → statement M
@@ -47,7 +43,6 @@ move-pair-spec =
     cast-n
     load-qp-requires
     load-waiting-requires
-    cast-moved-pair
     moved-pair-requires
     store-qp-requires
     moved-head-requires
