@@ -1,17 +1,17 @@
-// Who may touch a byte: document 01, "Permitted byte". Lists of scatter/gather entries: their total, and a list cut short.
+// Who may touch a byte: document 01, "Permitted byte", and 02, M-104. Lists of scatter/gather entries: their total, and a list cut short.
+use rules::Party;
 use tables::Region;
 use tables::Sge;
+use tables::limits::LOCAL_WRITE;
 use tables::limits::MR_COUNT;
 use tables::rows;
 ghost use mathlib.Core.Path.{_≡_};
 ghost use Prim.Native.Nat.{_≤_, min};
-ghost use mathlib.Core.Bool.{_&&_};
-ghost use lib.Dec.{eqb};
 ghost use lib.ListN.{length, take};
 ghost use Rattle.tables.specs.State.{card, registrationOf};
 ghost use Rattle.tables.specs.Layout.{stateSize};
 ghost use Rattle.rules.specs.Touch.{range, sgeBytes, sgeTotal, cut};
-ghost use Rattle.dma.specs.Grants.{regionOf, grants, allowsAll, spans};
+ghost use Rattle.dma.specs.Grants.{regionOf, admits, allowsAll, spans};
 
 // The live region that has exactly a key, if there is one.
 enum Found {
@@ -37,11 +37,13 @@ fn region_of(state: &[u8], key: u32) -> Found
     Found::Live(r)
 }
 
-// Whether a region has the domain, and its access the use's right.
-fn has_use(r: Region, pd: u8, mask: u8) -> bool
-    ensures { λ b. ⌜ b ≡ (eqb (r .pd) pd && grants mask (r .access)) ⌝ }
+// Whether a region has the party's domain, its access the use's right, and so the party's flags where the use is a remote one.
+fn has_use(r: Region, p: Party, mask: u8) -> bool
+    ensures { λ b. ⌜ b ≡ admits (registrationOf r) p mask ⌝ }
 {
-    (r.pd == pd) & ((mask == 0) | !(r.access & mask == 0))
+    let granted = (mask == 0) | !(r.access & mask == 0);
+    let opened = (mask <= LOCAL_WRITE) | !(p.rights & mask == 0);
+    (r.pd == p.pd) & granted & opened
 }
 
 // Whether both ends of a range lie in a region.
@@ -54,29 +56,29 @@ fn holds_ends(r: Region, address: u64, n: u64) -> bool
     wire::sum_within(address - r.virt, n, r.length)
 }
 
-// Whether each of the n bytes from an address on is permitted: it looks at the two ends only, and of an empty range at no key.
-fn range_permitted(state: &[u8], pd: u8, mask: u8, address: u64, n: u64, key: u32) -> bool
+// Whether each of the n bytes from an address on is permitted: it looks at the two ends only, and of an empty range at no key and no flags.
+fn range_permitted(state: &[u8], p: Party, mask: u8, address: u64, n: u64, key: u32) -> bool
     requires { ⌜ length (now state) ≡ stateSize ⌝ }
-    ensures { λ b. ⌜ b ≡ allowsAll (card (now (state .entry))) pd mask (range address key n) ⌝ }
+    ensures { λ b. ⌜ b ≡ allowsAll (card (now (state .entry))) p mask (range address key n) ⌝ }
 {
     if n == 0 {
         return true;
     }
     match region_of(state, key) {
-        Found::Live(r) => has_use(r, pd, mask) & holds_ends(r, address, n),
+        Found::Live(r) => has_use(r, p, mask) & holds_ends(r, address, n),
         Found::Nothing => false,
     }
 }
 
 // Whether each byte of the first count entries is permitted.
-pub fn sges_permitted(state: &[u8], pd: u8, mask: u8, sges: [Sge; 4], count: usize) -> bool
+pub fn sges_permitted(state: &[u8], p: Party, mask: u8, sges: [Sge; 4], count: usize) -> bool
     requires { ⌜ (count ≤ 4) × (length (now state) ≡ stateSize) ⌝ }
-    ensures { λ b. ⌜ b ≡ allowsAll (card (now (state .entry))) pd mask (sgeBytes (take count sges)) ⌝ }
+    ensures { λ b. ⌜ b ≡ allowsAll (card (now (state .entry))) p mask (sgeBytes (take count sges)) ⌝ }
 {
     let mut i = 0;
     while i < count {
         let s = sges[i];
-        if !range_permitted(state, pd, mask, s.address, s.length as u64, s.key) {
+        if !range_permitted(state, p, mask, s.address, s.length as u64, s.key) {
             return false;
         }
         i += 1;

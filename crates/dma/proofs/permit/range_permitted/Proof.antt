@@ -9,7 +9,7 @@ use Rattle.dma.proofs.permit.range_permitted.Statement.{statement}
 use Rattle.dma.proofs.permit.range_permitted.Tie as tie
 
 returns : tie.Need-returns
-returns c = let a = c .before .before .args in sym (empty-range (allows (card (now (a .state))) (a .pd) (a .mask)) (a .address) (a .key) (a .n) (c .if1 .taken))
+returns c = let a = c .before .before .args in sym (empty-range (allows (card (now (a .state))) (a .p) (a .mask)) (a .address) (a .key) (a .n) (c .if1 .taken))
 
 region-of-requires : tie.Need-region-of-requires
 region-of-requires c κs = search needs
@@ -30,13 +30,13 @@ returns-2 : tie.Need-returns-2
 returns-2 c =
     let a = c .before .before .before .before .before .before .before .before .args in
     rw (c .before .has-use .ensures, c .holds-ends .ensures)
-    (sym (range-found (card (now (a .state))) (a .pd) (a .mask) (a .key) (a .n) (a .address) (search needs) _
+    (sym (range-found (card (now (a .state))) (a .p) (a .mask) (a .key) (a .n) (a .address) (search needs) _
     (sym (c .before .before .before .before .before .region-of .ensures) ∙ c .before .before .before .r .given .1)))
 
 returns-3 : tie.Need-returns-3
 returns-3 c =
     let a = c .before .before .before .before .before .args in
-    sym (range-none (card (now (a .state))) (a .pd) (a .mask) (a .key) (a .n) (a .address) (search needs) (sym (c .before .before .region-of .ensures) ∙ c .enum-told .given .1))
+    sym (range-none (card (now (a .state))) (a .p) (a .mask) (a .key) (a .n) (a .address) (search needs) (sym (c .before .before .region-of .ensures) ∙ c .enum-told .given .1))
 
 pub range-permitted-spec : {M : Type 1} → statement M
 range-permitted-spec =

@@ -13,10 +13,10 @@ use Rattle.dma.proofs.permit.sges_permitted.Statement.{statement}
 use Rattle.dma.proofs.permit.sges_permitted.Tie as tie
 
 abbrev Inv-loop : tie.InvT-loop
-Inv-loop state pd mask count sges i₀ i = (i ≤ count) × (allowsAll (card state) pd mask (sgeBytes (drop i (take count sges))) ≡ allowsAll (card state) pd mask (sgeBytes (take count sges)))
+Inv-loop state p mask count sges i₀ i = (i ≤ count) × (allowsAll (card state) p mask (sgeBytes (drop i (take count sges))) ≡ allowsAll (card state) p mask (sgeBytes (take count sges)))
 
 abbrev μ-loop : tie.MeasureT-loop
-μ-loop state pd mask count sges i₀ i = count - i
+μ-loop state p mask count sges i₀ i = count - i
 
 loop-holds : tie.Need-loop-holds Inv-loop μ-loop
 loop-holds c = search needs
@@ -38,7 +38,7 @@ returns c =
     let s = c .before .before .before .before .before .before .before in
     let l = c .before .before .before .before .before .loop in
     let four : length (s .args .t4) ≡ 4 = s .good .1 .1 .1 .0 .1 .0 .1 in
-    let e = left-tests (s .args .t4) (s .args .count) (l .i) (allows (card (now (s .args .state))) (s .args .pd) (s .args .mask)) (omega arith) (omega arith) in
+    let e = left-tests (s .args .t4) (s .args .count) (l .i) (allows (card (now (s .args .state))) (s .args .p) (s .args .mask)) (omega arith) (omega arith) in
     let n = not-true (c .before .range-permitted .result) (c .if1 .taken) in
     sym (sym (l .inv .1) ∙ e ∙ rw (← c .before .range-permitted .ensures, n))
 
@@ -53,14 +53,14 @@ loop-again c =
     let s = c .before .before .before .before .before .before .before in
     let l = c .before .before .before .before .before .loop in
     let four : length (s .args .t4) ≡ 4 = s .good .1 .1 .1 .0 .1 .0 .1 in
-    let e = left-tests (s .args .t4) (s .args .count) (l .i) (allows (card (now (s .args .state))) (s .args .pd) (s .args .mask)) (omega arith) (omega arith) in
+    let e = left-tests (s .args .t4) (s .args .count) (l .i) (allows (card (now (s .args .state))) (s .args .p) (s .args .mask)) (omega arith) (omega arith) in
     let n = not-false (c .before .range-permitted .result) (c .if1 .left) in
     (omega arith, sym (rw (← c .before .range-permitted .ensures, n) at e) ∙ l .inv .1)
 
 returns-2 : tie.Need-returns-2 Inv-loop μ-loop
 returns-2 c =
     let s = c .before .before .before in
-    sym (sym (c .before .loop .inv .1) ∙ none-tests (s .args .t4) (s .args .count) (c .before .loop .i) (allows (card (now (s .args .state))) (s .args .pd) (s .args .mask)) (c .loop-test .left))
+    sym (sym (c .before .loop .inv .1) ∙ none-tests (s .args .t4) (s .args .count) (c .before .loop .i) (allows (card (now (s .args .state))) (s .args .p) (s .args .mask)) (c .loop-test .left))
 
 pub sges-permitted-spec : {M : Type 1} → statement M
 sges-permitted-spec =
