@@ -8,6 +8,7 @@ use native.Mathlib.Omega.{arith}
 use lib.Dec.{eqb, leb}
 use lib.ListN.{length, length-map}
 use borrow.Author.Tests.{eq-eqb, eqb-true}
+use Rattle.wire.specs.Checks.{only}
 use Rattle.wire.specs.Codec.{Fit, Fits}
 use Rattle.wire.specs.Table.{rowAt, putRow}
 use Rattle.wire.proofs.RingLaws.{ring-length}
@@ -15,7 +16,7 @@ use Rattle.wire.proofs.ScanLaws.{and-left, and-right}
 use Rattle.wire.proofs.SlotLaws.{slot-out}
 use Rattle.tables.specs.Card.{Card, Cq, Qp, Receive, cqLive, withCq, withQp, tail, withWaiting, receiveOf, freeCq}
 use Rattle.tables.specs.Layout.{cqFlagT, cqT, qpFlagT, qpT, waitingT, pairCodec}
-use Rattle.tables.specs.Limits.{cqCount, qpCount, mostPlaces, mostWaiting}
+use Rattle.tables.specs.Limits.{cqCount, qpCount, mostPlaces, mostWaiting, mostAccess}
 use Rattle.tables.specs.Queue.{pushBytes}
 use Rattle.tables.specs.Records.{completionCodec}
 use Rattle.tables.specs.State.{PairRows, card, cqOf, qpOf, queueAt, pairAt, ringAt, receivesAt, posted, noCompletion, noRecord}
@@ -108,16 +109,18 @@ erring-fits : (l : List ℕ) (n : ℕ) → Fits pairCodec (erring (rowAt qpT l n
 unfolding pairCodec Fit
 erring-fits l n =
     let g = pair-fits l n in
-    (g .0, (g .1 .0, (g .1 .1 .0, (g .1 .1 .1 .0, (omega arith, (g .1 .1 .1 .1 .1 .0, (omega arith, (omega arith, tt))))))))
+    (g .0, (g .1 .0, (g .1 .1 .0, (g .1 .1 .1 .0, (omega arith, (g .1 .1 .1 .1 .1 .0, (g .1 .1 .1 .1 .1 .1 .0, (omega arith, tt))))))))
 
 erring-ok : (n : ℕ) (p : QueuePair) → pairOk n p ≡ true → pairOk n (erring p) ≡ true
 erring-ok n p e =
     let a : Bool = leb (p .signal) 1 in
     let b : Bool = isState (p .state) in
+    let r : Bool = only mostAccess (p .rights) in
     let c : Bool = leb (p .dest) qpCount in
     let d : Bool = not (eqb (p .dest) n) in
-    let f : (a && b && c) ≡ true = and-left (a && b && c) d e in
-    rw (and-left a b (and-left (a && b) c f), and-right (a && b) c f, and-right (a && b && c) d e)
+    let f : (a && b && r && c) ≡ true = and-left (a && b && r && c) d e in
+    let g : (a && b && r) ≡ true = and-left (a && b && r) c f in
+    rw (and-left a b (and-left (a && b) r g), and-right (a && b) r g, and-right (a && b && r) c f, and-right (a && b && r && c) d e)
 
 module _ (l : List ℕ) (ok : Accepted l) (q : ℕ) (live : card l .qp q .live ≡ true) where
   below : q < qpCount

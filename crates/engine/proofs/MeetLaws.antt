@@ -8,6 +8,7 @@ use native.Mathlib.Omega.{arith}
 use lib.Dec.{eqb, leb}
 use lib.ListN.{length, length-map}
 use borrow.Author.Tests.{eq-eqb, ne-eqb, eqb-true, leb-true}
+use Rattle.wire.specs.Checks.{only}
 use Rattle.wire.proofs.RingLaws.{ring-length}
 use Rattle.wire.proofs.ScanLaws.{and-left, and-right}
 use Rattle.wire.specs.Checks.{Check, _if_, refusal}
@@ -17,7 +18,7 @@ use Rattle.validate.specs.Accept.{isState}
 use Rattle.validate.proofs.AcceptedLaws.{Accepted, accepted}
 use Rattle.tables.specs.State.{card, queueAt, pairAt, ringAt, receivesAt, posted, destOf, isLive, noCompletion, noRecord}
 use Rattle.tables.specs.Layout.{cqFlagT, cqT, qpFlagT, qpT, waitingT}
-use Rattle.tables.specs.Limits.{cqCount, qpCount, mostPlaces, mostWaiting}
+use Rattle.tables.specs.Limits.{cqCount, qpCount, mostPlaces, mostWaiting, mostAccess}
 use Rattle.tables.proofs.ObjectLaws.{cq-below, cq-live, qp-out, qp-live, qp-row}
 use Rattle.validate.proofs.QueueLaws.{queue-is}
 use Rattle.validate.proofs.WaitingLaws.{pair-sound, waiting-is}
@@ -154,7 +155,7 @@ module _ (l : List ℕ) (ok : Accepted l) where
           unfolding pairChecks holdChecks readyChecks deliveryChecks pairAt
           no-destination h =
               let s = pair-sound l ok q b live in
-              let x : Bool = leb (own .signal) 1 && isState (own .state) in
+              let x : Bool = leb (own .signal) 1 && isState (own .state) && only mostAccess (own .rights) in
               let k = leb-true d qpCount (and-right x (leb d qpCount) (and-left (x && leb d qpCount) (not (eqb d q)) (s .limits))) in
               let z : d ≡ qpCount = omega arith in
               rw (qp-row l q b live, eq-eqb (own .state) 3 sending, not-error, z)

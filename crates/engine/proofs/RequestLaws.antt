@@ -43,7 +43,7 @@ use Rattle.dma.specs.Grants.{allowsAll}
 use Rattle.dma.specs.Moves.{places, moved}
 use Rattle.dma.proofs.UseLaws.{maskOf, allowed-all}
 use Rattle.engine.specs.Meet.{bare, endsAt}
-use Rattle.engine.specs.Deliver.{ownMask, farMask, ownBy, farList, totalBy, takenRow, Sending, statusIn, carried}
+use Rattle.engine.specs.Deliver.{ownMask, farMask, ownBy, farList, totalBy, takenRow, Sending, statusIn, carried, partyIn}
 use Rattle.engine.specs.Send.{Posted, Runs}
 use Rattle.engine.proofs.CardLaws.{row-live, some-wait}
 use Rattle.engine.proofs.LimitLaws.{Going, going}
@@ -264,20 +264,20 @@ module _ (l : List ℕ) (a : accepts l ≡ true) (q : ℕ) (x : List ℕ) (s : S
   -- ---- the status
 
   abbrev mine : Bool
-  mine = allowsAll c (own .pd) (ownMask o) (ownBy s (entries x s t))
+  mine = allowsAll c (partyIn own) (ownMask o) (ownBy s (entries x s t))
 
   abbrev fit : Bool
   fit = leb n (sgeTotal (receiveSges w))
 
   abbrev theirs : Bool
-  theirs = allowsAll c (far .pd) (farMask o) (sgeBytes (farList s w n))
+  theirs = allowsAll c (partyIn far) (farMask o) (sgeBytes (farList s w n))
 
   mine-is : permitsAll c q (ownUse o) (ownBytes r) ≡ mine
   unfolding pairAt
   mine-is =
       sym (allowed-all c q (ownUse o) (ownBytes r))
-      ∙ ap (λ (k : Qp). allowsAll c (k .pd) (maskOf (ownUse o)) (ownBytes r)) own-is
-      ∙ ap₂ (λ (k : ℕ) (b : List Byte). allowsAll c (own .pd) k b) (own-mask (reads o)) (own-are x s t)
+      ∙ ap (λ (k : Qp). allowsAll c (record { pd = k .pd; rights = k .rights }) (maskOf (ownUse o)) (ownBytes r)) own-is
+      ∙ ap₂ (λ (k : ℕ) (b : List Byte). allowsAll c (partyIn own) k b) (own-mask (reads o)) (own-are x s t)
 
   far-are : farBytes r (takenBy c q) ≡ sgeBytes (farList s w n)
   unfolding farBytes receiveOf sgeBytes
@@ -294,8 +294,8 @@ module _ (l : List ℕ) (a : accepts l ≡ true) (q : ℕ) (x : List ℕ) (s : S
   theirs-is =
       ap (λ (k : ℕ). permitsAll c k (farUse o) (farBytes r (takenBy c q))) peer-is
       ∙ sym (allowed-all c d (farUse o) (farBytes r (takenBy c q)))
-      ∙ ap (λ (k : Qp). allowsAll c (k .pd) (maskOf (farUse o)) (farBytes r (takenBy c q))) far-is
-      ∙ ap₂ (λ (k : ℕ) (b : List Byte). allowsAll c (far .pd) k b) (far-mask (fills o) (reads o)) far-are
+      ∙ ap (λ (k : Qp). allowsAll c (record { pd = k .pd; rights = k .rights }) (maskOf (farUse o)) (farBytes r (takenBy c q))) far-is
+      ∙ ap₂ (λ (k : ℕ) (b : List Byte). allowsAll c (partyIn far) k b) (far-mask (fills o) (reads o)) far-are
 
   fit-is : takes o ≡ true → leb (total r) (sgeTotal (takenBy c q .sges)) ≡ fit
   unfolding receiveOf

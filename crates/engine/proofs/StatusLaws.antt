@@ -17,9 +17,10 @@ use Rattle.tables.specs.declared.Sge.{Sge}
 use Rattle.rules.specs.Send.{statusBy}
 use Rattle.rules.specs.Touch.{fills, sgeBytes, sgeTotal, cut}
 use Rattle.rules.proofs.Runs.{cut-total}
+use Rattle.rules.specs.declared.Party.{Party}
 use Rattle.dma.specs.Grants.{allowsAll}
 use Rattle.dma.proofs.UseLaws.{permitted-mapped-all}
-use Rattle.engine.specs.Deliver.{ownMask, farMask, ownBy, farList, farCount, Sending, OwnSide, Delivery, Carries, carried}
+use Rattle.engine.specs.Deliver.{partyIn, ownMask, farMask, ownBy, farList, farCount, Sending, OwnSide, Delivery, Carries, carried}
 use Rattle.engine.specs.declared.meet.Ends.{Ends}
 
 -- ---- the order of the tests
@@ -57,28 +58,33 @@ module _ (l m : List ℕ) (e : Ends) (s : SendRecord) (x : List ℕ) (sges : Lis
   o = s .opcode
 
   abbrev mine : Bool
-  mine = allowsAll (card l) (e .own .pd) (ownMask o) (ownBy s sges)
+  mine = allowsAll (card l) (partyIn (e .own)) (ownMask o) (ownBy s sges)
 
   abbrev fit : Bool
   fit = leb n (sgeTotal (receiveSges w))
 
   abbrev theirs : Bool
-  theirs = allowsAll (card l) (e .far .pd) (farMask o) (sgeBytes (farList s w n))
+  theirs = allowsAll (card l) (partyIn (e .far)) (farMask o) (sgeBytes (farList s w n))
 
   pub too-long : mostMessage < n → Delivery l m e s x sges w n 1 m
   too-long h = record { status = rw (lt-leb n mostMessage h); memory = refl }
+
+  -- the judgement of the sender's entries, as the code has it
+  pub own-judged : (p : Party) → p ≡ partyIn (e .own) → (b : Bool) → b ≡ allowsAll (card l) p (ownMask o) (ownBy s sges) → b ≡ mine
+  own-judged p who b judged = judged ∙ ap (λ (y : Party). allowsAll (card l) y (ownMask o) (ownBy s sges)) who
 
   pub own-refused : n ≤ mostMessage → mine ≡ false → Delivery l m e s x sges w n 3 m
   own-refused most h = record { status = rw (le-leb n mostMessage most, h); memory = refl }
 
   -- the judgement of the peer's entries, as the code has them
-  module _ (mask : ℕ) (masks : mask ≡ farMask o) (four : List Sge) (count : ℕ) (counts : count ≡ farCount o w) (is : take (farCount o w) four ≡ farList s w n)
-      (b : Bool) (judged : b ≡ allowsAll (card l) (e .far .pd) mask (sgeBytes (take count four))) where
+  module _ (p : Party) (who : p ≡ partyIn (e .far)) (mask : ℕ) (masks : mask ≡ farMask o) (four : List Sge) (count : ℕ) (counts : count ≡ farCount o w) (is : take (farCount o w) four ≡ farList s w n)
+      (b : Bool) (judged : b ≡ allowsAll (card l) p mask (sgeBytes (take count four))) where
     pub far-entries : take count four ≡ farList s w n
     far-entries = ap (λ (j : ℕ). take j four) counts ∙ is
 
     pub far-judged : b ≡ theirs
-    far-judged = judged ∙ ap₂ (λ (y : ℕ) (z : List Sge). allowsAll (card l) (e .far .pd) y (sgeBytes z)) masks far-entries
+    far-judged = judged ∙ ap (λ (y : Party). allowsAll (card l) y mask (sgeBytes (take count four))) who
+        ∙ ap₂ (λ (y : ℕ) (z : List Sge). allowsAll (card l) (partyIn (e .far)) y (sgeBytes z)) masks far-entries
 
   module _ (side : OwnSide (card l) e s sges n) where
     short : leb n mostMessage ≡ true
@@ -117,7 +123,7 @@ module _ (l m : List ℕ) (e : Ends) (s : SendRecord) (x : List ℕ) (sges : Lis
             record {
               size = y .size;
               most = rw f (side .short);
-              target = permitted-mapped-all (card l) (e .far .pd) (farMask o) (sgeBytes list) (rw is z);
-              plain = λ i. (permitted-mapped-all (card l) (e .own .pd) (ownMask o) (sgeBytes (take (s .count) sges)) (rw i at h), (rw i at (y .total)) ∙ sym f);
+              target = permitted-mapped-all (card l) (partyIn (e .far)) (farMask o) (sgeBytes list) (rw is z);
+              plain = λ i. (permitted-mapped-all (card l) (partyIn (e .own)) (ownMask o) (sgeBytes (take (s .count) sges)) (rw i at h), (rw i at (y .total)) ∙ sym f);
               short = λ i. rw f (y .short i);
             }

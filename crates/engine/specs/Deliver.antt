@@ -13,9 +13,11 @@ use Rattle.tables.specs.Layout.{waitingT, receiveT}
 use Rattle.tables.specs.Limits.{mostWaiting, mostMessage, mostInline}
 use Rattle.tables.specs.Records.{isInline, inlineBytes, receiveSges}
 use Rattle.tables.specs.State.{card, noRecord}
+use Rattle.tables.specs.declared.QueuePair.{QueuePair}
 use Rattle.tables.specs.declared.ReceiveRecord.{ReceiveRecord}
 use Rattle.tables.specs.declared.SendRecord.{SendRecord}
 use Rattle.tables.specs.declared.Sge.{Sge}
+use Rattle.rules.specs.declared.Party.{Party}
 use Rattle.rules.specs.Lists.{stored}
 use Rattle.rules.specs.Send.{statusBy}
 use Rattle.rules.specs.Touch.{Byte, takes, fills, reads, sgeBytes, sgeTotal, cut}
@@ -23,7 +25,11 @@ use Rattle.dma.specs.Grants.{allowsAll}
 use Rattle.dma.specs.Moves.{mappedAll, places, moved}
 use Rattle.engine.specs.declared.meet.Ends.{Ends}
 
--- ---- what is touched
+-- ---- whose use it is, and what is touched
+
+-- a queue pair's domain and access flags
+abbrev pub partyIn : QueuePair → Party
+partyIn p = record { pd = p .pd; rights = p .rights }
 
 -- "Oldest receive first": the receive that a request of opcode o takes from queue pair d
 abbrev pub takenRow : List ℕ → (d o : ℕ) → ReceiveRecord
@@ -73,7 +79,7 @@ carried c s x own far m =
 -- step 3 found no fault
 pub record OwnSide (c : Card) (e : Ends) (s : SendRecord) (sges : List Sge) (n : ℕ) : Type 0 where
   pub short : n ≤ mostMessage
-  pub permitted : allowsAll c (e .own .pd) (ownMask (s .opcode)) (ownBy s sges) ≡ true
+  pub permitted : allowsAll c (partyIn (e .own)) (ownMask (s .opcode)) (ownBy s sges) ≡ true
 
 -- what they ask of a message of n bytes
 pub record Sending (s : SendRecord) (x : List ℕ) (sges : List Sge) (n : ℕ) : Type 0 where
@@ -85,8 +91,8 @@ pub record Sending (s : SendRecord) (x : List ℕ) (sges : List Sge) (n : ℕ) :
 -- "Total .. over 4,096: status 1. A local piece not permitted ..: status 3", and the statuses of steps 4 and 5
 abbrev pub statusIn : List ℕ → Ends → SendRecord → List Sge → ReceiveRecord → (n : ℕ) → ℕ
 statusIn l e s sges w n =
-    statusBy (fills (s .opcode)) (leb n mostMessage) (allowsAll (card l) (e .own .pd) (ownMask (s .opcode)) (ownBy s sges))
-    (leb n (sgeTotal (receiveSges w))) (allowsAll (card l) (e .far .pd) (farMask (s .opcode)) (sgeBytes (farList s w n)))
+    statusBy (fills (s .opcode)) (leb n mostMessage) (allowsAll (card l) (partyIn (e .own)) (ownMask (s .opcode)) (ownBy s sges))
+    (leb n (sgeTotal (receiveSges w))) (allowsAll (card l) (partyIn (e .far)) (farMask (s .opcode)) (sgeBytes (farList s w n)))
 
 -- they give the status st and leave the memory m′
 pub record Delivery (l m : List ℕ) (e : Ends) (s : SendRecord) (x : List ℕ) (sges : List Sge) (w : ReceiveRecord) (n st : ℕ) (m′ : List ℕ)

@@ -5,6 +5,8 @@ use crate::meet::Ends;
 use crate::settle;
 use dma::permit;
 use dma::transfer;
+use rules::Party;
+use tables::QueuePair;
 use tables::ReceiveRecord;
 use tables::SendRecord;
 use tables::Sge;
@@ -34,7 +36,8 @@ ghost use Rattle.tables.specs.Records.{isInline, receiveSges};
 ghost use Rattle.rules.specs.Touch.{fills, sgeTotal};
 ghost use Rattle.dma.specs.Grants.{allowsAll};
 ghost use Rattle.dma.specs.Moves.{Ready};
-ghost use Rattle.engine.specs.Deliver.{takenRow, Sending, Delivery, totalBy, ownMask, ownBy, farCount, farList, farMask, Carries, carried, OwnSide};
+ghost use Rattle.rules.specs.declared.Party.{Party};
+ghost use Rattle.engine.specs.Deliver.{partyIn, takenRow, Sending, Delivery, totalBy, ownMask, ownBy, farCount, farList, farMask, Carries, carried, OwnSide};
 
 fn is_inline(s: SendRecord) -> bool
     ensures { λ r. ⌜ r ≡ isInline s ⌝ }
@@ -53,16 +56,26 @@ pub fn total_of(s: SendRecord, sges: [Sge; 4]) -> u64
     permit::sges_total(sges, s.count as usize)
 }
 
+// Whose use of memory a queue pair's is.
+fn party_of(p: QueuePair) -> Party
+    ensures { λ r. ⌜ r ≡ partyIn p ⌝ }
+{
+    Party {
+        pd: p.pd,
+        rights: p.rights,
+    }
+}
+
 // Step 3: whether each byte of the sender's own entries is permitted.
-fn own_permitted(state: &[u8], pd: u8, s: SendRecord, sges: [Sge; 4]) -> bool
+fn own_permitted(state: &[u8], p: Party, s: SendRecord, sges: [Sge; 4]) -> bool
     requires { ⌜ (length (now state) ≡ stateSize) × (isInline s ≡ false → s .count ≤ 4) ⌝ }
-    ensures { λ r. ⌜ r ≡ allowsAll (card (now (state .entry))) pd (ownMask (s .opcode)) (ownBy s sges) ⌝ }
+    ensures { λ r. ⌜ r ≡ allowsAll (card (now (state .entry))) p (ownMask (s .opcode)) (ownBy s sges) ⌝ }
 {
     if is_inline(s) {
         return true;
     }
     let mask = settle::choose(s.opcode == READ, LOCAL_WRITE, 0);
-    permit::sges_permitted(state, pd, mask, sges, s.count as usize)
+    permit::sges_permitted(state, p, mask, sges, s.count as usize)
 }
 
 // Whether a message of n bytes fits the receive that it fills.
@@ -188,7 +201,7 @@ fn deliver_far(
     let far = far_sges(s, w, n);
     let count = far_count(s.opcode, w);
     let mask = far_mask(s.opcode);
-    if !permit::sges_permitted(state, e.far.pd, mask, far, count) {
+    if !permit::sges_permitted(state, party_of(e.far), mask, far, count) {
         return settle::choose(meet::fills_receive(s.opcode), REMOTE_INVALID, REMOTE_ACCESS);
     }
     move_bytes(state, memory, s, sent, sges, far, count);
@@ -213,7 +226,7 @@ pub fn deliver(
     if (MOST_MESSAGE as u64) < total {
         return LOCAL_LENGTH;
     }
-    if !own_permitted(state, e.own.pd, s, sges) {
+    if !own_permitted(state, party_of(e.own), s, sges) {
         return LOCAL_PROTECTION;
     }
     deliver_far(state, memory, e, s, sent, sges, w, total as u32)

@@ -185,6 +185,7 @@ fn fail_if(state: &mut [u8], b: bool, q: usize)
         rcq: p.rcq,
         state: ERROR,
         dest: p.dest,
+        rights: p.rights,
     };
     rows::store_qp(state, q, failed);
 }
