@@ -1,6 +1,7 @@
 -- A run, by the bytes that its calls are given: two domains; writes, a send, inline bytes; a refused command, a refused reset, a hold, a
--- poll, a flush; work requests with the statuses 0, 1, 3, 4, 7 and 8; a region that is dropped under waiting receives, and a write under its
--- key after that; a send and receives posted in error; and a second reset. proofs/Example.antt shows that it is a list of the judge's theorem. Assumes nothing.
+-- poll, a flush; work requests with the statuses 0, 1, 3, 4, 7 and 8; a queue pair that can be read from and not written to; a region that is
+-- dropped under waiting receives, and a write under its key after that; a send and receives posted in error; and a second reset. proofs/Example.antt shows that it is a list of
+-- the judge's theorem. Assumes nothing.
 use mathlib.Core.Bool.{true, false}
 use mathlib.Core.List.{List, [], _∷_, _++_, map}
 use mathlib.Core.Option.{none, some}
@@ -53,11 +54,15 @@ abbrev pub createQp : (pd : ℕ) → Call
 createQp d = command (9 ∷ (four d ++ (2 ∷ 0 ∷ 0 ∷ 0 ∷ []) ++ four 0 ++ four 0))
 
 abbrev pub move : (q state : ℕ) → Call
-move q t = command (10 ∷ (four q ++ four 1 ++ four t ++ four 0))
+move q t = command (10 ∷ (four q ++ four 1 ++ four t ++ four 0 ++ four 0))
+
+-- with its access flags
+abbrev pub allow : (q state flags : ℕ) → Call
+allow q t f = command (10 ∷ (four q ++ four 5 ++ four t ++ four 0 ++ four f))
 
 -- to state 2, with its destination
 abbrev pub aim : (q dest : ℕ) → Call
-aim q d = command (10 ∷ (four q ++ (1 ∷ 128 ∷ 0 ∷ 0 ∷ []) ++ four 2 ++ four d))
+aim q d = command (10 ∷ (four q ++ (1 ∷ 128 ∷ 0 ∷ 0 ∷ []) ++ four 2 ++ four d ++ four 0))
 
 -- queue pair 0 sends: the opcode, the flags, the remote address and key, the inline bytes or those in their place, the count, the pieces
 abbrev pub send : (opcode flags address : ℕ) → (key inline : List ℕ) → (count : ℕ) → (pieces : List ℕ) → Call
@@ -125,7 +130,7 @@ setup =
     done (move 0 1) ∷
     done (aim 0 1) ∷
     done (move 0 3) ∷
-    done (move 1 1) ∷
+    done (allow 1 1 7) ∷
     done (aim 1 0) ∷
     []
 
@@ -156,6 +161,20 @@ failing =
     ++ (fails (send 0 0 200 (keyOf 1) unused 1 (piece 201 (four 2) (keyOf 1))) 3 ∷ again)
     ++ (fails (send 0 0 200 (keyOf 1) unused 1 (piece 101 (1 ∷ 16 ∷ 0 ∷ 0 ∷ []) (keyOf 0))) 1 ∷ again)
 
+-- the peer without access flags: an empty write, and one of two bytes; with the flag of reading: a read, and a write; with that of writing: a
+-- write
+abbrev pub allowing : List Line
+allowing =
+    done (move 1 0) ∷
+    done (move 1 1) ∷
+    done (aim 1 0) ∷
+    passes (send 0 0 200 (keyOf 1) unused 1 (piece 101 (four 0) (keyOf 0))) memory ∷
+    fails (send 0 0 200 (keyOf 1) unused 1 two) 8 ∷
+    again
+    ++ (done (move 1 0) ∷ done (allow 1 1 4) ∷ done (aim 1 0) ∷ passes (send 4 0 200 (keyOf 1) unused 1 two) (1 ∷ 5 ∷ 6 ∷ 4 ∷ 5 ∷ 6 ∷ 7 ∷ 8 ∷ []) ∷
+    fails (send 0 0 200 (keyOf 1) unused 1 two) 8 ∷ again)
+    ++ (done (allow 1 3 2) ∷ passes (send 0 0 200 (keyOf 1) unused 1 two) (1 ∷ 2 ∷ 3 ∷ 4 ∷ 2 ∷ 3 ∷ 7 ∷ 8 ∷ []) ∷ [])
+
 -- the peer's region is dropped while two receives wait for its bytes: the first is consumed in vain, and both queue pairs are in error. There a
 -- send is flushed, a third receive waits behind the second, both are flushed, and the fourth is flushed at once. Nor is the key one that can be
 -- written under.
@@ -171,14 +190,14 @@ dropping =
     done (Call.flush 1) ∷
     flushed (receive 200 4) ∷
     again
-    ++ (done (move 1 0) ∷ done (move 1 1) ∷ done (aim 1 0) ∷ fails (send 0 0 200 (keyOf 1) unused 1 two) 8 ∷ done poll ∷ [])
+    ++ (done (move 1 0) ∷ done (allow 1 1 7) ∷ done (aim 1 0) ∷ fails (send 0 0 200 (keyOf 1) unused 1 two) 8 ∷ done poll ∷ [])
 
 -- after a reset nothing is there
 abbrev pub ending : List Line
 ending = done (Call.reset 8) ∷ plain (Call.flush 1) (Refused 2) ∷ []
 
 abbrev pub run : List Line
-run = setup ++ delivering ++ failing ++ dropping ++ ending
+run = setup ++ delivering ++ failing ++ allowing ++ dropping ++ ending
 
 -- A reset over eight bytes of memory and the run after it, on any state that has its length.
 abbrev pub Example : (l : List ℕ) → Type 0

@@ -29,7 +29,7 @@ use Rattle.rules.specs.declared.Answer.the-variants.{Done}
 use Rattle.rules.proofs.Tests.{passed-before, passed-after}
 use Rattle.rules.proofs.Variants.{slot-free}
 use Rattle.judge.specs.Log.{Log, PairNote, noteCommand, fed, ackData, Note}
-use Rattle.judge.specs.Judge.{Standing, standing, told, domain, peer, accepted, taken, toldOfBoth, errored}
+use Rattle.judge.specs.Judge.{Standing, standing, told, domain, peer, accepted, taken, toldOfBoth, errored, rights}
 use Rattle.judge.specs.Distinct.{handed, Distinct}
 use Rattle.judge.specs.Dropped.{dropped}
 use Rattle.judge.proofs.Acks.{ack-back}
@@ -51,7 +51,7 @@ Agree c l = Agreed (c .memory) (c .mr) (c .qp) (standing l) (dropped l) (handed 
 
 module _ (c : Card) (l : Log) (a : Agree c l) where
   command : (k : Command) → Passed (commandChecks c k) → Agree (commandEffect c k) (noteCommand k (numbersOf (commandAck c k)) ∷ l)
-  unfolding commandChecks commandEffect commandAck standing dropped handed Distinct told domain peer accepted taken toldOfBoth errored
+  unfolding commandChecks commandEffect commandAck standing dropped handed Distinct told domain peer accepted taken toldOfBoth errored rights
   command Command.queryDevice p = a
   command Command.queryPort p = a
   command (Command.createCq n) p = a
@@ -83,7 +83,7 @@ module _ (c : Card) (l : Log) (a : Agree c l) where
       record { keys = a .keys; pairs = split q _ (rw same (λ e. absurd (false≢true e))) (λ j e. rw e (a .pairs j)) }
 
 pub start : (n : ℕ) → Agree (fresh n) []
-unfolding standing dropped handed Distinct told domain peer accepted taken toldOfBoth errored
+unfolding standing dropped handed Distinct told domain peer accepted taken toldOfBoth errored rights
 start n =
     record {
       keys = record {
@@ -246,7 +246,7 @@ posted-agrees c q w l a = record { keys = go (flushesAtOnce c q); pairs = posted
 -- ---- every accepted call
 
 pub accepted-call : (c : Card) (k : Call) (l : Log) → Passed (checks c k) → Agree c l → Agree (effect c k) (fed l k (Done (statusOf c k)) (bufferAfter c k))
-unfolding checks controlChecks flushChecks effect sendEffect flushed polled statusOf bufferAfter fed standing dropped handed Distinct told domain peer accepted taken toldOfBoth errored
+unfolding checks controlChecks flushChecks effect sendEffect flushed polled statusOf bufferAfter fed standing dropped handed Distinct told domain peer accepted taken toldOfBoth errored rights
 accepted-call c (Call.reset n) l p a = start n
 accepted-call c (Call.control k b) l p a =
     known (commandOf k) (passed-after (controlChecks k b) (maybe [] (commandChecks c) (commandOf k)) p)

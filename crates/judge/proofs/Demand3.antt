@@ -11,7 +11,7 @@ use Rattle.tables.specs.Limits.{mostMessage, qpCount}
 use Rattle.tables.specs.Card.{Card, Receive}
 use Rattle.rules.specs.Lists.{isSome, orElse, stored}
 use Rattle.rules.specs.Touch.{Request, Byte, fills, total, sgeTotal, ownBytes, farBytes, message, delivered}
-use Rattle.rules.specs.Permit.{Use, permits, permitsAll, place}
+use Rattle.rules.specs.Permit.{Use, permits, permitsAll, place, partyOf}
 use Rattle.rules.specs.Send.{peerOf, takenBy, isInError, ownUse, farUse, statusBy, runStatus, sendStatus, sendMemory}
 use Rattle.judge.specs.Log.{Log}
 use Rattle.judge.specs.Judge.{Right, passes, placed, party, peer, waiting, errored, standing, Work, Source, filled, farRight, near, far, allPass, fitsReceive, nearPasses, farPasses, judge, readSide, writtenSide, sources, valueOf, judgedMemory}
@@ -68,7 +68,9 @@ module _ (c : Card) (l : Log) (a : Agree c l) where
   same-passes : (q : ℕ) (u : Use) → c .qp q .live ≡ true → passes l (party l (some q)) (needs-right u) ≡ permits c q u
   unfolding passes permits
   same-passes q u h =
-      fun-ext (λ b. rw (a .pairs q h .domain) (Keys.same-covers (c .memory) (c .mr) (standing l) (dropped l) (handed l) (Distinct l) (a .keys) (b .key) (c .qp q .pd) u (b .address)))
+      let k = a .pairs q h in
+      fun-ext (λ b. rw (k .domain, k .rights)
+      (Keys.same-covers (c .memory) (c .mr) (standing l) (dropped l) (handed l) (Distinct l) (a .keys) (b .key) (partyOf c q) u (b .address)))
 
   pub same-place : placed l ≡ place c
   unfolding placed place

@@ -1,5 +1,5 @@
--- A run, computed from the bytes of its calls: a write, a hold, a receive, a send, a read and a failed write, then work posted in error, each
--- with its answer, the memory after it, and the judge's verdict; and the records' layouts by literal bytes. Assumes nothing.
+-- Runs, computed from the bytes of their calls: a write, a hold, a receive, a send, a read and a failed write, then work posted in error, each
+-- with its answer, the memory after it, and the judge's verdict; what a queue pair's access flags open; and the records' layouts by literal bytes. Assumes nothing.
 use mathlib.Core.Path.{_≡_, refl}
 use mathlib.Core.Bool.{Bool, true, false, not}
 use mathlib.Core.List.{List, [], _∷_, _++_}
@@ -24,7 +24,7 @@ use Rattle.rules.specs.Queues.{joinChecks, joinStatus, joinPuts, joined, receiv
 use Rattle.rules.specs.Call.{Call}
 use Rattle.rules.specs.Calls.{checks, resetChecks, controlChecks, bufferChecks, statusOf, effect, memoryAfter, bufferAfter, step}
 use Rattle.judge.specs.Log.{Log, fed, ackData}
-use Rattle.judge.specs.Judge.{flushesAtOnce, judge, nearPasses, farPasses, near, far, passes, filled, waiting, standing, told, toldOfBoth, domain, peer, accepted, taken, errored}
+use Rattle.judge.specs.Judge.{flushesAtOnce, judge, nearPasses, farPasses, near, far, passes, filled, waiting, standing, told, toldOfBoth, domain, peer, accepted, taken, errored, rights}
 
 abbrev mem : List ℕ
 mem = 1 ∷ 2 ∷ 3 ∷ 4 ∷ 5 ∷ 6 ∷ 7 ∷ 8 ∷ []
@@ -38,8 +38,10 @@ control k = Call.control k (replicate 13 9)
 abbrev registered : (start virt : ℕ) → Call
 registered s v = control (encode registerCodec (command 7 32) 2 (record { pd = 0; access = 7; start = s; length = 4; virt = v }))
 
-abbrev modified : (q mask state dest : ℕ) → Call
-modified q k t d = control (encode modifyQpCodec (command 10 16) 2 (record { qpn = q; mask = k; state = t; pad0 = 0; pad1 = 0; pad2 = 0; dest = d }))
+abbrev modified : (q mask state dest flags : ℕ) → Call
+modified q k t d f =
+    control
+    (encode modifyQpCodec (command 10 20) 2 (record { qpn = q; mask = k; state = t; pad0 = 0; pad1 = 0; pad2 = 0; dest = d; flags = f }))
 
 abbrev created : Call
 created = control (encode createQpCodec (command 9 16) 2 (record { pd = 0; kind = 2; signal = 0; scq = 0; rcq = 0 }))
@@ -59,21 +61,25 @@ waited q =
     (encode receiveCodec (replicate 40 0) 0
     (record { wr = 9; count = 1; first = record { address = 4097; length = 3; key = 257 }; second = record { address = 0; length = 0; key = 0 } }))
 
--- a domain, a completion queue, two regions of 4 bytes with the keys 1 and 257, and two queue pairs that are joined
-abbrev setup : List Call
-setup =
+-- a domain, a completion queue, two regions of 4 bytes with the keys 1 and 257, and two queue pairs that are joined, each with its flags
+abbrev opened : (own far : ℕ) → List Call
+opened a b =
     control (command 4 0) ∷
     control (encode numberCodec (command 2 4) 2 8) ∷
     registered 0 100 ∷
     registered 4 4096 ∷
     created ∷
     created ∷
-    modified 0 1 1 0 ∷
-    modified 0 32769 2 1 ∷
-    modified 0 1 3 0 ∷
-    modified 1 1 1 0 ∷
-    modified 1 32769 2 0 ∷
+    modified 0 5 1 0 a ∷
+    modified 0 32769 2 1 0 ∷
+    modified 0 1 3 0 0 ∷
+    modified 1 5 1 0 b ∷
+    modified 1 32769 2 0 0 ∷
     []
+
+-- the peer may be written to and read from
+abbrev setup : List Call
+setup = opened 0 7
 
 -- the judge's verdict on a work request, and on a receive whether it waits
 abbrev says : Log → Call → Bool
@@ -112,8 +118,30 @@ pub works : drop 11 (run (fresh 8) [] (setup ++ (posted 0 257 ∷ posted 2 0 ∷
     ∷ (Held Place, (1 ∷ 2 ∷ 3 ∷ 4 ∷ 5 ∷ 6 ∷ 7 ∷ 8 ∷ [], false))
     ∷ (Held Place, ([], false))
     ∷ []
-unfolding run fieldsAt putFields leAt putLe rows rowsFrom lowest lowestFrom anyBelow commandOf dataSize ackNeed numberCodec registerCodec createQpCodec modifyQpCodec sendCodec sgeCodec receiveCodec completionCodec sendChecks receiveChecks receiveSges receiveOf sendSge inlineBytes inlineLength all stored requestOf receiveIn range sgeBytes sgeTotal total ownBytes farBytes byteOf message delivered permits permitsAll place lookup covers commandChecks commandAck commandEffect pairChecks readyChecks placeChecks holdChecks deliveryChecks runStatus sendStatus sendPuts putAll sendQps sendEffect sendMemory joinChecks joinStatus joinPuts joined received flushChecks flushed pollChecks polled checks resetChecks controlChecks bufferChecks statusOf effect memoryAfter bufferAfter step fed ackData judge nearPasses farPasses near far passes filled waiting standing told toldOfBoth domain peer accepted taken errored
+unfolding run fieldsAt putFields leAt putLe rows rowsFrom lowest lowestFrom anyBelow commandOf dataSize ackNeed numberCodec registerCodec createQpCodec modifyQpCodec sendCodec sgeCodec receiveCodec completionCodec sendChecks receiveChecks receiveSges receiveOf sendSge inlineBytes inlineLength all stored requestOf receiveIn range sgeBytes sgeTotal total ownBytes farBytes byteOf message delivered permits permitsAll place lookup covers commandChecks commandAck commandEffect pairChecks readyChecks placeChecks holdChecks deliveryChecks runStatus sendStatus sendPuts putAll sendQps sendEffect sendMemory joinChecks joinStatus joinPuts joined received flushChecks flushed pollChecks polled checks resetChecks controlChecks bufferChecks statusOf effect memoryAfter bufferAfter step fed ackData judge nearPasses farPasses near far passes filled waiting standing told toldOfBoth domain peer accepted taken errored rights
 works = refl
+
+-- ---- what a queue pair's access flags open
+
+-- what the calls after a setup show
+abbrev shown : List Call → List (Answer × (List ℕ × Bool))
+shown ks = drop 11 (run (fresh 8) [] ks)
+
+-- a peer that can be read from and not written to: a read, and a write
+pub readable : shown (opened 0 4 ++ (posted 4 257 ∷ posted 0 257 ∷ []))
+    ≡ (Done 0, (1 ∷ 5 ∷ 6 ∷ 4 ∷ 5 ∷ 6 ∷ 7 ∷ 8 ∷ [], true)) ∷ (Done 8, (1 ∷ 2 ∷ 3 ∷ 4 ∷ 5 ∷ 6 ∷ 7 ∷ 8 ∷ [], false)) ∷ []
+unfolding run fieldsAt putFields leAt putLe rows rowsFrom lowest lowestFrom anyBelow commandOf dataSize ackNeed numberCodec registerCodec createQpCodec modifyQpCodec sendCodec sgeCodec receiveCodec completionCodec sendChecks receiveChecks receiveSges receiveOf sendSge inlineBytes inlineLength all stored requestOf receiveIn range sgeBytes sgeTotal total ownBytes farBytes byteOf message delivered permits permitsAll place lookup covers commandChecks commandAck commandEffect deliveryChecks sendStatus sendPuts putAll sendQps sendEffect sendMemory joinChecks joined flushChecks flushed pollChecks polled checks resetChecks controlChecks bufferChecks statusOf effect memoryAfter bufferAfter step fed ackData judge nearPasses farPasses near far passes filled waiting standing told domain rights peer accepted taken
+readable = refl
+
+-- set anew with bit 2, kept without it, and gone after a move to 0, even one with bit 2; the sender's flags do not count
+pub writable : shown (opened 7 0 ++ (modified 1 5 3 0 2 ∷ posted 0 257 ∷ modified 1 5 0 0 7 ∷ modified 1 1 1 0 7 ∷ modified 1 32769 2 0 7 ∷ posted 0 257 ∷ []))
+    ≡ (Done 0, ([], true))
+    ∷ (Done 0, (1 ∷ 2 ∷ 3 ∷ 4 ∷ 2 ∷ 3 ∷ 7 ∷ 8 ∷ [], true))
+    ∷ (Done 0, ([], true)) ∷ (Done 0, ([], true)) ∷ (Done 0, ([], true))
+    ∷ (Done 8, (1 ∷ 2 ∷ 3 ∷ 4 ∷ 5 ∷ 6 ∷ 7 ∷ 8 ∷ [], false))
+    ∷ []
+unfolding run fieldsAt putFields leAt putLe rows rowsFrom lowest lowestFrom anyBelow commandOf dataSize ackNeed numberCodec registerCodec createQpCodec modifyQpCodec sendCodec sgeCodec receiveCodec completionCodec sendChecks receiveChecks receiveSges receiveOf sendSge inlineBytes inlineLength all stored requestOf receiveIn range sgeBytes sgeTotal total ownBytes farBytes byteOf message delivered permits permitsAll place lookup covers commandChecks commandAck commandEffect deliveryChecks sendStatus sendPuts putAll sendQps sendEffect sendMemory joinChecks joined flushChecks flushed pollChecks polled checks resetChecks controlChecks bufferChecks statusOf effect memoryAfter bufferAfter step fed ackData judge nearPasses farPasses near far passes filled waiting standing told domain rights peer accepted taken
+writable = refl
 
 -- ---- what calls leave in their buffers, byte by byte
 

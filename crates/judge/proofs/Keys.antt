@@ -14,11 +14,12 @@ use Rattle.tables.specs.Card.{Mr, freeMr}
 use Rattle.tables.specs.declared.Registration.{Registration}
 use Rattle.rules.specs.Lists.{names}
 use Rattle.rules.specs.Touch.{byteOf}
+use Rattle.rules.specs.declared.Party as rules
 use Rattle.rules.specs.Permit.{keyOf, lookup, covers, placeIn, Use}
 use Rattle.validate.specs.Search.{lastVariant}
 use Rattle.rules.proofs.Variants.{slot}
-use Rattle.judge.specs.Judge.{Standing, Party, Right, grants, unless, passesBy, placeBy}
-use Rattle.judge.proofs.Rights.{needs-right, same-right}
+use Rattle.judge.specs.Judge.{Standing, Party, Right, grants, unless, passesBy, placeBy, opens}
+use Rattle.judge.proofs.Rights.{needs-right, same-right, same-opens}
 
 -- every address of the region means a byte of a memory of length n, and is below 2^64
 abbrev pub Sits : (n : ℕ) → Registration → (a : ℕ) → Type 0
@@ -167,16 +168,17 @@ module _ (n : ℕ) (mr : ℕ → Mr) (st : ℕ → Option Standing) (dr hd : ℕ
 -- ---- what a key permits
 
 module _ (n : ℕ) (mr : ℕ → Mr) (st : ℕ → Option Standing) (dr hd : ℕ → Bool) (D : Type 0) (agree : Keys n mr st dr hd D) where
-  pub same-covers : (k pd : ℕ) (u : Use) (a : ℕ) → passesBy (st k) (record { domain = some pd }) (needs-right u) a ≡ covers (lookup mr k) pd u a
+  pub same-covers : (k : ℕ) (p : rules.Party) (u : Use) (a : ℕ) →
+      passesBy (st k) (record { domain = some (p .pd); rights = p .rights }) (needs-right u) a ≡ covers (lookup mr k) p u a
   unfolding lookup covers
-  same-covers k pd u a = rw (← agree .finds k) (go (mr (k / 256) .live && eqb (keyOf (k / 256) (mr (k / 256) .variant)) k))
+  same-covers k p u a = rw (← agree .finds k) (go (mr (k / 256) .live && eqb (keyOf (k / 256) (mr (k / 256) .variant)) k))
     where
       s : Mr
       s = mr (k / 256)
 
-      go : (b : Bool) → passesBy (cond b (some (record { mrn = k / 256; reg = s .reg })) none) (record { domain = some pd }) (needs-right u) a
-          ≡ covers (cond b (some (s .reg)) none) pd u a
-      go true = rw (same-right u (s .reg .access), eqb-sym pd (s .reg .pd))
+      go : (b : Bool) → passesBy (cond b (some (record { mrn = k / 256; reg = s .reg })) none)
+          (record { domain = some (p .pd); rights = p .rights }) (needs-right u) a ≡ covers (cond b (some (s .reg)) none) p u a
+      go true = rw (same-right u (s .reg .access), same-opens u (p .rights), eqb-sym (p .pd) (s .reg .pd))
       go false = refl
 
   pub same-place : (k a : ℕ) → placeBy (st k) a ≡ placeIn (lookup mr k) a
@@ -206,7 +208,7 @@ module _ (n : ℕ) (mr : ℕ → Mr) (st : ℕ → Option Standing) (dr hd : ℕ
 placed-inside : (n : ℕ) (h : Standing) (p : Party) (u : Right) (a : ℕ) → Inside n (h .reg) → passesBy (some h) p u a ≡ true →
     (placeBy (some h) a < n) × (a < 2 ^ 64)
 placed-inside n h p u a f e =
-    let t : Bool = names (p .domain) (h .reg .pd) && grants (h .reg .access) u in
+    let t : Bool = names (p .domain) (h .reg .pd) && grants (h .reg .access) u && opens (p .rights) u in
     let v : Bool = leb (h .reg .virt) a in
     let w : Bool = ltb a (h .reg .virt + h .reg .length) in
     f a (leb-true (h .reg .virt) a (and-right t v (and-left (t && v) w e))) (ltb-true a (h .reg .virt + h .reg .length) (and-right (t && v) w e))

@@ -1,4 +1,4 @@
--- The queue pair table against the log: the domain, the peer, the waiting receives and the error of each live queue pair. Assumes nothing.
+-- The queue pair table against the log: the domain, the flags, the peer, the waiting receives and the error of each live queue pair. Assumes nothing.
 use mathlib.Core.Path.{_≡_, refl, sym, ap, _∙_}
 use mathlib.Core.Bool.{Bool, true, false, cond, not, _&&_, _||_, false≢true}
 use mathlib.Core.List.{List, [], _∷_, _++_}
@@ -15,8 +15,11 @@ use Rattle.tables.specs.declared.ModifyQp.{ModifyQp}
 use Rattle.rules.specs.Lists.{isSome, isEmpty, when}
 use Rattle.rules.specs.Touch.{Request, takes}
 use Rattle.rules.specs.Send.{errorIf, consumeIf, consumes, fails, isInError}
+use Rattle.rules.specs.Permit.{Use}
+use Rattle.rules.specs.Control.{rightsAfter}
 use Rattle.judge.specs.Log.{Log, PairNote}
-use Rattle.judge.specs.Judge.{domain, domainBy, peer, peerBy, accepted, acceptedBy, taken, takenBy, errored, erroredBy}
+use Rattle.judge.specs.Judge.{domain, domainBy, rights, rightsBy, peer, peerBy, accepted, acceptedBy, taken, takenBy, errored, erroredBy}
+use Rattle.judge.proofs.Rights.{same-right}
 
 pub and-false : (b : Bool) → b && false ≡ false
 and-false true = refl
@@ -29,19 +32,21 @@ and-true false = refl
 -- all that the log says of one queue pair
 pub record Said : Type 0 where
   pub domain : Option ℕ
+  pub rights : ℕ
   pub peer : Option ℕ
   pub accepted : List Receive
   pub taken : ℕ
   pub errored : Bool
 
 abbrev pub said : Log → ℕ → Said
-said l q = record { domain = domain l q; peer = peer l q; accepted = accepted l q; taken = taken l q; errored = errored l q }
+said l q = record { domain = domain l q; rights = rights l q; peer = peer l q; accepted = accepted l q; taken = taken l q; errored = errored l q }
 
 -- the same after one note more, its own or one of a queue pair whose peer it then was
 abbrev pub saidBy : PairNote → (own named : Bool) → Said → Said
 saidBy n own named v =
     record {
       domain = when own (domainBy n) (v .domain);
+      rights = when own (rightsBy n) (v .rights);
       peer = when own (peerBy n) (v .peer);
       accepted = when own (acceptedBy n) (v .accepted);
       taken = takenBy n own named (v .taken);
@@ -49,26 +54,28 @@ saidBy n own named v =
     }
 
 -- the fields of a live queue pair agree with it
-pub record Knows (pd : ℕ) (dest : Option ℕ) (ws : List Receive) (error : Bool) (v : Said) : Type 0 where
+pub record Knows (pd f : ℕ) (dest : Option ℕ) (ws : List Receive) (error : Bool) (v : Said) : Type 0 where
   pub domain : v .domain ≡ some pd
+  pub rights : v .rights ≡ f
   pub peer : isSome dest ≡ true → v .peer ≡ dest
   pub waits : ws ≡ drop (v .taken) (v .accepted)
   pub within : v .taken ≤ length (v .accepted)
   pub errs : error ≡ v .errored
 
 abbrev pub Pair : Qp → Said → Type 0
-Pair s v = s .live ≡ true → Knows (s .pd) (s .dest) (s .waiting) (isInError s) v
+Pair s v = s .live ≡ true → Knows (s .pd) (s .rights) (s .dest) (s .waiting) (isInError s) v
 
 -- a queue pair is created
-pub begins : (r : CreateQp) (named : Bool) (v : Said) → Knows (r .pd) none [] false (saidBy (PairNote.created r) true named v)
-begins r named v = record { domain = refl; peer = λ h. absurd (false≢true h); waits = refl; within = omega arith; errs = refl }
+pub begins : (r : CreateQp) (named : Bool) (v : Said) → Knows (r .pd) 0 none [] false (saidBy (PairNote.created r) true named v)
+begins r named v = record { domain = refl; rights = refl; peer = λ h. absurd (false≢true h); waits = refl; within = omega arith; errs = refl }
 
 -- a receive joins
-pub joins : {p : ℕ} {d : Option ℕ} {ws : List Receive} {b : Bool} {v : Said} (w : Receive) (named : Bool) → Knows p d ws b v →
-    Knows p d (ws ++ (w ∷ [])) b (saidBy (PairNote.posted w 0) true named v)
+pub joins : {p f : ℕ} {d : Option ℕ} {ws : List Receive} {b : Bool} {v : Said} (w : Receive) (named : Bool) → Knows p f d ws b v →
+    Knows p f d (ws ++ (w ∷ [])) b (saidBy (PairNote.posted w 0) true named v)
 joins {v} w named k =
     record {
       domain = k .domain;
+      rights = k .rights;
       peer = k .peer;
       waits = rw (drop-append-le (v .taken) (v .accepted) (w ∷ []) (k .within)) (ap (λ x. x ++ (w ∷ [])) (k .waits));
       within = omega (arith, length-append (v .accepted) (w ∷ []), k .within);
@@ -88,7 +95,7 @@ drop-some (suc n) [] e = absurd (false≢true (sym e))
 drop-some (suc n) (x ∷ xs) e = omega (arith, drop-some n xs e)
 
 abbrev pub took : Bool → Said → Said
-took b v = record { domain = v .domain; peer = v .peer; accepted = v .accepted; taken = cond b (suc (v .taken)) (v .taken); errored = v .errored }
+took b v = record { domain = v .domain; rights = v .rights; peer = v .peer; accepted = v .accepted; taken = cond b (suc (v .taken)) (v .taken); errored = v .errored }
 
 pub said-flush : (own named : Bool) (v : Said) → took own v ≡ saidBy PairNote.flushed own named v
 said-flush true named v = refl
@@ -114,10 +121,11 @@ said-flushed r true named v h =
 said-flushed r false named v h = rw (and-false (takes (r .opcode)), and-false named)
 
 -- the oldest receive leaves
-leaves : {p : ℕ} {d : Option ℕ} {ws : List Receive} {b : Bool} {v : Said} → isEmpty ws ≡ false → Knows p d ws b v → Knows p d (tail ws) b (took true v)
+leaves : {p f : ℕ} {d : Option ℕ} {ws : List Receive} {b : Bool} {v : Said} → isEmpty ws ≡ false → Knows p f d ws b v → Knows p f d (tail ws) b (took true v)
 leaves {v} h k =
     record {
       domain = k .domain;
+      rights = k .rights;
       peer = k .peer;
       waits = ap tail (k .waits) ∙ sym (drop-more (v .taken) (v .accepted));
       within = drop-some (v .taken) (v .accepted) (rw (← k .waits) h);
@@ -125,12 +133,13 @@ leaves {v} h k =
     }
 
 -- a move, over the tests that its state is 0 and that it is 2
-pub moves : {p : ℕ} {o : Option ℕ} {ws : List Receive} {b : Bool} {v : Said} (r : ModifyQp) (named : Bool) → Knows p o ws b v →
-    Knows p (cond (eqb (r .state) 0) none (cond (eqb (r .state) 2) (some (r .dest)) o)) (cond (eqb (r .state) 0) [] ws)
+pub moves : {p f : ℕ} {o : Option ℕ} {ws : List Receive} {b : Bool} {v : Said} (r : ModifyQp) (named : Bool) → Knows p f o ws b v →
+    Knows p (rightsAfter f r) (cond (eqb (r .state) 0) none (cond (eqb (r .state) 2) (some (r .dest)) o)) (cond (eqb (r .state) 0) [] ws)
     (eqb (r .state) 6) (saidBy (PairNote.changed r) true named v)
 moves {o} {ws} {v} r named k =
     record {
       domain = k .domain;
+      rights = rw (same-right Use.remoteRead (r .mask), k .rights);
       peer = peer (eqb (r .state) 0) (eqb (r .state) 2);
       waits = waits (eqb (r .state) 0);
       within = within (eqb (r .state) 0);

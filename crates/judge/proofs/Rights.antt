@@ -9,9 +9,10 @@ use lib.Bits.{bitAnd, and-mask, and-step}
 use lib.Dec.{eqb}
 use borrow.Author.Tests.{eq-eqb, ne-eqb}
 use Rattle.rules.specs.Permit.{Use, granted}
+use Rattle.rules.specs.Permit as rules
 use Rattle.rules.specs.Touch.{fills}
 use Rattle.rules.specs.Send.{ownUse, farUse}
-use Rattle.judge.specs.Judge.{Right, grants, ownRight, farRight}
+use Rattle.judge.specs.Judge.{Right, grants, opens, ownRight, farRight}
 
 -- the right that a use needs
 abbrev pub needs-right : Use → Right
@@ -45,6 +46,13 @@ same-right Use.localRead a = refl
 same-right Use.localWrite a = sym (one-bit (bitAnd a 1) (a % 2) 0 (omega arith) (and-1 a ∙ omega arith))
 same-right Use.remoteWrite a = sym (one-bit (bitAnd a 2) (a / 2 % 2) 1 (omega arith) (and-2 a))
 same-right Use.remoteRead a = sym (one-bit (bitAnd a 4) (a / 4 % 2) 3 (omega arith) (and-4 a))
+
+-- and its reading of a queue pair's flags is theirs
+pub same-opens : (u : Use) (f : ℕ) → opens f (needs-right u) ≡ rules.opens u f
+same-opens Use.localRead f = refl
+same-opens Use.localWrite f = refl
+same-opens Use.remoteWrite f = same-right Use.remoteWrite f
+same-opens Use.remoteRead f = same-right Use.remoteRead f
 
 -- the uses of each opcode
 pub own-right : (o : ℕ) → ownRight o ≡ needs-right (ownUse o)

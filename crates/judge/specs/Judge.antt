@@ -66,6 +66,18 @@ peerBy (PairNote.sent r s) o = o
 unfoldable pub peer : Log → (q : ℕ) → Option ℕ
 peer l q = told peerBy none l q
 
+-- 02, M-104: "Demand 3 takes the flags from the log": 0 at its creation and after a move to 0, else those of its latest modify with mask bit 2
+-- since then
+abbrev pub rightsBy : PairNote → ℕ → ℕ
+rightsBy (PairNote.created r) f = 0
+rightsBy (PairNote.changed r) f = cond (eqb (r .state) 0) 0 (cond (eqb (r .mask / 4 % 2) 1) (r .flags) f)
+rightsBy (PairNote.posted w s) f = f
+rightsBy PairNote.flushed f = f
+rightsBy (PairNote.sent r s) f = f
+
+unfoldable pub rights : Log → (q : ℕ) → ℕ
+rights l q = told rightsBy 0 l q
+
 -- what its own notes and those of the queue pairs whose peer it then was tell: own says that a note is its own, named that it is one of the others
 unfoldable pub toldOfBoth : {A : Type 0} → (f : PairNote → (own named : Bool) → A → A) → (a : A) → Log → (q : ℕ) → A
 toldOfBoth f a [] q = a
@@ -130,20 +142,30 @@ grants a local-write = eqb (a % 2) 1
 grants a remote-write = eqb (a / 2 % 2) 1
 grants a remote-read = eqb (a / 4 % 2) 1
 
--- whose use it is: a queue pair's, by the domain that it was created in
+-- 02, M-104: "Each byte of a remote write or read needs the right in the region and in the peer's flags .. local uses only at the region"
+abbrev pub opens : (rights : ℕ) → Right → Bool
+opens f none-needed = true
+opens f local-write = true
+opens f remote-write = grants f remote-write
+opens f remote-read = grants f remote-read
+
+-- whose use it is: a queue pair's, by the domain that it was created in and its access flags
 pub record Party : Type 0 where
   pub domain : Option ℕ
+  pub rights : ℕ
 
 -- the party of a queue pair; where there is none it has no domain, and no byte passes for it
 abbrev pub party : Log → Option ℕ → Party
-party l none = record { domain = none }
-party l (some q) = record { domain = domain l q }
+party l none = record { domain = none; rights = 0 }
+party l (some q) = record { domain = domain l q; rights = rights l q }
 
--- "A byte passes if its key's registration stands, names the QP's domain, grants the use and has virt ≤ address < virt + length."
+-- "A byte passes if its key's registration stands, names the QP's domain, grants the use and has virt ≤ address < virt + length", and the
+-- party's flags open the use
 abbrev pub passesBy : Option Standing → Party → Right → (a : ℕ) → Bool
 passesBy none p u a = false
 passesBy (some h) p u a =
-    names (p .domain) (h .reg .pd) && grants (h .reg .access) u && leb (h .reg .virt) a && ltb a (h .reg .virt + h .reg .length)
+    names (p .domain) (h .reg .pd) && grants (h .reg .access) u && opens (p .rights) u
+    && leb (h .reg .virt) a && ltb a (h .reg .virt + h .reg .length)
 
 unfoldable pub passes : Log → Party → Right → Byte → Bool
 passes l p u b = passesBy (standing l (b .key)) p u (b .address)
