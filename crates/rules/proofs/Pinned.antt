@@ -67,7 +67,7 @@ into ps = record { wr = 0; sges = ps }
 
 -- a move of a queue pair
 abbrev move : (q mask state dest : ℕ) → Command
-move q k t d = Command.modifyQp (record { qpn = q; mask = k; state = t; pad0 = 0; pad1 = 0; pad2 = 0; dest = d })
+move q k t d = Command.modifyQp (record { qpn = q; mask = k; state = t; pad0 = 0; pad1 = 0; pad2 = 0; dest = d; flags = 0 })
 
 -- the platform with a second domain, in which a region of 100 bytes has the key 257 and queue pair 1 is joined with queue pair 0
 abbrev pair : Card
@@ -75,7 +75,7 @@ pair =
     after platform
     (Command.createPd ∷ Command.register (record { pd = 1; access = 7; start = 0; length = 100; virt = 4096 }) ∷
     Command.createQp (record { pd = 1; kind = 2; signal = 0; scq = 0; rcq = 0 }) ∷
-    move 0 1 1 0 ∷ move 0 32769 2 1 ∷ move 0 1 3 0 ∷ move 1 1 1 0 ∷ move 1 32769 2 0 ∷ [])
+    move 0 32769 2 1 ∷ move 0 1 3 0 ∷ move 1 1 1 0 ∷ move 1 32769 2 0 ∷ [])
 
 -- it, with a receive of 100 bytes under the key
 abbrev waits : (key : ℕ) → Card
