@@ -46,7 +46,8 @@ enum {
     LESUNGKAP_MODIFY_QP_STATE_AT = LESUNGKAP_COMMAND_DATA_AT + 8,
     LESUNGKAP_MODIFY_QP_ZERO_AT = LESUNGKAP_COMMAND_DATA_AT + 9,
     LESUNGKAP_MODIFY_QP_DESTINATION_AT = LESUNGKAP_COMMAND_DATA_AT + 12,
-    LESUNGKAP_MODIFY_QP_BYTES = LESUNGKAP_COMMAND_DATA_AT + 16,
+    LESUNGKAP_MODIFY_QP_ACCESS_FLAGS_AT = LESUNGKAP_COMMAND_DATA_AT + 16,
+    LESUNGKAP_MODIFY_QP_BYTES = LESUNGKAP_COMMAND_DATA_AT + 20, /* whatever the mask */
 
     LESUNGKAP_COMMAND_MOST_BYTES = LESUNGKAP_REGISTER_MR_BYTES
 };
@@ -176,14 +177,15 @@ struct lesungkap_create_qp_ack {
 };
 
 /* BAD_FIELD: another mask bit, LESUNGKAP_MASK_STATE not set, no such state, zero not 0, LESUNGKAP_MASK_DESTINATION set with another state
- * than LESUNGKAP_QP_RTR or not with it, and with it a destination past the table or the queue pair itself; it need not be live. NOT_LIVE.
- * WRONG_STATE: no such move. */
+ * than LESUNGKAP_QP_RTR or not with it, and with it a destination past the table or the queue pair itself; it need not be live; with
+ * LESUNGKAP_MASK_ACCESS_FLAGS, in any state, another bit than those of a region's access. NOT_LIVE. WRONG_STATE: no such move. */
 struct lesungkap_modify_qp {
     uint32_t qpn;
     uint32_t mask;
     uint8_t state;
     uint8_t zero[3];
-    uint32_t destination; /* looked at with LESUNGKAP_MASK_DESTINATION only */
+    uint32_t destination;  /* looked at with LESUNGKAP_MASK_DESTINATION only */
+    uint32_t access_flags; /* looked at with LESUNGKAP_MASK_ACCESS_FLAGS only; without it they stay. LESUNGKAP_QP_RESET makes them 0 in any case */
 };
 
 /* NOT_LIVE. Its waiting receives are dropped; its completions stay in their queues, and others keep its number as destination. */
@@ -366,6 +368,7 @@ static inline size_t lesungkap_put_modify_qp(uint8_t *bytes, size_t length, cons
         bytes[LESUNGKAP_MODIFY_QP_STATE_AT] = data->state;
         memcpy(bytes + LESUNGKAP_MODIFY_QP_ZERO_AT, data->zero, sizeof data->zero);
         lesungkap_put_le_(bytes + LESUNGKAP_MODIFY_QP_DESTINATION_AT, 4, data->destination);
+        lesungkap_put_le_(bytes + LESUNGKAP_MODIFY_QP_ACCESS_FLAGS_AT, 4, data->access_flags);
     }
     return whole;
 }
@@ -379,6 +382,7 @@ static inline unsigned lesungkap_get_modify_qp(const uint8_t *bytes, size_t leng
         data->state = bytes[LESUNGKAP_MODIFY_QP_STATE_AT];
         memcpy(data->zero, bytes + LESUNGKAP_MODIFY_QP_ZERO_AT, sizeof data->zero);
         data->destination = lesungkap_get_32_(bytes + LESUNGKAP_MODIFY_QP_DESTINATION_AT);
+        data->access_flags = lesungkap_get_32_(bytes + LESUNGKAP_MODIFY_QP_ACCESS_FLAGS_AT);
     }
     return answer;
 }

@@ -11,9 +11,9 @@
 /* The minor number grows by one with each landing that changes what a call answers or does, a record or the state's layout, its length
  * included; a state and a tape belong to one minor number. */
 #define LESUNGKAP_VERSION_MAJOR 0
-#define LESUNGKAP_VERSION_MINOR 6
+#define LESUNGKAP_VERSION_MINOR 7
 #define LESUNGKAP_VERSION_PATCH 0
-#define LESUNGKAP_VERSION "0.6.0"
+#define LESUNGKAP_VERSION "0.7.0"
 
 #ifdef __cplusplus
 extern "C" {
@@ -80,16 +80,21 @@ enum {
 };
 
 /* Access bits of a region, as IBV_ACCESS_*. Reading by its own side needs none. As in libibverbs, a region with LESUNGKAP_REMOTE_WRITE has
- * LESUNGKAP_LOCAL_WRITE too: 2 and 6 are no access. */
+ * LESUNGKAP_LOCAL_WRITE too: 2 and 6 are no access.
+ *
+ * A queue pair's access flags are the same bits, in any combination: what its peer may do to the regions of its domain, where they grant it too.
+ * LESUNGKAP_LOCAL_WRITE has no effect there. */
 enum { LESUNGKAP_LOCAL_WRITE = 1, LESUNGKAP_REMOTE_WRITE = 2, LESUNGKAP_REMOTE_READ = 4 };
 
 /* Queue pairs. A new one is in RESET. Modify QP moves it from RESET to INIT, from INIT to RTR (with the destination), from RTR to RTS, and
- * from any state to RESET or ERROR; a work request that fails moves it to ERROR. RESET drops waiting receives and the destination, ERROR
- * nothing. Receives may be posted in INIT, RTR and RTS, work requests in RTS, to a peer in RTR or RTS. In ERROR both are taken and flushed: they
+ * from any state to RESET or ERROR; a work request that fails moves it to ERROR. RESET drops waiting receives, the destination and the access
+ * flags, ERROR nothing. Any move may set the access flags, but RESET leaves them 0, as a new queue pair has them: then a remote write or read
+ * of its peer fails. Receives may be posted in INIT, RTR and RTS, work requests in RTS, to a peer in RTR or RTS. In ERROR both are taken and flushed: they
  * complete with LESUNGKAP_FLUSHED, a receive behind those that wait.
  *
  * Type and states are as IBV_QPT_* and IBV_QPS_*. Signal and the mask's bits are the card's own: signal 0 completes everything, where
- * libibverbs has sq_sig_all 1 for that; the destination is bit 15, where IBV_QP_DEST_QPN is bit 20. */
+ * libibverbs has sq_sig_all 1 for that; the access flags are bit 2 and the destination is bit 15, where IBV_QP_ACCESS_FLAGS is bit 3 and
+ * IBV_QP_DEST_QPN bit 20. */
 enum {
     LESUNGKAP_QP_TYPE_RC = 2,
     LESUNGKAP_SIGNAL_ALL = 0,     /* every success puts a completion */
@@ -100,6 +105,7 @@ enum {
     LESUNGKAP_QP_RTS = 3,         /* ready to send */
     LESUNGKAP_QP_ERROR = 6,
     LESUNGKAP_MASK_STATE = 1,     /* always set */
+    LESUNGKAP_MASK_ACCESS_FLAGS = 4,
     LESUNGKAP_MASK_DESTINATION = 32768 /* set exactly with LESUNGKAP_QP_RTR */
 };
 

@@ -61,7 +61,8 @@ enum {
  *
  * A byte is permitted to a queue pair if a live region has exactly this key and the queue pair's domain, the address is in it, and its
  * access grants the use: LESUNGKAP_LOCAL_WRITE for a read's own entries and a receive's, LESUNGKAP_REMOTE_WRITE and LESUNGKAP_REMOTE_READ
- * for a remote range, which is judged in the peer's domain, nothing for the own entries of writes and sends. Sums never wrap. */
+ * for a remote range, which is judged in the peer's domain and needs the same bit in the peer's access flags, nothing for the own entries of
+ * writes and sends. Sums never wrap. */
 struct lesungkap_sge {
     uint64_t address;
     uint32_t length;

@@ -59,6 +59,7 @@ enum {
     LESUNGKAP_STATE_QP_RECEIVE_CQN_AT = 3,
     LESUNGKAP_STATE_QP_STATE_AT = 4,
     LESUNGKAP_STATE_QP_DESTINATION_AT = 5,
+    LESUNGKAP_STATE_QP_ACCESS_FLAGS_AT = 6,
     LESUNGKAP_STATE_WAITING_FIRST_AT = 0,
     LESUNGKAP_STATE_WAITING_COUNT_AT = 1
 };
@@ -87,6 +88,7 @@ struct lesungkap_qp {
     uint32_t receive_cqn;
     uint8_t state;        /* LESUNGKAP_QP_RESET and so on */
     uint32_t destination; /* or LESUNGKAP_NO_QP */
+    uint8_t access_flags; /* what its peer may do */
     uint8_t waiting;      /* receives */
 };
 
@@ -173,6 +175,7 @@ static inline unsigned lesungkap_peek_qp(const uint8_t *state, size_t state_len,
         qp->receive_cqn = row[LESUNGKAP_STATE_QP_RECEIVE_CQN_AT];
         qp->state = row[LESUNGKAP_STATE_QP_STATE_AT];
         qp->destination = row[LESUNGKAP_STATE_QP_DESTINATION_AT];
+        qp->access_flags = row[LESUNGKAP_STATE_QP_ACCESS_FLAGS_AT];
         qp->waiting = waiting[LESUNGKAP_STATE_WAITING_COUNT_AT];
     }
     return answer;

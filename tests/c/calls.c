@@ -56,7 +56,7 @@ static uint32_t create_pair(void)
 
 static uint32_t move_to(uint8_t to)
 {
-    uint8_t command[18] = {LESUNGKAP_CONTROL_CLASS, LESUNGKAP_MODIFY_QP};
+    uint8_t command[22] = {LESUNGKAP_CONTROL_CLASS, LESUNGKAP_MODIFY_QP};
     put(command + 2, 4, PAIR);
     put(command + 6, 4, LESUNGKAP_MASK_STATE);
     command[10] = to;

@@ -91,6 +91,10 @@ static void move_on(uint32_t qpn)
     data.state = qp.state == LESUNGKAP_QP_ERROR ? LESUNGKAP_QP_RESET : (uint8_t)(qp.state + 1);
     data.mask = LESUNGKAP_MASK_STATE | (data.state == LESUNGKAP_QP_RTR ? (uint32_t)LESUNGKAP_MASK_DESTINATION : 0);
     data.destination = qpn ^ 1;
+    if (below(4)) {
+        data.mask |= LESUNGKAP_MASK_ACCESS_FLAGS;
+        data.access_flags = below(3) ? 7 : below(9);
+    }
     run_control(lesungkap_put_modify_qp(record, sizeof record, &data));
 }
 

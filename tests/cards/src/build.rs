@@ -1,10 +1,12 @@
 //! Writers of the records that a caller hands in.
 
-use reference::layout::{INIT, READY_TO_RECEIVE, READY_TO_SEND};
+use reference::layout::{INIT, LOCAL_WRITE, READY_TO_RECEIVE, READY_TO_SEND, REMOTE_READ, REMOTE_WRITE};
 use reference::record::{Command, Piece, CONTROL_CLASS, COUNT_AT, INLINE, INLINE_AT, PIECE_BYTES, RECEIVE_BYTES, SEND_BYTES};
 
 pub const MASK_STATE: u32 = 1;
+pub const MASK_ACCESS: u32 = 1 << 2;
 pub const MASK_DESTINATION: u32 = 1 << 15;
+pub const ALL_RIGHTS: u32 = (LOCAL_WRITE | REMOTE_WRITE | REMOTE_READ) as u32;
 
 pub fn number_command(command: u8, number: u32) -> Vec<u8> {
     [&[CONTROL_CLASS, command][..], &number.to_le_bytes()].concat()
@@ -63,14 +65,15 @@ pub struct Modify {
     pub state: u8,
     pub padding: [u8; 3],
     pub destination: u32,
+    pub access: u32,
 }
 
 impl Modify {
     /// What a command asks for, if it is a modify record of the right length.
     pub fn read(command: &[u8]) -> Option<Modify> {
         match Command::read(command) {
-            Ok(Command::ModifyPair { number, mask, state, padding, destination }) => {
-                Some(Modify { qpn: number, mask, state, padding, destination })
+            Ok(Command::ModifyPair { number, mask, state, padding, destination, access }) => {
+                Some(Modify { qpn: number, mask, state, padding, destination, access })
             }
             _ => None,
         }
@@ -82,18 +85,34 @@ impl Modify {
         record.push(self.state);
         record.extend(self.padding);
         record.extend(self.destination.to_le_bytes());
+        record.extend(self.access.to_le_bytes());
         record
+    }
+
+    /// The same with these access flags.
+    pub fn access(self, access: u32) -> Modify {
+        Modify { mask: self.mask | MASK_ACCESS, access, ..self }
     }
 }
 
 /// A move to a state other than 2.
 pub fn move_to(qpn: u32, state: u8) -> Vec<u8> {
-    Modify { qpn, mask: MASK_STATE, state, ..Modify::default() }.bytes()
+    to_state(qpn, state).bytes()
 }
 
-/// The move to state 2, by which a pair gets all that it needs to be a peer.
+/// The same, to be changed.
+pub fn to_state(qpn: u32, state: u8) -> Modify {
+    Modify { qpn, mask: MASK_STATE, state, ..Modify::default() }
+}
+
+/// The move to state 2 as a peer that grants nothing, to be changed.
+pub fn to_peer(qpn: u32, destination: u32) -> Modify {
+    Modify { qpn, mask: MASK_STATE | MASK_DESTINATION, state: READY_TO_RECEIVE, destination, ..Modify::default() }
+}
+
+/// The move to state 2, by which a pair gets all that it needs to be a peer: a destination, and every right for its peer.
 pub fn join(qpn: u32, destination: u32) -> Vec<u8> {
-    Modify { qpn, mask: MASK_STATE | MASK_DESTINATION, state: READY_TO_RECEIVE, destination, ..Modify::default() }.bytes()
+    to_peer(qpn, destination).access(ALL_RIGHTS).bytes()
 }
 
 /// The moves of a pair from reset to ready to send.

@@ -21,6 +21,7 @@ pub const CHECKS: [Check; 15] = [
     ("poll_needs_24_bytes", poll_needs_24_bytes),
     ("memory_has_the_reset_length", memory_has_the_reset_length),
     ("flushed_work_writes_its_completion_alone", flushed_work_writes_its_completion_alone),
+    ("a_pair_keeps_its_access_flags", a_pair_keeps_its_access_flags),
     ("numbers_past_the_tables_are_not_live", numbers_past_the_tables_are_not_live),
     ("a_bad_state_comes_before_all_else", a_bad_state_comes_before_all_else),
     ("a_reset_mends_a_damaged_state", a_reset_mends_a_damaged_state),
@@ -202,7 +203,7 @@ pub fn memory_has_the_reset_length(card: &dyn Card) {
 /// Work posted in error writes the next place of its own queue and that queue's head, and no other byte of state or memory.
 pub fn flushed_work_writes_its_completion_alone(card: &dyn Card) {
     let mut good = in_error(sample(card), 0);
-    good[pair_row(0) + PAIR_ZERO..][..2].fill(LEFT);
+    good[pair_row(0) + PAIR_ZERO] = LEFT;
     let record = Send::new(7, 3).immediate(9).piece(1 << 32, 4, 1).bytes();
     for (opcode, is_send) in [(0, true), (RECEIVED, false)] {
         let (mut state, mut memory) = (good.clone(), vec![LEFT; 4096]);
@@ -216,6 +217,39 @@ pub fn flushed_work_writes_its_completion_alone(card: &dyn Card) {
         Completion { wr_id: 7, status: 4, opcode, length: 0, immediate: 0, owner: 0 }.write(&mut wanted, completion_row(0, 1));
         assert!(state == wanted && memory == [LEFT; 4096]);
     }
+}
+
+/// What no call shows of the flags: they stand at byte 6 of the pair's row, in error too, and a failed request leaves them.
+pub fn a_pair_keeps_its_access_flags(card: &dyn Card) {
+    let mut state = sample(card);
+    let mut ack = [0; 13];
+    let mut step = |modify: Modify, wanted: u8, flags: u8| {
+        assert_eq!(card.control(&mut state, &modify.bytes(), &mut ack), answer(wanted), "{modify:?}");
+        assert_eq!((state[pair_row(0) + PAIR_ACCESS], state[pair_row(0) + PAIR_ZERO]), (flags, 0), "{modify:?}");
+    };
+    step(to_state(0, 3).access(2), 3, 7);
+    step(to_state(0, 6).access(8), 4, 7);
+    step(to_state(0, 6), 0, 7);
+    step(to_state(0, 6).access(3), 0, 3);
+    step(Modify { access: 4, ..to_state(0, 6) }, 0, 3);
+    step(to_state(0, 6).access(4), 0, 4);
+    step(to_state(0, 0).access(8), 4, 4);
+    step(to_state(0, 0).access(7), 0, 0);
+    step(to_state(0, 0).access(5), 0, 0);
+    step(to_state(0, 6).access(1), 0, 1);
+    step(to_state(0, 0), 0, 0);
+    step(Modify { access: u32::MAX, ..to_state(0, 1) }, 0, 0);
+    step(to_peer(0, 1).access(6), 0, 6);
+    step(to_peer(0, 1).access(7), 3, 6);
+    step(to_state(0, 3), 0, 6);
+    let outcome = card.post_send(&mut state, &mut [0; 4096], 0, &Send::new(1, 0).piece(0, 1, 0).bytes());
+    assert_eq!((outcome, state[pair_row(0) + PAIR_ACCESS]), (Outcome { answer: 0, status: 3 }, 6));
+    // a new pair has none, whatever its number's row held
+    for command in [destroy_pair(0), create_pair(0, 2, 0, 0, 0)] {
+        state[pair_row(0) + PAIR_ACCESS] = if command[1] == 9 { 255 } else { 7 };
+        assert_eq!(card.control(&mut state, &command, &mut ack), answer(0));
+    }
+    assert_eq!(state[pair_row(0) + PAIR_ACCESS], 0);
 }
 
 pub fn numbers_past_the_tables_are_not_live(card: &dyn Card) {
@@ -263,7 +297,7 @@ pub fn a_reset_mends_a_damaged_state(card: &dyn Card) {
 
 pub fn forged_but_acceptable_states(card: &dyn Card) {
     type Change<'a> = (&'a str, &'a [(usize, u8)], u8, u8);
-    let changes: [Change; 11] = [
+    let changes: [Change; 13] = [
         ("ready to send without destination", &[(pair_row(0) + PAIR_DESTINATION, 8)], 5, 0),
         ("destination not live", &[(pair_row(0) + PAIR_DESTINATION, 7)], 5, 0),
         ("peer in state 0 with a waiting receive", &[(pair_row(1) + PAIR_STATE, 0)], 5, 0),
@@ -275,6 +309,8 @@ pub fn forged_but_acceptable_states(card: &dyn Card) {
         ("queue's first place past its places", &[(queue_row(0) + QUEUE_FIRST, 15), (queue_row(0) + QUEUE_COUNT, 0)], 0, 0),
         ("free queue with any head", &[(queue_row(7) + QUEUE_PLACES, 17), (queue_row(7) + QUEUE_COUNT, 18)], 0, 0),
         ("free pair with any row", &[(pair_row(7) + PAIR_STATE, 4), (waiting_row(7) + WAITING_COUNT, 5)], 0, 0),
+        ("free pair with any access flags", &[(pair_row(7) + PAIR_ACCESS, 255)], 0, 0),
+        ("peer in state 0 with access flags", &[(pair_row(1) + PAIR_STATE, 0), (pair_row(1) + PAIR_ACCESS, 7)], 5, 0),
     ];
     for (name, bytes, answer, status) in changes {
         let mut state = sample(card);
@@ -287,7 +323,7 @@ pub fn forged_but_acceptable_states(card: &dyn Card) {
 }
 
 /// A fault, and the bytes of the sample that make it. A wrong length is made apart.
-const FAULTS: [(Fault, usize, &[u8]); 38] = [
+const FAULTS: [(Fault, usize, &[u8]); 41] = [
     (Fault::MemoryLength, MEMORY_LENGTH, &[0, 0]),
     (Fault::MemoryLength, MEMORY_LENGTH + 3, &[1]),
     (Fault::DomainFlag, DOMAIN_FLAGS + 5, &[2]),
@@ -323,6 +359,9 @@ const FAULTS: [(Fault, usize, &[u8]); 38] = [
     (Fault::PairState, pair_row(0) + PAIR_STATE, &[7]),
     (Fault::PairDestination, pair_row(0) + PAIR_DESTINATION, &[9]),
     (Fault::PairNamesItself, pair_row(0) + PAIR_DESTINATION, &[0]),
+    (Fault::PairAccess, pair_row(0) + PAIR_ACCESS, &[8]),
+    (Fault::PairAccess, pair_row(1) + PAIR_ACCESS, &[15]),
+    (Fault::PairAccess, pair_row(1) + PAIR_ACCESS, &[128]),
     (Fault::WaitingFirst, waiting_row(1) + WAITING_FIRST, &[4]),
     (Fault::WaitingCount, waiting_row(1) + WAITING_COUNT, &[5]),
     (Fault::ReceivePieces, receive_row(1, 0) + RECEIVE_COUNT, &[3]),
@@ -372,7 +411,12 @@ pub fn a_state_without_a_fault_is_taken(card: &dyn Card) {
         state[region_row(0) + REGION_ACCESS] = access as u8;
         state
     });
-    for lent in [good, edge].into_iter().chain(with_access) {
+    let with_flags = [0, 1, 2, 3, 4, 5, 6, 7].map(|flags| {
+        let mut state = good.clone();
+        state[pair_row(0) + PAIR_ACCESS] = flags;
+        state
+    });
+    for lent in [good, edge].into_iter().chain(with_access).chain(with_flags) {
         assert_eq!(fault(&lent), None);
         let answers =
             tested_calls().map(|call| call.make(card, &mut lent.clone(), &mut [0; 4096], &mut vec![LEFT; call.buffer()]).answer);

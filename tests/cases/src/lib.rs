@@ -5,6 +5,7 @@ mod errors;
 pub mod lent;
 mod posting;
 mod queues;
+mod rights;
 mod run;
 mod script;
 mod tape;
@@ -15,6 +16,7 @@ pub use script::{Case, Script, Step, Wanted};
 
 /// Every case; names are unique.
 pub fn all() -> Vec<Case> {
-    let groups = [control::cases(), posting::cases(), queues::cases(), errors::cases(), traps::cases(), tape::cases()];
+    let groups =
+        [control::cases(), posting::cases(), queues::cases(), errors::cases(), rights::cases(), traps::cases(), tape::cases()];
     groups.into_iter().flatten().collect()
 }

@@ -31,6 +31,7 @@ on_every_card! {
     poll_needs_24_bytes,
     memory_has_the_reset_length,
     flushed_work_writes_its_completion_alone,
+    a_pair_keeps_its_access_flags,
     numbers_past_the_tables_are_not_live,
     a_bad_state_comes_before_all_else,
     a_reset_mends_a_damaged_state,

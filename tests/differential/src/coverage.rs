@@ -1,10 +1,11 @@
 //! Which answers, statuses, completions and steps a run has seen.
 
 use crate::side::Done;
+use cards::build::MASK_ACCESS;
 use cards::Call;
 use reference::layout::*;
 use reference::listing::{Listing, PairListing};
-use reference::record::{total, Command, Completion, Local, SendRecord, CONTROL_CLASS, READ, SIGNALED};
+use reference::record::*;
 use reference::Pair;
 use std::collections::BTreeMap;
 
@@ -84,6 +85,28 @@ const ERRORS: [&str; 17] = [
     "receive 8 without a place",
 ];
 
+/// How access flags are set, and what they and the region say of a remote range.
+const RIGHTS: [&str; 18] = [
+    "set with state 0",
+    "set with state 1",
+    "set with state 2",
+    "set with state 3",
+    "set with state 6",
+    "above 7, answer 4",
+    "above 7 without bit 2, answer 0",
+    "write granted by region and flags",
+    "write granted by the region alone",
+    "write granted by the flags alone",
+    "write of no bytes without flags",
+    "write with immediate, the flags alone refuse",
+    "read granted by region and flags",
+    "read granted by the region alone",
+    "read granted by the flags alone",
+    "read of no bytes without flags",
+    "send to a peer without flags",
+    "the sender's flags lack what the peer's grant",
+];
+
 const STEPS: [&str; 21] = [
     "1 no destination",
     "1 peer not live",
@@ -140,8 +163,15 @@ impl Coverage {
         if let [CONTROL_CLASS, number, ..] = command {
             self.add(format!("command {number} answer {answer}"));
         }
-        if let Ok(Command::Register { access, .. }) = Command::read(command) {
-            self.add(format!("access {access} answer {answer}"));
+        match Command::read(command) {
+            Ok(Command::Register { access, .. }) => self.add(format!("access {access} answer {answer}")),
+            Ok(Command::ModifyPair { mask, state, access, .. }) => match (mask & MASK_ACCESS != 0, access > 7, answer) {
+                (true, _, 0) => self.add(format!("rights set with state {state}")),
+                (true, true, 4) => self.add("rights above 7, answer 4".into()),
+                (false, true, 0) => self.add("rights above 7 without bit 2, answer 0".into()),
+                _ => {}
+            },
+            _ => {}
         }
         let query = match (command, ack, answer) {
             ([CONTROL_CLASS, 0], 128, 12) => 0,
@@ -173,7 +203,43 @@ impl Coverage {
         match (answer, peer) {
             (5, _) => self.add(format!("step {}", hold_of_peer(qpn, sender, peer))),
             (6, Some(peer)) => self.add(format!("step {}", hold_of_place(card, &send, sender, peer))),
-            (0, Some(peer)) if status == 0 => self.count_success(&send, sender, peer),
+            (0, Some(peer)) => {
+                self.count_rights(card, &send, sender, peer, status);
+                if status == 0 {
+                    self.count_success(&send, sender, peer);
+                }
+            }
+            _ => {}
+        }
+    }
+
+    /// What region and flags say of a request that came as far as step 4.
+    fn count_rights(&mut self, card: &Listing, send: &SendRecord, sender: &PairListing, peer: &PairListing, status: u8) {
+        let (name, right) = match send.opcode {
+            WRITE | WRITE_IMMEDIATE => ("write", REMOTE_WRITE),
+            READ => ("read", REMOTE_READ),
+            _ if status == 0 && peer.pair.access == 0 => return self.add("rights send to a peer without flags".into()),
+            _ => return,
+        };
+        let region = card.regions.get((send.key >> 8) as usize).copied().flatten();
+        let in_region = region.map_or(false, |region| region.domain == peer.pair.domain && region.access & right != 0);
+        let in_flags = peer.pair.access & right != 0;
+        match (send.total(), status, in_region, in_flags) {
+            (0, 0, _, _) if peer.pair.access == 0 => self.add(format!("rights {name} of no bytes without flags")),
+            (0, ..) => {}
+            (_, 0, true, true) => {
+                self.add(format!("rights {name} granted by region and flags"));
+                if sender.pair.access & right == 0 {
+                    self.add("rights the sender's flags lack what the peer's grant".into());
+                }
+            }
+            (_, 8, true, false) => {
+                self.add(format!("rights {name} granted by the region alone"));
+                if send.opcode == WRITE_IMMEDIATE {
+                    self.add("rights write with immediate, the flags alone refuse".into());
+                }
+            }
+            (_, 8, false, true) => self.add(format!("rights {name} granted by the flags alone")),
             _ => {}
         }
     }
@@ -267,6 +333,7 @@ fn groups() -> Vec<(&'static str, Vec<String>)> {
         ("registrations with each access", cells("access", "answer", &ACCESSES)),
         ("statuses of each opcode", cells("opcode", "status", &STATUSES)),
         ("completions polled", cells("completion", "status", &COMPLETIONS)),
+        ("access flags", RIGHTS.iter().map(|name| format!("rights {name}")).collect()),
         ("work posted in error", ERRORS.iter().map(|name| format!("error: {name}")).collect()),
         ("steps of post send", STEPS.iter().map(|step| format!("step {step}")).collect()),
     ]

@@ -34,10 +34,23 @@ impl Generator {
         card.pairs[neighbour].as_ref()?;
         let number = number as u32;
         match pair.pair.state {
-            RESET => Some(move_to(number, INIT)),
-            INIT => Some(join(number, if self.rng.percent(95) { neighbour as u32 } else { self.other_pair(number) })),
-            READY_TO_RECEIVE => Some(move_to(number, READY_TO_SEND)),
+            RESET => Some(self.with_access(to_state(number, INIT), 10)),
+            INIT => {
+                let peer = if self.rng.percent(95) { neighbour as u32 } else { self.other_pair(number) };
+                Some(if self.rng.percent(80) { join(number, peer) } else { self.with_access(to_peer(number, peer), 80) })
+            }
+            READY_TO_RECEIVE => Some(self.with_access(to_state(number, READY_TO_SEND), 10)),
             _ => self.rng.percent(if pair.waiting.is_empty() { 60 } else { 15 }).then(|| move_to(number, RESET)),
+        }
+    }
+
+    /// The record, `part` times in a hundred with access flags.
+    fn with_access(&mut self, modify: Modify, part: u64) -> Vec<u8> {
+        let access = self.rng.pick(&[0, 1, 2, 4, 6, 7, 7, 7]);
+        if self.rng.percent(part) {
+            modify.access(access).bytes()
+        } else {
+            modify.bytes()
         }
     }
 
@@ -121,8 +134,8 @@ impl Generator {
             2 if self.rng.percent(10) => join(number, number),
             2 => join(number, self.other_pair(number % 8)),
             state => {
-                let ignored = self.rng.word() as u32;
-                Modify { qpn: number, mask: MASK_STATE, state, destination: ignored, ..Modify::default() }.bytes()
+                let (destination, access) = (self.rng.word() as u32, self.rng.word() as u32);
+                self.with_access(Modify { destination, access, ..to_state(number, state) }, 40)
             }
         }
     }

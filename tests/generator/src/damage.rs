@@ -119,7 +119,8 @@ fn pair_fields(visit: &mut dyn FnMut(Field), state: &[u8], number: usize) {
     put(visit, live, row + PAIR_SIGNAL, 1, &[0, 1, 2, 255]);
     put(visit, live, row + PAIR_STATE, 1, &[0, 1, 2, 3, 4, 5, 6, 7, 255]);
     put(visit, live, row + PAIR_DESTINATION, 1, &[0, 1, 2, 3, 4, 5, 6, 7, 8, 9, 255]);
-    put(visit, live, row + PAIR_ZERO, 2, &[0, 1, 0xffff]);
+    put(visit, live, row + PAIR_ACCESS, 1, &[0, 1, 2, 3, 4, 5, 6, 7, 8, 9, 16, 128, 255]);
+    put(visit, live, row + PAIR_ZERO, 1, &[0, 255]);
     let waiting = waiting_row(number);
     let (first, count) = (state[waiting + WAITING_FIRST], state[waiting + WAITING_COUNT]);
     put(visit, live, waiting + WAITING_FIRST, 1, &[0, 1, 2, 3, 4, 255]);

@@ -2,7 +2,7 @@
 
 use crate::work::{key_of, peer_of};
 use crate::Generator;
-use cards::build::{Modify, Send, MASK_DESTINATION};
+use cards::build::{Modify, Send, MASK_ACCESS, MASK_DESTINATION};
 use cards::Call;
 use reference::ack_need;
 use reference::layout::*;
@@ -181,10 +181,10 @@ impl Generator {
         }
     }
 
-    /// Mask, state, padding and destination at both sides of their limits.
+    /// Mask, state, padding, destination and access flags at both sides of their limits.
     fn change_modification(&mut self, command: &mut Vec<u8>) {
         let mut modify = Modify::read(command).unwrap_or_default();
-        match self.rng.below(6) {
+        match self.rng.below(9) {
             0 => modify.mask ^= MASK_DESTINATION,
             1 => modify.mask ^= 1 << self.rng.below(32),
             2 => modify.state = self.rng.below(8) as u8,
@@ -193,7 +193,9 @@ impl Generator {
                 modify.padding[self.rng.index(3)] = byte;
             }
             4 => modify.destination = self.rng.pick(&[7, 8, 256, u32::MAX]),
-            _ => modify.destination = modify.qpn,
+            5 => modify.destination = modify.qpn,
+            6 => modify.mask ^= MASK_ACCESS,
+            _ => modify = modify.access(self.rng.pick(&[4, 7, 8, 15, 256, 1 << 31, u32::MAX])),
         }
         *command = modify.bytes();
     }

@@ -79,7 +79,7 @@ structs! {
     DeregisterMr { mrn: u32 } "deregister MR" wrap_size_deregister_mr wrap_put_deregister_mr wrap_get_deregister_mr;
     CreateQp { pdn: u32, kind: u8, signal: u8, send_cqn: u32, receive_cqn: u32 }
         "create QP" wrap_size_create_qp wrap_put_create_qp wrap_get_create_qp;
-    ModifyQp { qpn: u32, mask: u32, state: u8, zero: [u8; 3], destination: u32 }
+    ModifyQp { qpn: u32, mask: u32, state: u8, zero: [u8; 3], destination: u32, access_flags: u32 }
         "modify QP" wrap_size_modify_qp wrap_put_modify_qp wrap_get_modify_qp;
     DestroyQp { qpn: u32 } "destroy QP" wrap_size_destroy_qp wrap_put_destroy_qp wrap_get_destroy_qp;
     CreateCqAck { cqn: u32 } "ack of create CQ" wrap_size_create_cq_ack wrap_put_create_cq_ack wrap_get_create_cq_ack;
@@ -189,6 +189,7 @@ pub struct Qp {
     pub receive_cqn: u32,
     pub state: u8,
     pub destination: u32,
+    pub access_flags: u8,
     pub waiting: u8,
 }
 

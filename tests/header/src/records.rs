@@ -295,15 +295,17 @@ pub fn create_qp(rng: &mut Rng) {
 
 pub fn modify_qp(rng: &mut Rng) {
     let zero = if rng.percent(50) { [0; 3] } else { [rng.word() as u8, rng.word() as u8, rng.word() as u8] };
-    let value = c::ModifyQp { qpn: word32(rng), mask: word32(rng), state: rng.word() as u8, zero, destination: word32(rng) };
+    let (mask, state) = (word32(rng), rng.word() as u8);
+    let value = c::ModifyQp { qpn: word32(rng), mask, state, zero, destination: word32(rng), access_flags: word32(rng) };
     let mut bytes = build::number_command(10, value.qpn);
     bytes.extend(value.mask.to_le_bytes());
     bytes.push(value.state);
     bytes.extend(zero);
     bytes.extend(value.destination.to_le_bytes());
+    bytes.extend(value.access_flags.to_le_bytes());
     command(rng, value, bytes, &|read| match read {
-        Command::ModifyPair { number, mask, state, padding, destination } => {
-            Some(c::ModifyQp { qpn: number, mask, state, zero: padding, destination })
+        Command::ModifyPair { number, mask, state, padding, destination, access } => {
+            Some(c::ModifyQp { qpn: number, mask, state, zero: padding, destination, access_flags: access })
         }
         _ => None,
     });

@@ -86,6 +86,7 @@ fn pair(state: &[u8], n: u32, listing: Option<&PairListing>) {
         receive_cqn: listing.pair.receive_queue.into(),
         state: listing.pair.state,
         destination: listing.pair.destination.into(),
+        access_flags: listing.pair.access,
         waiting: listing.waiting.len() as u8,
     });
     assert_eq!(c::peek_qp(state, n), pair.ok_or(NOT_LIVE), "queue pair {n}");

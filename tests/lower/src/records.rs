@@ -225,6 +225,11 @@ fn command_fields(records: &mut Records) {
         let length = command.len();
         records.check_fields(&command, &[0..length]);
     }
+    // without their mask bits destination and access flags are ignored
+    let fails = Modify { access: ALL_RIGHTS, ..to_state(SPARE, 6) };
+    records.check_fields(&fails.bytes(), &[0..14]);
+    records.check_fields(&fails.access(2).bytes(), &[0..14, 18..22]);
+    records.check_fields(&to_peer(SPARE, SENDER).bytes(), &[0..18]);
     // bytes 8 and 9 of create QP are ignored
     records.check_fields(&create_pair(0, 2, 1, 0, 1), &[0..8, 10..18]);
 }
@@ -247,8 +252,10 @@ fn commands(records: &mut Records, rng: &mut Rng) {
             2 => {
                 let (state, padding) = (rng.below(8) as u8, [0, 0, rng.percent(10).into()]);
                 let any = rng.word() as u32;
-                let mask = rng.pick(&[0, MASK_STATE, MASK_STATE, MASK_STATE | MASK_DESTINATION, any]);
-                Modify { qpn: a, mask, state, padding, destination: b }.bytes()
+                let mask =
+                    rng.pick(&[0, MASK_STATE, MASK_STATE, MASK_STATE | MASK_DESTINATION, any]) ^ rng.pick(&[0, MASK_ACCESS]);
+                let access = rng.pick(&[0, 1, 2, 4, 6, 7, 8, any]);
+                Modify { qpn: a, mask, state, padding, destination: b, access }.bytes()
             }
             _ => number_command(rng.pick(&[2, 3, 5, 8, 12]), rng.below(40) as u32),
         };

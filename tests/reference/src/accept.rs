@@ -31,13 +31,14 @@ pub enum Fault {
     PairState,
     PairDestination,
     PairNamesItself,
+    PairAccess,
     WaitingFirst,
     WaitingCount,
     ReceivePieces,
 }
 
 impl Fault {
-    pub const ALL: [Fault; 29] = [
+    pub const ALL: [Fault; 30] = [
         Fault::StateLength,
         Fault::MemoryLength,
         Fault::DomainFlag,
@@ -64,6 +65,7 @@ impl Fault {
         Fault::PairState,
         Fault::PairDestination,
         Fault::PairNamesItself,
+        Fault::PairAccess,
         Fault::WaitingFirst,
         Fault::WaitingCount,
         Fault::ReceivePieces,
@@ -137,6 +139,11 @@ pub fn access_ok(access: u32) -> bool {
     matches!(access, 0 | 1 | 3 | 4 | 5 | 7)
 }
 
+/// Whether a pair may have these access flags: the same three bits, in any combination.
+pub fn access_flags_ok(flags: u32) -> bool {
+    flags <= 7
+}
+
 fn check_region(state: &State, number: usize, memory: u64) -> Result<(), Fault> {
     let row = region_row(number);
     let start = get64(state, row + REGION_START);
@@ -160,6 +167,7 @@ fn check_pair(state: &State, number: usize) -> Result<(), Fault> {
     ensure(matches!(phase, RESET | INIT | READY_TO_RECEIVE | READY_TO_SEND | ERROR), Fault::PairState)?;
     ensure(destination <= NO_DESTINATION, Fault::PairDestination)?;
     ensure(usize::from(destination) != number, Fault::PairNamesItself)?;
+    ensure(access_flags_ok(state[row + PAIR_ACCESS].into()), Fault::PairAccess)?;
     check_waiting(state, number)
 }
 

@@ -28,6 +28,8 @@ pub struct Pair {
     pub receive_queue: u8,
     pub state: u8,
     pub destination: u8,
+    /// The access flags: which rights of the regions its peer may use.
+    pub access: u8,
 }
 
 impl<'a> Card<'a> {
@@ -206,6 +208,7 @@ impl<'a> Card<'a> {
             receive_queue: self.bytes[row + PAIR_RECEIVE_QUEUE],
             state: self.bytes[row + PAIR_STATE],
             destination: self.bytes[row + PAIR_DESTINATION],
+            access: self.bytes[row + PAIR_ACCESS],
         }
     }
 
@@ -217,7 +220,8 @@ impl<'a> Card<'a> {
         self.bytes[row + PAIR_RECEIVE_QUEUE] = pair.receive_queue;
         self.bytes[row + PAIR_STATE] = pair.state;
         self.bytes[row + PAIR_DESTINATION] = pair.destination;
-        self.bytes[row + PAIR_ZERO..][..2].fill(0);
+        self.bytes[row + PAIR_ACCESS] = pair.access;
+        self.bytes[row + PAIR_ZERO] = 0;
     }
 
     /// Makes a live pair without waiting receives.
@@ -233,6 +237,11 @@ impl<'a> Card<'a> {
 
     pub fn set_pair_state(&mut self, number: usize, state: u8) {
         let pair = Pair { state, ..self.pair(number) };
+        self.set_pair(number, &pair);
+    }
+
+    pub fn set_access(&mut self, number: usize, access: u8) {
+        let pair = Pair { access, ..self.pair(number) };
         self.set_pair(number, &pair);
     }
 

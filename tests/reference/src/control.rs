@@ -1,6 +1,6 @@
 //! Control commands.
 
-use crate::accept::access_ok;
+use crate::accept::{access_flags_ok, access_ok};
 use crate::answer::{Outcome, Refusal};
 use crate::card::{Card, Pair, Region};
 use crate::layout::*;
@@ -11,6 +11,7 @@ use crate::record::{Command, CONTROL_CLASS};
 pub const ACK_BYTES: usize = 13;
 
 const MASK_STATE: u32 = 1 << 0;
+const MASK_ACCESS: u32 = 1 << 2;
 const MASK_DESTINATION: u32 = 1 << 15;
 const RELIABLE_CONNECTION: u8 = 2;
 
@@ -81,8 +82,8 @@ fn run(card: &mut Card, command: Command) -> Result<Ack, Refusal> {
         Command::CreatePair { domain, kind, signal, send_queue, receive_queue } => {
             create_pair(card, domain, kind, signal, send_queue, receive_queue)
         }
-        Command::ModifyPair { number, mask, state, padding, destination } => {
-            modify_pair(card, number, mask, state, padding, destination)
+        Command::ModifyPair { number, mask, state, padding, destination, access } => {
+            modify_pair(card, number, mask, state, padding, destination, access)
         }
         Command::DestroyPair { number } => destroy_pair(card, number),
     }
@@ -156,18 +157,29 @@ fn create_pair(card: &mut Card, domain: u32, kind: u8, signal: u8, send_queue: u
         receive_queue: card.queue(receive_queue)? as u8,
         state: RESET,
         destination: NO_DESTINATION,
+        access: 0,
     };
     let number = card.free_pair().ok_or(Refusal::Full)?;
     card.create_pair(number, &pair);
     Ok(Ack::Number(number))
 }
 
-fn modify_pair(card: &mut Card, number: u32, mask: u32, state: u8, padding: [u8; 3], destination: u32) -> Result<Ack, Refusal> {
+fn modify_pair(
+    card: &mut Card,
+    number: u32,
+    mask: u32,
+    state: u8,
+    padding: [u8; 3],
+    destination: u32,
+    access: u32,
+) -> Result<Ack, Refusal> {
     let names_peer = mask & MASK_DESTINATION != 0;
-    let bad_mask = mask & !(MASK_STATE | MASK_DESTINATION) != 0 || mask & MASK_STATE == 0;
+    let has_access = mask & MASK_ACCESS != 0;
+    let bad_mask = mask & !(MASK_STATE | MASK_ACCESS | MASK_DESTINATION) != 0 || mask & MASK_STATE == 0;
     let bad_state = !matches!(state, RESET | INIT | READY_TO_RECEIVE | READY_TO_SEND | ERROR);
     let bad_peer = names_peer && (destination as usize >= PAIRS || destination == number);
-    if bad_mask || bad_state || padding != [0; 3] || names_peer != (state == READY_TO_RECEIVE) || bad_peer {
+    let bad_access = has_access && !access_flags_ok(access);
+    if bad_mask || bad_state || padding != [0; 3] || names_peer != (state == READY_TO_RECEIVE) || bad_peer || bad_access {
         return Err(Refusal::BadField);
     }
     let number = card.pair_number(number)?;
@@ -181,6 +193,11 @@ fn modify_pair(card: &mut Card, number: u32, mask: u32, state: u8, padding: [u8;
         _ => return Err(Refusal::WrongState),
     }
     card.set_pair_state(number, state);
+    if state == RESET {
+        card.set_access(number, 0);
+    } else if has_access {
+        card.set_access(number, access as u8);
+    }
     Ok(Ack::Empty)
 }
 

@@ -65,7 +65,8 @@ pub const PAIR_SEND_QUEUE: usize = 2;
 pub const PAIR_RECEIVE_QUEUE: usize = 3;
 pub const PAIR_STATE: usize = 4;
 pub const PAIR_DESTINATION: usize = 5;
-pub const PAIR_ZERO: usize = 6;
+pub const PAIR_ACCESS: usize = 6;
+pub const PAIR_ZERO: usize = 7;
 
 const WAITING_ROW: usize = 2;
 pub const WAITING_FIRST: usize = 0;

@@ -201,7 +201,7 @@ pub enum Command {
     Register { domain: u32, access: u32, start: u64, length: u64, virt: u64 },
     Deregister { number: u32 },
     CreatePair { domain: u32, kind: u8, signal: u8, send_queue: u32, receive_queue: u32 },
-    ModifyPair { number: u32, mask: u32, state: u8, padding: [u8; 3], destination: u32 },
+    ModifyPair { number: u32, mask: u32, state: u8, padding: [u8; 3], destination: u32, access: u32 },
     DestroyPair { number: u32 },
 }
 
@@ -218,7 +218,8 @@ impl Command {
             0 | 1 | 4 => 0,
             2 | 3 | 5 | 8 | 12 => 4,
             7 => 32,
-            9 | 10 => 16,
+            9 => 16,
+            10 => 20,
             _ => return Err(Refusal::Unknown),
         };
         if data.len() != size {
@@ -267,5 +268,6 @@ fn read_modify_pair(data: &[u8]) -> Command {
         state: data[8],
         padding: [data[9], data[10], data[11]],
         destination: get32(data, 12),
+        access: get32(data, 16),
     }
 }

@@ -115,14 +115,14 @@ impl Request<'_> {
                 }
                 Err(ReceiverFailed(status)) => self.fail_both(card, status),
             },
-            READ => match span(card, &self.peer_pair, REMOTE_READ, self.record.address, total, self.record.key) {
+            READ => match remote_span(card, &self.peer_pair, REMOTE_READ, self.record.address, total, self.record.key) {
                 Some(source) => {
                     copy(memory, &[source], local);
                     self.succeed(card, total)
                 }
                 None => self.fail(card, Status::RemoteAccess),
             },
-            _ => match span(card, &self.peer_pair, REMOTE_WRITE, self.record.address, total, self.record.key) {
+            _ => match remote_span(card, &self.peer_pair, REMOTE_WRITE, self.record.address, total, self.record.key) {
                 Some(target) => {
                     self.move_out(memory, local, &[target]);
                     self.succeed(card, total)
@@ -250,6 +250,14 @@ fn span(card: &Card, pair: &Pair, right: u8, address: u64, length: usize, key: u
         return None;
     }
     Some(Span { start: (region.start + offset) as usize, length })
+}
+
+/// The same of a remote range, for which the pair's own access flags must grant the right too.
+fn remote_span(card: &Card, pair: &Pair, right: u8, address: u64, length: usize, key: u32) -> Option<Span> {
+    if length > 0 && pair.access & right != right {
+        return None;
+    }
+    span(card, pair, right, address, length, key)
 }
 
 /// Copies the source's bytes to the target in order; all are read before any is written.
