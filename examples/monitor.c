@@ -19,6 +19,7 @@ struct account {
     uint64_t start;  /* first memory byte of its region */
     uint64_t virt;   /* address under which it knows that byte */
     uint32_t access; /* what the region grants */
+    uint32_t flags;  /* what its queue pair lets the peer use of that */
     uint32_t pdn, cqn, mrn, key, qpn;
 };
 
@@ -83,25 +84,34 @@ static void query(void)
     expect(device.max_mr_size == sizeof memory && port.max_msg_sz >= TEXT_BYTES, "a card for this memory and these messages");
 }
 
-static void modify(const struct account *who, uint32_t mask, uint8_t to, uint32_t destination)
+static void modify(const struct account *who, uint32_t mask, uint8_t to, const struct account *peer)
 {
     struct lesungkap_modify_qp data;
     memset(&data, 0, sizeof data);
     data.qpn = who->qpn;
-    data.mask = mask;
+    data.mask = LESUNGKAP_MASK_STATE | mask;
     data.state = to;
-    data.destination = destination;
+    data.destination = peer->qpn;
+    data.access_flags = who->flags;
     control(lesungkap_put_modify_qp(command, sizeof command, &data));
 }
 
-/* Brings a queue pair to ready to send, joined with the peer's. */
+/* What access flags let a peer do. */
+static const char *rights_text(uint32_t flags)
+{
+    static const char *const texts[4] = {"nothing", "remote write", "remote read", "remote write and remote read"};
+    return texts[(flags & LESUNGKAP_REMOTE_WRITE ? 1 : 0) + (flags & LESUNGKAP_REMOTE_READ ? 2 : 0)];
+}
+
+/* Brings a queue pair to ready to send, joined with the peer's, to which it grants what its account says. */
 static void make_ready(const struct account *who, const struct account *peer)
 {
-    modify(who, LESUNGKAP_MASK_STATE, LESUNGKAP_QP_RESET, 0);
-    modify(who, LESUNGKAP_MASK_STATE, LESUNGKAP_QP_INIT, 0);
-    modify(who, LESUNGKAP_MASK_STATE | LESUNGKAP_MASK_DESTINATION, LESUNGKAP_QP_RTR, peer->qpn);
-    modify(who, LESUNGKAP_MASK_STATE, LESUNGKAP_QP_RTS, 0);
-    printf("  control x4    %s: modify QP to reset, init, ready to receive from %s, ready to send: answer 0, done\n", who->name, peer->name);
+    modify(who, 0, LESUNGKAP_QP_RESET, peer);
+    modify(who, LESUNGKAP_MASK_ACCESS_FLAGS, LESUNGKAP_QP_INIT, peer);
+    modify(who, LESUNGKAP_MASK_DESTINATION, LESUNGKAP_QP_RTR, peer);
+    modify(who, 0, LESUNGKAP_QP_RTS, peer);
+    printf("  control x4    %s: modify QP to reset, init granting %s, ready to receive from %s, ready to send: answer 0, done\n", who->name,
+           rights_text(who->flags), peer->name);
 }
 
 static void register_region(struct account *who)
@@ -297,9 +307,22 @@ static void show_overhang(const struct account *north, const struct account *coa
     show_text(ridge, 0);
 }
 
+static void show_rights(const struct account *north, struct account *coast)
+{
+    printf("\n4. Coast lets its plan be read and not written: its queue pair grants remote read alone, over the same region.\n");
+    coast->flags = LESUNGKAP_REMOTE_READ;
+    make_ready(coast, north);
+    const struct lesungkap_sge plan = entry(coast, 512, TEXT_BYTES);
+    expect(ended(post_send(north, LESUNGKAP_READ, entry(north, 600, TEXT_BYTES), plan), LESUNGKAP_SUCCESS), "a read that is granted");
+    expect(ended(post_send(north, LESUNGKAP_WRITE, entry(north, 0, TEXT_BYTES), plan), LESUNGKAP_REMOTE_ACCESS), "a write that isn't granted");
+    poll_all(north);
+    show_text(coast, 512);
+    make_ready(north, coast);
+}
+
 static void show_dropped_region(const struct account *north, const struct account *coast)
 {
-    printf("\n4. Coast drops its region while two receives wait on it; what still waits after the failure is flushed.\n");
+    printf("\n5. Coast drops its region while two receives wait on it; what still waits after the failure is flushed.\n");
     wait_for(coast, entry(coast, 0, 64));
     wait_for(coast, entry(coast, 64, 64));
     const struct lesungkap_deregister_mr data = {coast->mrn};
@@ -316,7 +339,7 @@ static void show_dropped_region(const struct account *north, const struct accoun
 
 static void show_flushed_work(const struct account *north, const struct account *coast)
 {
-    printf("\n5. Both queue pairs are in error. What is posted on them is flushed at once: it completes, and no byte moves.\n");
+    printf("\n6. Both queue pairs are in error. What is posted on them is flushed at once: it completes, and no byte moves.\n");
     expect(ended(send_text(north, entry(north, 0, TEXT_BYTES)), LESUNGKAP_FLUSHED), "a send in error");
     expect(ended(post_receive(coast, entry(coast, 0, 64)), LESUNGKAP_FLUSHED), "a receive in error");
     poll_all(north);
@@ -328,9 +351,9 @@ static void show_flushed_work(const struct account *north, const struct account 
 static void play(void)
 {
     const uint32_t all = LESUNGKAP_LOCAL_WRITE | LESUNGKAP_REMOTE_WRITE | LESUNGKAP_REMOTE_READ;
-    struct account north = {"North", 0, 0x10000, LESUNGKAP_LOCAL_WRITE, 0, 0, 0, 0, 0};
-    struct account coast = {"Coast", 2048, 0x20000, all, 0, 0, 0, 0, 0};
-    struct account ridge = {"Ridge", coast.start + REGION_BYTES, 0x30000, LESUNGKAP_LOCAL_WRITE, 0, 0, 0, 0, 0};
+    struct account north = {"North", 0, 0x10000, LESUNGKAP_LOCAL_WRITE, 0, 0, 0, 0, 0, 0};
+    struct account coast = {"Coast", 2048, 0x20000, all, LESUNGKAP_REMOTE_WRITE | LESUNGKAP_REMOTE_READ, 0, 0, 0, 0, 0};
+    struct account ridge = {"Ridge", coast.start + REGION_BYTES, 0x30000, LESUNGKAP_LOCAL_WRITE, 0, 0, 0, 0, 0, 0};
     expect(lesungkap_reset(state, sizeof state, sizeof memory) == LESUNGKAP_DONE, "a reset");
     printf("Three operators share one card over %d bytes of memory. Each line names its call.\n\n", MEMORY_BYTES);
     printf("  reset         answer 0, done\n");
@@ -338,12 +361,14 @@ static void play(void)
     open_account(&north);
     open_account(&coast);
     open_account(&ridge);
-    printf("Coast grants North remote write and remote read over its %d bytes, and gives it key %" PRIu32 " for them. Ridge grants nothing;\n"
-           "its first byte, %" PRIu64 ", stands right behind Coast's last.\n", REGION_BYTES, coast.key, ridge.start);
+    printf("Coast grants North remote write and remote read twice: in its region of %d bytes, whose key %" PRIu32 " it tells North, and on the queue\n"
+           "pair that it joins with North's. Ridge grants nothing; its first byte, %" PRIu64 ", stands right behind Coast's last.\n", REGION_BYTES,
+           coast.key, ridge.start);
     make_ready(&north, &coast);
     make_ready(&coast, &north);
     show_messages(&north, &coast);
     show_overhang(&north, &coast, &ridge);
+    show_rights(&north, &coast);
     show_dropped_region(&north, &coast);
     show_flushed_work(&north, &coast);
 }

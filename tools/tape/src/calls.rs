@@ -9,6 +9,9 @@ pub const POLL: u8 = 4;
 
 pub const HEADER: Header = Header { mark: [0x52, 0x4b], fault };
 
+/// The bits of a region's access and of a queue pair's access flags.
+const RIGHTS: [&str; 3] = ["local write", "remote write", "remote read"];
+
 fn fault(kind: u8, length: usize) -> Option<&'static str> {
     match kind {
         1..=3 if length > 640 => Some("length over 640"),
@@ -55,7 +58,7 @@ fn command(body: &[u8]) -> String {
         (7, 32) => register(data),
         (8, 4) => single("deregister MR", "mrn"),
         (9, 16) => create_pair(data),
-        (10, 16) => modify(data),
+        (10, 20) => modify(data),
         (12, 4) => single("destroy QP", "qpn"),
         _ => format!("command {command}, data of {}", hex(data)),
     }
@@ -63,7 +66,7 @@ fn command(body: &[u8]) -> String {
 
 fn register(data: &[u8]) -> String {
     let access = number(data, 4, 4);
-    let rights = bits(access, &["local write", "remote write", "remote read"]);
+    let rights = bits(access, &RIGHTS);
     let (start, length, virt) = (number(data, 8, 8), number(data, 16, 8), number(data, 24, 8));
     format!("register MR pdn {} access {access} ({rights}) start {start} length {length} virt {virt:#x}", number(data, 0, 4))
 }
@@ -85,7 +88,9 @@ fn modify(data: &[u8]) -> String {
     };
     let padding = if data[9..12] == [0; 3] { String::new() } else { format!(" padding {}", hex(&data[9..12])) };
     let peer = if mask >> 15 & 1 == 1 { format!(" destination {}", number(data, 12, 4)) } else { String::new() };
-    format!("modify QP qpn {} mask {mask:#x} state {} ({state}){padding}{peer}", number(data, 0, 4), data[8])
+    let flags = number(data, 16, 4);
+    let access = if mask >> 2 & 1 == 1 { format!(" access flags {flags} ({})", bits(flags, &RIGHTS)) } else { String::new() };
+    format!("modify QP qpn {} mask {mask:#x} state {} ({state}){padding}{peer}{access}", number(data, 0, 4), data[8])
 }
 
 fn send(body: &[u8]) -> String {
