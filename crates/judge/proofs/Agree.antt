@@ -235,7 +235,7 @@ posted-pairs c q w l a = go (flushesAtOnce c q)
 
 posted-agrees : (c : Card) (q : ℕ) (w : Receive) (l : Log) → Agree c l →
     Agree (received c q w) (Note.ofPair q (PairNote.posted w (joinStatus c q)) ∷ l)
-unfolding received joined standing dropped handed Distinct told toldOfBoth domain peer accepted taken errored
+unfolding received joined standing dropped handed Distinct told toldOfBoth domain rights peer accepted taken errored
 posted-agrees c q w l a = record { keys = go (flushesAtOnce c q); pairs = posted-pairs c q w l a }
   where
     go : (b : Bool) → let c′ = cond {A = Card} b (withCq c (putAll (joinPuts c q w) (c .cq))) (joined c q w) in

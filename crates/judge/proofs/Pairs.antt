@@ -103,7 +103,7 @@ said-flush false named v = refl
 
 -- it goes to error
 abbrev pub erred : Bool → Said → Said
-erred b v = record { domain = v .domain; peer = v .peer; accepted = v .accepted; taken = v .taken; errored = b || v .errored }
+erred b v = record { domain = v .domain; rights = v .rights; peer = v .peer; accepted = v .accepted; taken = v .taken; errored = b || v .errored }
 
 fails-run : (s : ℕ) → eqb s 4 ≡ false → fails s ≡ not (eqb s 0)
 fails-run s e = rw e (and-true (not (eqb s 0)))
@@ -117,7 +117,7 @@ said-sent r s e false named v = refl
 pub said-flushed : (r : Request) (own named : Bool) (v : Said) → (own ≡ true → v .errored ≡ true) → v ≡ saidBy (PairNote.sent r 4) own named v
 said-flushed r true named v h =
     rw (and-false (takes (r .opcode)), and-false named)
-    (ap (λ (b : Bool). record { domain = v .domain; peer = v .peer; accepted = v .accepted; taken = v .taken; errored = b }) (h refl))
+    (ap (λ (b : Bool). record { domain = v .domain; rights = v .rights; peer = v .peer; accepted = v .accepted; taken = v .taken; errored = b }) (h refl))
 said-flushed r false named v h = rw (and-false (takes (r .opcode)), and-false named)
 
 -- the oldest receive leaves
@@ -162,8 +162,8 @@ moves {o} {ws} {v} r named k =
 
 -- the three steps of a send
 module _ (qp : ℕ → Qp) (v : ℕ → Said) (agree : (j : ℕ) → Pair (qp j) (v j)) (q : ℕ) where
-  fails-one : {p : ℕ} {d : Option ℕ} {ws : List Receive} {b : Bool} {v : Said} → Knows p d ws b v → Knows p d ws true (erred true v)
-  fails-one k = record { domain = k .domain; peer = k .peer; waits = k .waits; within = k .within; errs = refl }
+  fails-one : {p f : ℕ} {d : Option ℕ} {ws : List Receive} {b : Bool} {v : Said} → Knows p f d ws b v → Knows p f d ws true (erred true v)
+  fails-one k = record { domain = k .domain; rights = k .rights; peer = k .peer; waits = k .waits; within = k .within; errs = refl }
 
   pub errors : (b : Bool) (j : ℕ) → Pair (errorIf b q qp j) (erred (eqb q j && b) (v j))
   errors false j = rw (and-false (eqb q j)) (agree j)

@@ -14,7 +14,7 @@ use Rattle.tables.specs.declared.Sge.{Sge}
 use Rattle.rules.specs.Touch.{Request, range, sgeBytes, sgeTotal, total, ownBytes, farBytes}
 use Rattle.rules.specs.Permit.{Use, opens, permitsAll, permits, lookup, covers}
 use Rattle.rules.specs.Control.{commandChecks, commandEffect}
-use Rattle.rules.specs.Send.{sendStatus}
+use Rattle.rules.specs.Send.{runStatus, sendStatus}
 use Rattle.rules.specs.Marks.{platform, after, obeyed, flagged, region, uses}
 
 -- the flags 0 to 7 that open each use: "local uses only at the region"
@@ -112,5 +112,5 @@ pub statuses : (status 0 1 0 2 ∷ status 0 1 0 7 ∷ status 0 1 7 0 ∷ status 
     ∷ (0 ∷ 0 ∷ 0 ∷ [])
     ∷ (0 ∷ 0 ∷ [])
     ∷ []
-unfolding pairs after commandChecks commandEffect lowest lowestFrom anyBelow all range sgeBytes sgeTotal total ownBytes farBytes sendStatus permitsAll permits lookup covers
+unfolding pairs after commandChecks commandEffect lowest lowestFrom anyBelow all range sgeBytes sgeTotal total ownBytes farBytes runStatus sendStatus permitsAll permits lookup covers
 statuses = refl

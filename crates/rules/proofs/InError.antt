@@ -15,7 +15,7 @@ use Rattle.rules.specs.Queues.{joinChecks, joinStatus, joinPuts, joined,
 -- every queue pair is in the state t, names queue pair 1, sends unsignaled and has the receives ws; completion queue 0 is its send queue and has a
 -- free places, completion queue 1 its receive queue and has b
 abbrev pair : (t : ℕ) → List Receive → Qp
-pair t ws = record { live = true; pd = 0; signal = 1; scq = 0; rcq = 1; state = t; dest = some 1; waiting = ws }
+pair t ws = record { live = true; pd = 0; signal = 1; scq = 0; rcq = 1; state = t; rights = 0; dest = some 1; waiting = ws }
 
 abbrev card : (t a b : ℕ) → List Receive → Card
 card t a b ws =
