@@ -1,7 +1,7 @@
 -- A run, by the bytes that its calls are given: two domains; writes, a send, inline bytes; a refused command, a refused reset, a hold, a
 -- poll, a flush; work requests with the statuses 0, 1, 3, 4, 7 and 8; a queue pair that can be read from and not written to; a region that is
--- dropped under waiting receives, and a write under its key after that; a send and receives posted in error; and a second reset. proofs/Example.antt shows that it is a list of
--- the judge's theorem. Assumes nothing.
+-- dropped under waiting receives, and a write under its key after that; a send and receives posted in error; and a second reset.
+-- proofs/Example.antt shows that it is a list of the judge's theorem. Assumes nothing.
 use mathlib.Core.Bool.{true, false}
 use mathlib.Core.List.{List, [], _∷_, _++_, map}
 use mathlib.Core.Option.{none, some}
@@ -173,7 +173,7 @@ allowing =
     again
     ++ (done (move 1 0) ∷ done (allow 1 1 4) ∷ done (aim 1 0) ∷ passes (send 4 0 200 (keyOf 1) unused 1 two) (1 ∷ 5 ∷ 6 ∷ 4 ∷ 5 ∷ 6 ∷ 7 ∷ 8 ∷ []) ∷
     fails (send 0 0 200 (keyOf 1) unused 1 two) 8 ∷ again)
-    ++ (done (allow 1 3 2) ∷ passes (send 0 0 200 (keyOf 1) unused 1 two) (1 ∷ 2 ∷ 3 ∷ 4 ∷ 2 ∷ 3 ∷ 7 ∷ 8 ∷ []) ∷ [])
+    ++ (done (allow 1 3 2) ∷ passes (send 0 0 200 (keyOf 1) unused 1 two) (1 ∷ 2 ∷ 3 ∷ 4 ∷ 2 ∷ 3 ∷ 7 ∷ 8 ∷ []) ∷ done poll ∷ done poll ∷ [])
 
 -- the peer's region is dropped while two receives wait for its bytes: the first is consumed in vain, and both queue pairs are in error. There a
 -- send is flushed, a third receive waits behind the second, both are flushed, and the fourth is flushed at once. Nor is the key one that can be
