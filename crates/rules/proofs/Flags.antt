@@ -34,9 +34,12 @@ modify q m s d f = Command.modifyQp (record { qpn = q; mask = m; state = s; pad0
 abbrev create : Command
 create = Command.createQp (record { pd = 0; kind = 2; signal = 0; scq = 0; rcq = 0 })
 
--- two queue pairs, and the region of the marks
+-- two queue pairs, the region of the marks, and one that can be read from remotely and not written to, with the key 257
 unfoldable pub pairs : Card
-pairs = after (fresh 4096) (Command.createPd ∷ Command.createCq 16 ∷ create ∷ create ∷ Command.register (region 256 4096) ∷ [])
+pairs =
+    after (fresh 4096)
+    (Command.createPd ∷ Command.createCq 16 ∷ create ∷ create ∷ Command.register (region 256 4096) ∷
+    Command.register (record { pd = 0; access = 4; start = 0; length = 100; virt = 4096 }) ∷ [])
 
 -- the flags of queue pair 0 after each of the commands
 unfoldable pub flags-along : Card → List Command → List ℕ
@@ -66,15 +69,17 @@ refused = refl
 
 -- ---- ranges
 
--- for each use, one byte of the region and an empty range under a key that nobody has, with the flags 0, 3 and 4: "an empty range looks at
--- neither"
+-- for each use, one byte of the marks' region with the flags 0, 3 and 4, one of the other region with 7 and 2, since the right is needed "in
+-- the region and in the peer's flags", and an empty range under a key that nobody has: "an empty range looks at neither"
 abbrev asked : (n k f : ℕ) → List Bool
 asked n k f = map (λ u. permitsAll (after pairs (flagged f ∷ [])) 0 u (range 4096 k n)) uses
 
-pub ranges : asked 1 1 0 ∷ asked 1 1 3 ∷ asked 1 1 4 ∷ asked 0 9999 0 ∷ []
+pub ranges : asked 1 1 0 ∷ asked 1 1 3 ∷ asked 1 1 4 ∷ asked 1 257 7 ∷ asked 1 257 2 ∷ asked 0 9999 0 ∷ []
     ≡ (true ∷ true ∷ false ∷ false ∷ [])
     ∷ (true ∷ true ∷ true ∷ false ∷ [])
     ∷ (true ∷ true ∷ false ∷ true ∷ [])
+    ∷ (true ∷ false ∷ false ∷ true ∷ [])
+    ∷ (true ∷ false ∷ false ∷ false ∷ [])
     ∷ (true ∷ true ∷ true ∷ true ∷ [])
     ∷ []
 unfolding pairs after commandChecks commandEffect lowest lowestFrom anyBelow all range permitsAll permits lookup covers
