@@ -13,7 +13,7 @@ const LEFT: u8 = 0xa5;
 type Check = (&'static str, fn(&dyn Card));
 
 /// Every check by its name.
-pub const CHECKS: [Check; 15] = [
+pub const CHECKS: [Check; 16] = [
     ("reset_takes_1_to_16777216", reset_takes_1_to_16777216),
     ("ack_needs_13_bytes", ack_needs_13_bytes),
     ("queries_need_129_or_33_bytes", queries_need_129_or_33_bytes),
