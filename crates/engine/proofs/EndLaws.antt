@@ -31,7 +31,7 @@ use Rattle.rules.specs.Send.{holdChecks, readyChecks, deliveryChecks, isInError
 use Rattle.rules.specs.Touch.{Request, requestOf}
 use Rattle.engine.specs.Meet.{bare, endsAt, metBy, meeting}
 use Rattle.engine.specs.Deliver.{totalBy, takenRow, Sending, Delivery}
-use Rattle.engine.specs.Settle.{putFirst, settled, Settling}
+use Rattle.engine.specs.Settle.{putFirst, settledBytes, Settling}
 use Rattle.engine.specs.Send.{Posted, Runs, Met, Carried, Ran}
 use Rattle.engine.proofs.RequestLaws.{requestBy, Told, told, total-is, sending, far-below, first-below, taken-count, status-same, done-short, memory-is}
 use Rattle.engine.proofs.CardLaws.{Open}
@@ -46,7 +46,7 @@ pub record Ending (l m x : List ℕ) (s : SendRecord) (q : ℕ) (e : Ends) (sges
   pub count : w .count ≤ 2
   pub sending : Sending s x sges n
   pub settling : (st : ℕ) (m′ : List ℕ) → Delivery l m e s x sges w n st m′ → Settling l e s w st n
-  pub carried : (st : ℕ) (m′ : List ℕ) → Delivery l m e s x sges w n st m′ → Carried l q (requestOf x) m st (settled l e s w st n) m′
+  pub carried : (st : ℕ) (m′ : List ℕ) → Delivery l m e s x sges w n st m′ → Carried l q (requestOf x) m st (settledBytes l e s w st n) m′
 
 module _ (l m x : List ℕ) (s : SendRecord) (q : ℕ) (a : accepts l ≡ true) (p : Posted x s)
     (good : Runs l q (s .opcode)) where
@@ -78,7 +78,7 @@ module _ (l m x : List ℕ) (s : SendRecord) (q : ℕ) (a : accepts l ≡ true) 
         sending = sending x s t;
         settling = λ st m′ y. settling l a q x s t good st (status-is st m′ y) n0 (λ i. total-is x s t) (done-short l a q x s t good st (status-is st m′ y));
         carried =
-            λ st m′ y. of-request st (settled l (endsAt l q) s w0 st n0) m′
+            λ st m′ y. of-request st (settledBytes l (endsAt l q) s w0 st n0) m′
             (record {
               status = status-is st m′ y;
               bytes = settled-is l a q x s t good st (status-is st m′ y) n0 (λ i. total-is x s t);

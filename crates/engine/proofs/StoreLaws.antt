@@ -25,7 +25,7 @@ use Rattle.rules.specs.Bytes.{pushAll, errorBytes, sendBytes}
 use Rattle.engine.specs.Meet.{endsAt}
 use Rattle.engine.specs.Deliver.{takenRow}
 use Rattle.engine.specs.Send.{Runs}
-use Rattle.engine.specs.Settle.{senderEntry, receiverEntry, putFirst, putSecond, putBytes, failedBytes, settled, Settling}
+use Rattle.engine.specs.Settle.{senderEntry, receiverEntry, putFirst, putSecond, putBytes, failedBytes, settledBytes, Settling}
 use Rattle.engine.proofs.CardLaws.{Stands, CanAll, Open, opened, push-all}
 use Rattle.engine.proofs.OwedLaws.{can-put, send-open, waits-then, send-fits}
 use Rattle.engine.proofs.RequestLaws.{requestBy, Told, entries, ok, goes, own-below, own-is, peer-is, far-below, far-is, taken-is, taken-count}
@@ -118,7 +118,7 @@ module _ (l : List ℕ) (a : accepts l ≡ true) (q : ℕ) (x : List ℕ) (s : S
     failed-bytes : errorBytes (fails (sendStatus c q r)) (pushAll l (sendPuts c q r (sendStatus c q r))) q ≡ failedBytes l e s w st k
     failed-bytes = rw put-bytes (rw (← is))
 
-    pub settled-is : settled l e s w st k ≡ sendBytes l q r
+    pub settled-is : settledBytes l e s w st k ≡ sendBytes l q r
     unfolding sendBytes
     settled-is = rw (peer-is l a q x s t good, failed-bytes, ← is)
 

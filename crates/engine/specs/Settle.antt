@@ -61,8 +61,8 @@ abbrev pub failedBytes : List ℕ → Ends → SendRecord → ReceiveRecord → 
 failedBytes l e s w st n = errorBytes (fails st) (putBytes l e s w st n) (e .q)
 
 -- "The receive is consumed, both QPs go to error."
-abbrev pub settled : List ℕ → Ends → SendRecord → ReceiveRecord → (st n : ℕ) → List ℕ
-settled l e s w st n =
+abbrev pub settledBytes : List ℕ → Ends → SendRecord → ReceiveRecord → (st n : ℕ) → List ℕ
+settledBytes l e s w st n =
     errorBytes (eqb st 7) (consumeBytes (consumes (s .opcode) st) (failedBytes l e s w st n) (e .own .dest)) (e .own .dest)
 
 -- what the stores ask: numbers within their tables, a length that is not too long, a free place for each completion, a receive that waits

@@ -35,7 +35,7 @@ ghost use Rattle.tables.specs.Limits.{cqCount, qpCount, mostPlaces, mostMessage
 ghost use Rattle.tables.specs.Records.{receiveSges};
 ghost use Rattle.rules.specs.Send.{senderOpcode, receiverOpcode, consumes};
 ghost use Rattle.rules.specs.Bytes.{pushAll, errorBytes, consumeBytes};
-ghost use Rattle.engine.specs.Settle.{receiverStatus, putFirst, putSecond, settled, Settling};
+ghost use Rattle.engine.specs.Settle.{receiverStatus, putFirst, putSecond, settledBytes, Settling};
 
 // x where b holds, else y.
 pub fn choose(b: bool, x: u8, y: u8) -> u8
@@ -204,7 +204,7 @@ fn consume_if(state: &mut [u8], b: bool, q: usize)
 // What a delivery with a status leaves in the state: its completions, the sender's error, the receive consumed, the peer's error.
 pub fn settle(state: &mut [u8], e: Ends, s: SendRecord, w: ReceiveRecord, st: u8, n: u64)
     requires { ⌜ Settling (now state) e s w st n ⌝ }
-    ensures { λ _. ⌜ now (state .exit) ≡ settled (now (state .entry)) e s w st n ⌝ }
+    ensures { λ _. ⌜ now (state .exit) ≡ settledBytes (now (state .entry)) e s w st n ⌝ }
 {
     let d = e.own.dest as usize;
     put_sender(state, e.q, e.own, s, st, n);
