@@ -1,0 +1,58 @@
+/* What the card does not have, answered as libibverbs answers for a device without it. */
+#include "verbs.h"
+
+#include <errno.h>
+
+/* Functions that make an object: NULL and errno. */
+#define NO_OBJECT(type, name, arguments) \
+    EXPORTED type *name arguments { return fail(EOPNOTSUPP); }
+
+/* Functions that return an errno. */
+#define NO_CALL(name, arguments) \
+    EXPORTED int name arguments { return EOPNOTSUPP; }
+
+#pragma GCC diagnostic ignored "-Wunused-parameter"
+
+/* shared receive queues, address handles and multicast (no datagrams yet) */
+NO_OBJECT(struct ibv_srq, ibv_create_srq, (struct ibv_pd * pd, struct ibv_srq_init_attr *attr))
+NO_CALL(ibv_modify_srq, (struct ibv_srq * srq, struct ibv_srq_attr *attr, int mask))
+NO_CALL(ibv_query_srq, (struct ibv_srq * srq, struct ibv_srq_attr *attr))
+NO_CALL(ibv_destroy_srq, (struct ibv_srq * srq))
+NO_OBJECT(struct ibv_ah, ibv_create_ah, (struct ibv_pd * pd, struct ibv_ah_attr *attr))
+NO_OBJECT(struct ibv_ah, ibv_create_ah_from_wc, (struct ibv_pd * pd, struct ibv_wc *wc, struct ibv_grh *grh, uint8_t port))
+NO_CALL(ibv_init_ah_from_wc, (struct ibv_context * context, uint8_t port, struct ibv_wc *wc, struct ibv_grh *grh, struct ibv_ah_attr *attr))
+NO_CALL(ibv_destroy_ah, (struct ibv_ah * ah))
+NO_CALL(ibv_attach_mcast, (struct ibv_qp * qp, const union ibv_gid *gid, uint16_t lid))
+NO_CALL(ibv_detach_mcast, (struct ibv_qp * qp, const union ibv_gid *gid, uint16_t lid))
+
+/* changes of what is made, other kinds of memory, objects of other processes, extended queue pairs, vendors' options */
+NO_CALL(ibv_resize_cq, (struct ibv_cq * cq, int cqe))
+NO_CALL(ibv_rereg_mr, (struct ibv_mr * mr, int flags, struct ibv_pd *pd, void *address, size_t length, int access))
+NO_OBJECT(struct ibv_mr, ibv_reg_dmabuf_mr, (struct ibv_pd * pd, uint64_t offset, size_t length, uint64_t iova, int fd, int access))
+NO_OBJECT(struct ibv_context, ibv_import_device, (int fd))
+NO_OBJECT(struct ibv_pd, ibv_import_pd, (struct ibv_context * context, uint32_t handle))
+NO_OBJECT(struct ibv_mr, ibv_import_mr, (struct ibv_pd * pd, uint32_t handle))
+NO_OBJECT(struct ibv_qp_ex, ibv_qp_to_qp_ex, (struct ibv_qp * qp))
+NO_CALL(ibv_set_ece, (struct ibv_qp * qp, struct ibv_ece *ece))
+NO_CALL(ibv_query_ece, (struct ibv_qp * qp, struct ibv_ece *ece))
+
+/* Calls through the context. */
+static struct ibv_mw *alloc_mw(struct ibv_pd *pd, enum ibv_mw_type type) { return fail(EOPNOTSUPP); }
+
+static int bind_mw(struct ibv_qp *qp, struct ibv_mw *mw, struct ibv_mw_bind *bind) { return EOPNOTSUPP; }
+
+static int dealloc_mw(struct ibv_mw *mw) { return EOPNOTSUPP; }
+
+static int post_srq_recv(struct ibv_srq *srq, struct ibv_recv_wr *wr, struct ibv_recv_wr **bad)
+{
+    *bad = wr;
+    return EOPNOTSUPP;
+}
+
+void lacks_ops(struct ibv_context_ops *ops)
+{
+    ops->alloc_mw = alloc_mw;
+    ops->bind_mw = bind_mw;
+    ops->dealloc_mw = dealloc_mw;
+    ops->post_srq_recv = post_srq_recv;
+}

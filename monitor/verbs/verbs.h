@@ -1,0 +1,114 @@
+/* What the preload library keeps behind the objects of libibverbs. */
+#ifndef LESUNGKAP_VERBS_H
+#define LESUNGKAP_VERBS_H
+
+#include "link.h"
+
+#include <infiniband/verbs.h>
+
+/* The headers' wrappers; the functions themselves are defined here. */
+#undef ibv_get_device_list
+#undef ibv_query_port
+#undef ibv_reg_mr
+#undef ibv_reg_mr_iova
+
+#define EXPORTED __attribute__((visibility("default")))
+
+enum {
+    MOST_CQE = 4096,
+    MOST_WR = PACKET_HELD_MOST,
+    PORT = 1,
+    NUMBERS = 1 << PACKET_NAME_SHIFT /* of queue pairs and completion queues, in one byte */
+};
+
+struct page {
+    uintptr_t address; /* of the program's page that lies here */
+    unsigned uses;     /* by regions; 0: free */
+};
+
+/* The program's pages in the client's memory file. */
+struct pages {
+    int file;
+    size_t count;
+    struct page *at;
+};
+
+struct lk_cq {
+    struct ibv_cq base;
+    uint32_t cqn;
+    int armed;
+};
+
+/* Receives that the card has no room for wait here, the oldest first. */
+struct lk_qp {
+    struct ibv_qp base;
+    struct ibv_qp_attr attr;
+    struct ibv_qp_init_attr init;
+    int broken;  /* in error: receives are flushed */
+    int drained; /* and none is left in the card */
+    unsigned first;
+    unsigned waiting;
+    unsigned in_card;
+    struct lesungkap_receive *receives; /* init.cap.max_recv_wr of them */
+};
+
+struct lk_mr {
+    struct ibv_mr base;
+    uint32_t mrn;
+    size_t first_page;
+    size_t pages;
+};
+
+struct lk_channel {
+    struct ibv_comp_channel base;
+    int other; /* the end that the monitor writes to */
+};
+
+struct lk_context {
+    struct ibv_context base;
+    struct link link;
+    struct pages pages;
+    int joined;
+    pthread_mutex_t lock;
+    struct lk_cq *cqs[NUMBERS];
+    struct lk_qp *qps[NUMBERS];
+    uint32_t names[NUMBERS]; /* the last name of each number */
+};
+
+static inline struct lk_context *context_of(struct ibv_context *context) { return (struct lk_context *)context; }
+
+/* errno, and NULL. */
+void *fail(int why);
+
+/* ---- device.c */
+
+/* Brings the client's memory to the monitor, once; 0 or an errno. */
+int join_monitor(struct lk_context *context);
+
+/* ---- pages.c */
+
+int pages_open(struct pages *pages, uint32_t bytes);
+void pages_close(struct pages *pages);
+/* Puts the program's pages that hold these bytes into the file, in place and in a row; 0 or an errno. */
+int pages_share(struct pages *pages, uintptr_t address, size_t length, size_t *first, size_t *count);
+void pages_release(struct pages *pages, size_t first, size_t count);
+
+/* ---- work.c */
+
+int work_post_send(struct ibv_qp *qp, struct ibv_send_wr *wr, struct ibv_send_wr **bad);
+int work_post_receive(struct ibv_qp *qp, struct ibv_recv_wr *wr, struct ibv_recv_wr **bad);
+int work_poll(struct ibv_cq *cq, int count, struct ibv_wc *wcs);
+
+/* ---- events.c */
+
+int events_arm(struct ibv_cq *cq, int solicited_only);
+/* An event of the library's own, where the queue waits for one. */
+void events_raise(struct lk_cq *cq);
+/* Whether a queue pair in error has receives to flush into the queue. */
+int flushes_into(struct lk_context *context, const struct lk_cq *cq);
+
+/* ---- lacks.c */
+
+void lacks_ops(struct ibv_context_ops *ops);
+
+#endif

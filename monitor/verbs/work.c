@@ -1,0 +1,257 @@
+/* Posting and polling. A send goes to the monitor at once, which holds it where the card can't take it yet. A receive that the card has no
+ * room for waits here, and follows when one has been completed. Of a queue pair in error, the card's receives are flushed by request, and
+ * those that wait here after them. */
+#include "verbs.h"
+
+#include <errno.h>
+
+/* ---- sends */
+
+/* Copies what the entries point to; 0 where it is too much. */
+static int gather(const struct ibv_send_wr *wr, uint8_t bytes[LESUNGKAP_MOST_INLINE], uint32_t *length)
+{
+    *length = 0;
+    for (int n = 0; n < wr->num_sge; n++) {
+        const struct ibv_sge *sge = wr->sg_list + n;
+        if (sge->length > LESUNGKAP_MOST_INLINE - *length) {
+            return 0;
+        }
+        memcpy(bytes + *length, (const void *)(uintptr_t)sge->addr, sge->length);
+        *length += sge->length;
+    }
+    return 1;
+}
+
+static void copy_entries(struct lesungkap_sge *to, const struct ibv_sge *from, uint32_t count)
+{
+    for (uint32_t n = 0; n < count; n++) {
+        to[n] = (struct lesungkap_sge){from[n].addr, from[n].length, from[n].lkey};
+    }
+}
+
+/* The card's record of a request; 0 or an errno. */
+static int put_request(const struct lk_qp *qp, const struct ibv_send_wr *wr, struct lesungkap_send *send, uint8_t *bytes)
+{
+    const unsigned flags = LESUNGKAP_FLAG_FENCE | LESUNGKAP_FLAG_SIGNALED | LESUNGKAP_FLAG_SOLICITED | LESUNGKAP_FLAG_INLINE;
+    if (wr->opcode > IBV_WR_RDMA_READ) {
+        return EOPNOTSUPP;
+    }
+    if (wr->num_sge < 0 || (unsigned)wr->num_sge > qp->init.cap.max_send_sge || (wr->send_flags & ~flags)) {
+        return EINVAL;
+    }
+    memset(send, 0, sizeof *send);
+    send->wr_id = wr->wr_id;
+    send->opcode = (uint8_t)wr->opcode;
+    send->flags = (uint8_t)wr->send_flags;
+    if (wr->opcode == IBV_WR_SEND_WITH_IMM || wr->opcode == IBV_WR_RDMA_WRITE_WITH_IMM) {
+        send->immediate = wr->imm_data;
+    }
+    if (wr->opcode != IBV_WR_SEND && wr->opcode != IBV_WR_SEND_WITH_IMM) {
+        send->remote_address = wr->wr.rdma.remote_addr;
+        send->remote_key = wr->wr.rdma.rkey;
+    }
+    if (wr->send_flags & IBV_SEND_INLINE) {
+        send->inline_bytes = bytes;
+        return gather(wr, bytes, &send->count) ? 0 : EINVAL;
+    }
+    send->count = (uint32_t)wr->num_sge;
+    copy_entries(send->sges, wr->sg_list, send->count);
+    return 0;
+}
+
+static int post_one(struct lk_context *context, const struct lk_qp *qp, const struct ibv_send_wr *wr)
+{
+    uint8_t bytes[LESUNGKAP_MOST_INLINE];
+    struct lesungkap_send send;
+    const int why = put_request(qp, wr, &send, bytes);
+    if (why != 0) {
+        return why;
+    }
+    const uint32_t result = ask_send(&context->link, qp->base.qp_num, &send);
+    switch (lesungkap_answer(result)) {
+    case LESUNGKAP_DONE:
+    case LESUNGKAP_HELD_PEER:
+    case LESUNGKAP_HELD_PLACE: return 0;
+    default: return link_errno(result);
+    }
+}
+
+int work_post_send(struct ibv_qp *base, struct ibv_send_wr *wr, struct ibv_send_wr **bad)
+{
+    struct lk_context *context = context_of(base->context);
+    int why = 0;
+    pthread_mutex_lock(&context->lock);
+    for (; wr != NULL && why == 0; wr = why == 0 ? wr->next : wr) {
+        why = post_one(context, (struct lk_qp *)base, wr);
+        *bad = wr;
+    }
+    pthread_mutex_unlock(&context->lock);
+    return why;
+}
+
+/* ---- receives */
+
+/* Moves receives that wait here into the card, as many as it takes. */
+static uint32_t top_up(struct lk_context *context, struct lk_qp *qp)
+{
+    uint32_t result = LESUNGKAP_DONE;
+    while (qp->waiting > 0 && qp->in_card < LESUNGKAP_QP_MOST_RECEIVES && !qp->broken) {
+        result = ask_receive(&context->link, qp->base.qp_num, qp->receives + qp->first);
+        if (lesungkap_answer(result) != LESUNGKAP_DONE) {
+            break;
+        }
+        qp->first = (qp->first + 1) % qp->init.cap.max_recv_wr;
+        qp->waiting--;
+        qp->in_card++;
+    }
+    return result;
+}
+
+static int receive_one(struct lk_context *context, struct lk_qp *qp, const struct ibv_recv_wr *wr)
+{
+    if (wr->num_sge < 0 || (unsigned)wr->num_sge > qp->init.cap.max_recv_sge || qp->base.state == IBV_QPS_RESET) {
+        return EINVAL;
+    }
+    if (qp->waiting + qp->in_card >= qp->init.cap.max_recv_wr) {
+        return ENOMEM;
+    }
+    struct lesungkap_receive *receive = qp->receives + (qp->first + qp->waiting) % qp->init.cap.max_recv_wr;
+    memset(receive, 0, sizeof *receive);
+    receive->wr_id = wr->wr_id;
+    receive->count = (uint32_t)wr->num_sge;
+    copy_entries(receive->sges, wr->sg_list, receive->count);
+    qp->waiting++;
+    const uint32_t result = top_up(context, qp);
+    return lesungkap_answer(result) == LINK_LOST ? EIO : 0;
+}
+
+int work_post_receive(struct ibv_qp *base, struct ibv_recv_wr *wr, struct ibv_recv_wr **bad)
+{
+    struct lk_context *context = context_of(base->context);
+    struct lk_qp *qp = (struct lk_qp *)base;
+    int why = 0;
+    pthread_mutex_lock(&context->lock);
+    for (; wr != NULL && why == 0; wr = why == 0 ? wr->next : wr) {
+        why = receive_one(context, qp, wr);
+        *bad = wr;
+    }
+    if (qp->broken && qp->waiting > 0) {
+        events_raise((struct lk_cq *)base->recv_cq);
+    }
+    pthread_mutex_unlock(&context->lock);
+    return why;
+}
+
+/* ---- completions */
+
+static enum ibv_wc_status status_of(unsigned status)
+{
+    switch (status) {
+    case LESUNGKAP_SUCCESS: return IBV_WC_SUCCESS;
+    case LESUNGKAP_LOCAL_LENGTH: return IBV_WC_LOC_LEN_ERR;
+    case LESUNGKAP_LOCAL_PROTECTION: return IBV_WC_LOC_PROT_ERR;
+    case LESUNGKAP_FLUSHED: return IBV_WC_WR_FLUSH_ERR;
+    case LESUNGKAP_REMOTE_INVALID: return IBV_WC_REM_INV_REQ_ERR;
+    case LESUNGKAP_REMOTE_ACCESS: return IBV_WC_REM_ACCESS_ERR;
+    default: return IBV_WC_GENERAL_ERR;
+    }
+}
+
+static enum ibv_wc_opcode opcode_of(unsigned opcode)
+{
+    switch (opcode) {
+    case LESUNGKAP_COMPLETED_SEND: return IBV_WC_SEND;
+    case LESUNGKAP_COMPLETED_WRITE: return IBV_WC_RDMA_WRITE;
+    case LESUNGKAP_COMPLETED_READ: return IBV_WC_RDMA_READ;
+    case LESUNGKAP_COMPLETED_RECEIVE_OF_WRITE: return IBV_WC_RECV_RDMA_WITH_IMM;
+    default: return IBV_WC_RECV;
+    }
+}
+
+/* A completion has no mark of an immediate: a write's is always there, a send's where it isn't 0. */
+static void put_wc(const struct lk_context *context, const struct lesungkap_completion *done, struct ibv_wc *wc)
+{
+    const int write = done->opcode == LESUNGKAP_COMPLETED_RECEIVE_OF_WRITE;
+    memset(wc, 0, sizeof *wc);
+    wc->wr_id = done->wr_id;
+    wc->status = status_of(done->status);
+    wc->opcode = opcode_of(done->opcode);
+    wc->byte_len = done->byte_length;
+    wc->qp_num = context->names[qp_number(done->qpn)];
+    wc->imm_data = done->immediate;
+    wc->wc_flags = done->status == LESUNGKAP_SUCCESS && (write || done->immediate != 0) ? IBV_WC_WITH_IMM : 0;
+}
+
+/* What a completion says of its queue pair: a failure leaves it in error, a receive makes room for the next. */
+static void note(struct lk_context *context, const struct lesungkap_completion *done)
+{
+    struct lk_qp *qp = context->qps[qp_number(done->qpn)];
+    if (qp == NULL) {
+        return;
+    }
+    if (done->status != LESUNGKAP_SUCCESS) {
+        qp->broken = 1;
+    }
+    if (done->opcode == LESUNGKAP_COMPLETED_RECEIVE || done->opcode == LESUNGKAP_COMPLETED_RECEIVE_OF_WRITE) {
+        qp->in_card -= qp->in_card > 0;
+        top_up(context, qp);
+    }
+}
+
+/* A completion of the queue pair's oldest receive that waits here. */
+static void flush_here(struct lk_qp *qp, struct lesungkap_completion *done)
+{
+    memset(done, 0, sizeof *done);
+    done->wr_id = qp->receives[qp->first].wr_id;
+    done->status = LESUNGKAP_FLUSHED;
+    done->opcode = LESUNGKAP_COMPLETED_RECEIVE;
+    done->qpn = qp->base.handle;
+    qp->first = (qp->first + 1) % qp->init.cap.max_recv_wr;
+    qp->waiting--;
+}
+
+/* The next flushed receive of a queue pair in error: the card's first. */
+static uint32_t poll_flushed(struct lk_context *context, const struct lk_cq *cq, struct lesungkap_completion *done)
+{
+    unsigned left;
+    for (unsigned n = 0; n < NUMBERS; n++) {
+        struct lk_qp *qp = context->qps[n];
+        if (qp == NULL || !qp->broken || qp->base.recv_cq != &cq->base) {
+            continue;
+        }
+        if (!qp->drained && ask_flush(&context->link, qp->base.qp_num) == LESUNGKAP_DONE) {
+            return ask_poll(&context->link, cq->cqn, done, &left);
+        }
+        qp->drained = 1;
+        qp->in_card = 0;
+        if (qp->waiting > 0) {
+            flush_here(qp, done);
+            return LESUNGKAP_DONE;
+        }
+    }
+    return LESUNGKAP_NOTHING;
+}
+
+int work_poll(struct ibv_cq *base, int count, struct ibv_wc *wcs)
+{
+    struct lk_context *context = context_of(base->context);
+    const struct lk_cq *cq = (struct lk_cq *)base;
+    struct lesungkap_completion done;
+    uint32_t result = LESUNGKAP_DONE;
+    int got = 0;
+    unsigned left = 1;
+    pthread_mutex_lock(&context->lock);
+    while (got < count && result == LESUNGKAP_DONE && (left > 0 || flushes_into(context, cq))) {
+        result = ask_poll(&context->link, cq->cqn, &done, &left);
+        if (lesungkap_answer(result) == LESUNGKAP_NOTHING) {
+            left = 0;
+            result = poll_flushed(context, cq, &done);
+        }
+        if (result == LESUNGKAP_DONE) {
+            put_wc(context, &done, wcs + got++);
+            note(context, &done);
+        }
+    }
+    pthread_mutex_unlock(&context->lock);
+    return lesungkap_answer(result) == LINK_LOST ? -1 : got;
+}

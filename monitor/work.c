@@ -1,0 +1,273 @@
+/* Work requests, polls and events. A send that the card holds waits here, in the order of its queue pair, and is tried again in turn. So
+ * does one on a queue pair in error, until a poll of its completion queue takes it out as flushed. */
+#define _GNU_SOURCE
+#include "monitor.h"
+
+#include <sys/socket.h>
+
+/* ---- events */
+
+void events_before(struct monitor *monitor)
+{
+    for (uint32_t cqn = 0; cqn < LESUNGKAP_CQ_COUNT; cqn++) {
+        if (monitor->events[cqn].armed) {
+            monitor->events[cqn].unread = card_unread(&monitor->card, cqn);
+        }
+    }
+}
+
+/* The event is the number of the queue. It is lost where the client's socket is full or is gone: that client does not listen. */
+static void notify(struct events *events, uint32_t cqn)
+{
+    const uint8_t number = (uint8_t)cqn;
+    events->armed = 0;
+    if (events->channel != NO_FD) {
+        (void)!send(events->channel, &number, sizeof number, MSG_DONTWAIT | MSG_NOSIGNAL);
+    }
+}
+
+void events_after(struct monitor *monitor)
+{
+    for (uint32_t cqn = 0; cqn < LESUNGKAP_CQ_COUNT; cqn++) {
+        struct events *events = monitor->events + cqn;
+        if (events->armed && card_unread(&monitor->card, cqn) > events->unread) {
+            notify(events, cqn);
+        }
+    }
+}
+
+void events_forget(struct monitor *monitor, uint32_t cqn)
+{
+    struct events *events = monitor->events + cqn;
+    close_file(events->channel);
+    events->channel = NO_FD;
+    events->armed = 0;
+}
+
+static int is_packet_socket(int fd)
+{
+    int domain = 0, type = 0;
+    socklen_t size = sizeof domain;
+    if (getsockopt(fd, SOL_SOCKET, SO_DOMAIN, &domain, &size) != 0) {
+        return 0;
+    }
+    size = sizeof type;
+    return getsockopt(fd, SOL_SOCKET, SO_TYPE, &type, &size) == 0 && domain == AF_UNIX && type == SOCK_SEQPACKET;
+}
+
+/* Takes the socket if it answers LESUNGKAP_DONE. */
+uint32_t events_channel(struct monitor *monitor, unsigned client, uint32_t cqn, int fd)
+{
+    if (!owns(monitor, client, CQ, cqn)) {
+        return LESUNGKAP_NOT_LIVE;
+    }
+    if (fd == NO_FD || !is_packet_socket(fd)) {
+        return LESUNGKAP_BAD_FIELD;
+    }
+    events_forget(monitor, cqn);
+    monitor->events[cqn].channel = fd;
+    return LESUNGKAP_DONE;
+}
+
+uint32_t events_arm(struct monitor *monitor, unsigned client, uint32_t cqn)
+{
+    if (!owns(monitor, client, CQ, cqn)) {
+        return LESUNGKAP_NOT_LIVE;
+    }
+    monitor->events[cqn].armed = 1;
+    return LESUNGKAP_DONE;
+}
+
+/* ---- sends */
+
+static uint32_t send_once(struct monitor *monitor, uint32_t qpn, const uint8_t *record, size_t length)
+{
+    events_before(monitor);
+    uint32_t result = card_send(&monitor->card, qpn, record, length);
+    if (lesungkap_answer(result) == LESUNGKAP_HELD_PEER && peer_gone(monitor, qpn)) {
+        card_break(&monitor->card, qpn);
+        result = card_send(&monitor->card, qpn, record, length);
+    }
+    events_after(monitor);
+    monitor->changed |= lesungkap_answer(result) == LESUNGKAP_DONE;
+    return result;
+}
+
+static int is_held(uint32_t result)
+{
+    return lesungkap_answer(result) == LESUNGKAP_HELD_PEER || lesungkap_answer(result) == LESUNGKAP_HELD_PLACE;
+}
+
+/* A card that refuses work in the error state leaves its flushing to the monitor. */
+static int is_refused_in_error(const struct monitor *monitor, uint32_t qpn, uint32_t result)
+{
+    return lesungkap_answer(result) == LESUNGKAP_WRONG_STATE && card_qp_state(&monitor->card, qpn) == LESUNGKAP_QP_ERROR;
+}
+
+static uint32_t hold(struct held *held, const uint8_t *record, size_t length, uint32_t result)
+{
+    if (held->count == PACKET_HELD_MOST) {
+        return LESUNGKAP_FULL;
+    }
+    const unsigned place = (held->first + held->count++) % PACKET_HELD_MOST;
+    memcpy(held->at[place].record, record, length);
+    held->at[place].length = (uint16_t)length;
+    return result;
+}
+
+static void drop_first(struct held *held)
+{
+    held->first = (held->first + 1) % PACKET_HELD_MOST;
+    held->count--;
+}
+
+/* A completion queue that waits for an event gets one: the held sends of a queue pair in error can be polled. */
+static void notify_flushed(struct monitor *monitor, uint32_t qpn)
+{
+    const uint32_t cqn = card_send_cq(&monitor->card, qpn);
+    if (cqn < LESUNGKAP_CQ_COUNT && monitor->events[cqn].armed) {
+        notify(monitor->events + cqn, cqn);
+    }
+}
+
+uint32_t work_send(struct monitor *monitor, unsigned client, uint32_t qpn, const uint8_t *record, size_t length)
+{
+    struct lesungkap_send send;
+    if (!owns(monitor, client, QP, qpn)) {
+        return LESUNGKAP_NOT_LIVE;
+    }
+    const unsigned test = lesungkap_get_send(record, length, &send);
+    if (test != LESUNGKAP_DONE) {
+        return test;
+    }
+    struct held *held = monitor->held + qpn;
+    if (held->count > 0) {
+        return hold(held, record, length, LESUNGKAP_HELD_PLACE);
+    }
+    const uint32_t result = send_once(monitor, qpn, record, length);
+    if (is_held(result)) {
+        return hold(held, record, length, result);
+    }
+    if (is_refused_in_error(monitor, qpn, result)) {
+        const uint32_t flushed = hold(held, record, length, LESUNGKAP_DONE | LESUNGKAP_FLUSHED << 8);
+        notify_flushed(monitor, qpn);
+        return flushed;
+    }
+    return result;
+}
+
+static void try_first(struct monitor *monitor, uint32_t qpn)
+{
+    struct held *held = monitor->held + qpn;
+    const uint32_t result = send_once(monitor, qpn, held->at[held->first].record, held->at[held->first].length);
+    if (is_refused_in_error(monitor, qpn, result)) {
+        notify_flushed(monitor, qpn);
+    } else if (!is_held(result)) {
+        drop_first(held);
+    }
+}
+
+void work_turn(struct monitor *monitor)
+{
+    monitor->changed = 0;
+    for (uint32_t n = 0; n < LESUNGKAP_QP_COUNT; n++) {
+        const uint32_t qpn = (monitor->turn + n) % LESUNGKAP_QP_COUNT;
+        if (monitor->held[qpn].count > 0) {
+            try_first(monitor, qpn);
+        }
+    }
+    monitor->turn = (monitor->turn + 1) % LESUNGKAP_QP_COUNT;
+}
+
+void work_forget(struct monitor *monitor, uint32_t qpn) { monitor->held[qpn].count = 0; }
+
+/* ---- receives, flushes, polls */
+
+uint32_t work_receive(struct monitor *monitor, unsigned client, uint32_t qpn, const uint8_t *record, size_t length)
+{
+    if (!owns(monitor, client, QP, qpn)) {
+        return LESUNGKAP_NOT_LIVE;
+    }
+    events_before(monitor);
+    const uint32_t result = card_receive(&monitor->card, qpn, record, length);
+    events_after(monitor);
+    monitor->changed |= lesungkap_answer(result) == LESUNGKAP_DONE;
+    return result;
+}
+
+uint32_t work_flush(struct monitor *monitor, unsigned client, uint32_t qpn)
+{
+    if (!owns(monitor, client, QP, qpn)) {
+        return LESUNGKAP_NOT_LIVE;
+    }
+    events_before(monitor);
+    const uint32_t result = card_flush(&monitor->card, qpn);
+    events_after(monitor);
+    return result;
+}
+
+/* The queue pair in error whose held sends complete into this queue, or LESUNGKAP_NO_QP. */
+static uint32_t flushes_into(const struct monitor *monitor, uint32_t cqn)
+{
+    for (uint32_t qpn = 0; qpn < LESUNGKAP_QP_COUNT; qpn++) {
+        if (monitor->held[qpn].count > 0 && card_qp_state(&monitor->card, qpn) == LESUNGKAP_QP_ERROR &&
+            card_send_cq(&monitor->card, qpn) == cqn) {
+            return qpn;
+        }
+    }
+    return LESUNGKAP_NO_QP;
+}
+
+/* The completion of the oldest held send of a queue pair in error, as a card gives it that accepts work there. */
+static void flush_held(struct monitor *monitor, uint32_t qpn, uint8_t *completion)
+{
+    static const uint8_t completed[] = {LESUNGKAP_COMPLETED_WRITE, LESUNGKAP_COMPLETED_WRITE, LESUNGKAP_COMPLETED_SEND,
+                                        LESUNGKAP_COMPLETED_SEND, LESUNGKAP_COMPLETED_READ};
+    struct held *held = monitor->held + qpn;
+    struct lesungkap_send send;
+    struct lesungkap_completion done;
+    memset(&done, 0, sizeof done);
+    if (lesungkap_get_send(held->at[held->first].record, held->at[held->first].length, &send) == LESUNGKAP_DONE) {
+        done.wr_id = send.wr_id;
+        done.opcode = completed[send.opcode];
+    }
+    done.status = LESUNGKAP_FLUSHED;
+    done.qpn = qpn;
+    lesungkap_put_completion(completion, LESUNGKAP_COMPLETION_BYTES, &done);
+    drop_first(held);
+}
+
+/* An empty queue may be one that a queue pair in error still has sends for: the card flushes the oldest if it does that, else the monitor. */
+static void poll_flushed(struct monitor *monitor, uint32_t cqn, struct answer *answer)
+{
+    const uint32_t qpn = flushes_into(monitor, cqn);
+    if (qpn == LESUNGKAP_NO_QP) {
+        return;
+    }
+    const unsigned before = monitor->held[qpn].count;
+    try_first(monitor, qpn);
+    if (monitor->held[qpn].count < before) {
+        answer->result = card_poll(&monitor->card, cqn, answer->body);
+    } else {
+        flush_held(monitor, qpn, answer->body);
+        answer->result = LESUNGKAP_DONE;
+    }
+}
+
+void work_poll(struct monitor *monitor, unsigned client, uint32_t cqn, struct answer *answer)
+{
+    if (!owns(monitor, client, CQ, cqn)) {
+        answer->result = LESUNGKAP_NOT_LIVE;
+        return;
+    }
+    answer->result = card_poll(&monitor->card, cqn, answer->body);
+    monitor->changed |= answer->result == LESUNGKAP_DONE;
+    if (answer->result == LESUNGKAP_NOTHING) {
+        poll_flushed(monitor, cqn, answer);
+    }
+    if (answer->result == LESUNGKAP_DONE) {
+        const unsigned left = card_unread(&monitor->card, cqn) + (flushes_into(monitor, cqn) != LESUNGKAP_NO_QP);
+        answer->body[LESUNGKAP_COMPLETION_BYTES] = (uint8_t)(left < 255 ? left : 255);
+        answer->length = PACKET_POLL_BYTES;
+    }
+}

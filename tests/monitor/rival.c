@@ -1,0 +1,387 @@
+/* What a client may not do, and what it may not see. Each case is a function; a line for each, and the first that isn't so ends the program.
+ *
+ * usage: rival SOCKET      of a monitor for four clients
+ */
+#define _GNU_SOURCE
+#include "client.h"
+
+#include <errno.h>
+#include <fcntl.h>
+#include <netinet/in.h>
+#include <signal.h>
+#include <stdio.h>
+#include <sys/mman.h>
+#include <sys/socket.h>
+#include <time.h>
+#include <unistd.h>
+
+static const char *path;
+
+static const uint32_t all_rights = LESUNGKAP_LOCAL_WRITE | LESUNGKAP_REMOTE_WRITE | LESUNGKAP_REMOTE_READ;
+
+static uint32_t join_with(int file)
+{
+    struct link link;
+    EXPECT(link_open(&link, path) == 0);
+    const uint32_t result = ask_join(&link, file);
+    link_close(&link);
+    if (file >= 0) {
+        close(file);
+    }
+    return result;
+}
+
+/* Memory that could shrink, is too large, or is none. */
+static void bad_memory(void)
+{
+    int ends[2];
+    uint32_t bytes = 0;
+    struct link link;
+    EXPECT(link_open(&link, path) == 0 && ask_window(&link, &bytes) == LESUNGKAP_DONE);
+    link_close(&link);
+    EXPECT(join_with(-1) == LESUNGKAP_BAD_FIELD);
+    EXPECT(join_with(memory_file(bytes, 0)) == LESUNGKAP_BAD_FIELD);
+    EXPECT(join_with(memory_file(bytes, F_SEAL_GROW)) == LESUNGKAP_BAD_FIELD);
+    EXPECT(join_with(memory_file(bytes, F_SEAL_SHRINK)) == LESUNGKAP_BAD_FIELD);
+    EXPECT(join_with(memory_file(bytes, SEALS | F_SEAL_WRITE)) == LESUNGKAP_BAD_FIELD);
+    EXPECT(join_with(memory_file(bytes, SEALS | F_SEAL_FUTURE_WRITE)) == LESUNGKAP_BAD_FIELD);
+    EXPECT(join_with(memory_file(bytes + PACKET_PAGE, SEALS)) == LESUNGKAP_RANGE);
+    EXPECT(join_with(memory_file(bytes - 1, SEALS)) == LESUNGKAP_RANGE);
+    EXPECT(join_with(memory_file(0, SEALS)) == LESUNGKAP_RANGE);
+    EXPECT(join_with(open("/dev/zero", O_RDWR | O_CLOEXEC)) == LESUNGKAP_BAD_FIELD);
+    EXPECT(join_with(open("/proc/self/exe", O_RDONLY | O_CLOEXEC)) == LESUNGKAP_BAD_FIELD);
+    EXPECT(pipe(ends) == 0 && join_with(ends[0]) == LESUNGKAP_BAD_FIELD && close(ends[1]) == 0);
+    const int sealed = memory_file(bytes, SEALS);
+    char name[64];
+    snprintf(name, sizeof name, "/proc/self/fd/%d", sealed);
+    EXPECT(join_with(open(name, O_RDONLY | O_CLOEXEC)) == LESUNGKAP_BAD_FIELD && close(sealed) == 0);
+}
+
+/* A client that truncates, punches holes, closes and unmaps its memory harms itself only, and the seal holds. */
+static void memory_after_joining(void)
+{
+    struct client a, b;
+    client_open(&a, path, 8);
+    client_open(&b, path, 8);
+    EXPECT(ask_join(&a.link, a.memory_file) == LESUNGKAP_IN_USE);
+    client_ready(&a, b.qp);
+    client_ready(&b, a.qp);
+    EXPECT(ftruncate(b.memory_file, 0) == -1 && errno == EPERM);
+    EXPECT(fcntl(b.memory_file, F_ADD_SEALS, F_SEAL_WRITE) == -1);
+    EXPECT(ftruncate(b.memory_file, 2 * (off_t)b.bytes) == -1 && errno == EPERM);
+    EXPECT(fallocate(b.memory_file, FALLOC_FL_PUNCH_HOLE | FALLOC_FL_KEEP_SIZE, 0, (off_t)b.bytes) == 0);
+    memset(a.memory, 7, 4096);
+    EXPECT(client_send(&a, LESUNGKAP_WRITE, 0, 4096, 0, b.mr.rkey) == LESUNGKAP_DONE);
+    EXPECT(b.memory[0] == 7 && b.memory[4095] == 7 && b.memory[4096] == 0);
+    munmap(b.memory, b.bytes);
+    close(b.memory_file);
+    EXPECT(client_send(&a, LESUNGKAP_READ, 8192, 4096, 0, b.mr.rkey) == LESUNGKAP_DONE);
+    EXPECT(a.memory[8192] == 7 && a.memory[8192 + 4095] == 7);
+    EXPECT(client_completion(&a).status == LESUNGKAP_SUCCESS && client_completion(&a).status == LESUNGKAP_SUCCESS);
+    link_close(&b.link);
+    client_close(&a);
+}
+
+/* Every number of every table is as if it were not there, but for one's own. */
+static void others_objects(void)
+{
+    struct client a, b;
+    struct lesungkap_completion done;
+    struct lesungkap_register_mr_ack mr;
+    uint32_t name;
+    unsigned left;
+    client_open(&a, path, 8);
+    client_open(&b, path, 8);
+    for (uint32_t n = 0; n < 256; n++) {
+        const struct lesungkap_register_mr region = {n, all_rights, 0, 1, 0};
+        const struct lesungkap_create_qp pd = {n, LESUNGKAP_QP_TYPE_RC, 0, b.cqn, b.cqn}, cq = {b.pdn, LESUNGKAP_QP_TYPE_RC, 0, n, b.cqn};
+        EXPECT(n == b.pdn || ask_destroy_pd(&b.link, n) == LESUNGKAP_NOT_LIVE);
+        EXPECT(n == b.cqn || ask_destroy_cq(&b.link, n) == LESUNGKAP_NOT_LIVE);
+        EXPECT(n == b.mr.mrn || ask_deregister_mr(&b.link, n) == LESUNGKAP_NOT_LIVE);
+        EXPECT(ask_destroy_qp(&b.link, n | (n == qp_number(b.qp) ? 0 : 1u << PACKET_NAME_SHIFT)) == LESUNGKAP_NOT_LIVE);
+        EXPECT(n == b.cqn || ask_poll(&b.link, n, &done, &left) == LESUNGKAP_NOT_LIVE);
+        EXPECT(n == b.cqn || ask_arm(&b.link, n) == LESUNGKAP_NOT_LIVE);
+        EXPECT(n == b.cqn || ask_channel(&b.link, n, -1) == LESUNGKAP_NOT_LIVE);
+        EXPECT(n == qp_number(b.qp) || ask_flush(&b.link, n) == LESUNGKAP_NOT_LIVE);
+        EXPECT(n == b.pdn || ask_register_mr(&b.link, &region, &mr) == LESUNGKAP_NOT_LIVE);
+        EXPECT(n == b.pdn || ask_create_qp(&b.link, &pd, &name) == LESUNGKAP_NOT_LIVE);
+        EXPECT(n == b.cqn || ask_create_qp(&b.link, &cq, &name) == LESUNGKAP_NOT_LIVE);
+    }
+    struct client thief = b;
+    thief.qp = a.qp;
+    EXPECT(client_move(&thief, LESUNGKAP_QP_ERROR, 0) == LESUNGKAP_NOT_LIVE);
+    EXPECT(client_send(&thief, LESUNGKAP_WRITE, 0, 1, 0, a.mr.rkey) == LESUNGKAP_NOT_LIVE);
+    EXPECT(client_receive(&thief, 0, 1) == LESUNGKAP_NOT_LIVE);
+    EXPECT(client_move(&a, LESUNGKAP_QP_INIT, 0) == LESUNGKAP_DONE);
+    client_close(&a);
+    client_close(&b);
+}
+
+/* Regions up to the window's last byte, and not one further; a share of each table, and not one more. */
+static void window_and_share(void)
+{
+    struct client first, a, seatless;
+    struct lesungkap_register_mr_ack mr;
+    uint32_t number;
+    client_join(&first, path); /* so that there are bytes before a's window */
+    client_join(&a, path);
+    EXPECT(ask_create_pd(&a.link, &a.pdn) == LESUNGKAP_DONE);
+    const struct lesungkap_register_mr ranges[] = {{a.pdn, 1, a.bytes, 1, 0},     {a.pdn, 1, a.bytes - 1, 2, 0}, {a.pdn, 1, 1, a.bytes, 0},
+                                                   {a.pdn, 1, 0, a.bytes + 1, 0}, {a.pdn, 1, 1, UINT64_MAX, 0},  {a.pdn, 1, UINT64_MAX, 1, 0},
+                                                   {a.pdn, 1, UINT64_MAX, 2, 0},  {a.pdn, 1, a.bytes + 1, 1, 0}};
+    for (size_t n = 0; n < sizeof ranges / sizeof *ranges; n++) {
+        EXPECT(ask_register_mr(&a.link, ranges + n, &mr) == LESUNGKAP_RANGE);
+    }
+    const struct lesungkap_register_mr last = {a.pdn, 1, a.bytes - 1, 1, 0};
+    for (int n = 0; n < LESUNGKAP_MR_COUNT / 4; n++) {
+        EXPECT(ask_register_mr(&a.link, &last, &mr) == LESUNGKAP_DONE);
+    }
+    EXPECT(ask_register_mr(&a.link, &last, &mr) == LESUNGKAP_FULL);
+    EXPECT(ask_create_pd(&a.link, &number) == LESUNGKAP_DONE && ask_create_pd(&a.link, &number) == LESUNGKAP_FULL);
+    EXPECT(ask_create_cq(&a.link, 1, &number) == LESUNGKAP_DONE && ask_create_cq(&a.link, 1, &number) == LESUNGKAP_DONE);
+    EXPECT(ask_create_cq(&a.link, 1, &number) == LESUNGKAP_FULL);
+    EXPECT(link_open(&seatless.link, path) == 0 && ask_create_pd(&seatless.link, &number) == LESUNGKAP_FULL);
+    link_close(&seatless.link);
+    client_close(&first);
+    client_close(&a);
+}
+
+/* A newcomer that gets the number of one who has gone is not joined with those who still name it. */
+static void former_number(void)
+{
+    struct client a, b, c;
+    client_open(&a, path, 8);
+    client_open(&b, path, 8);
+    client_ready(&a, b.qp);
+    client_ready(&b, a.qp);
+    const uint32_t former = b.qp;
+    client_close(&b);
+    do { /* until the monitor has seen it go */
+        client_open(&c, path, 8);
+    } while (qp_number(c.qp) != qp_number(former) && (client_close(&c), 1));
+    EXPECT(c.qp != former);
+    EXPECT(client_move(&c, LESUNGKAP_QP_INIT, 0) == LESUNGKAP_DONE);
+    EXPECT(client_move(&c, LESUNGKAP_QP_RTR, a.qp) == LESUNGKAP_IN_USE);
+    EXPECT(client_send(&a, LESUNGKAP_WRITE, 0, 8, 0, c.mr.rkey) == (LESUNGKAP_DONE | LESUNGKAP_FLUSHED << 8));
+    EXPECT(client_completion(&a).status == LESUNGKAP_FLUSHED && c.memory[0] == 0);
+    EXPECT(client_move(&a, LESUNGKAP_QP_RESET, 0) == LESUNGKAP_DONE && client_move(&a, LESUNGKAP_QP_INIT, 0) == LESUNGKAP_DONE);
+    EXPECT(client_move(&a, LESUNGKAP_QP_RTR, former) == LESUNGKAP_NOT_LIVE);
+    EXPECT(client_move(&c, LESUNGKAP_QP_RTR, a.qp) == LESUNGKAP_DONE && client_move(&a, LESUNGKAP_QP_RTR, c.qp) == LESUNGKAP_DONE);
+    client_close(&a);
+    client_close(&c);
+}
+
+/* Sends wait in order until receives come, and those that wait when their peer goes are flushed in order. */
+static void held_in_order(void)
+{
+    struct client a, b;
+    client_open(&a, path, 4);
+    client_open(&b, path, 4);
+    client_ready(&a, b.qp);
+    client_ready(&b, a.qp);
+    for (uint8_t n = 0; n < 40; n++) {
+        a.memory[n] = n;
+        EXPECT(lesungkap_answer(client_send(&a, LESUNGKAP_SEND, n, 1, 0, 0)) == (n == 0 ? LESUNGKAP_HELD_PEER : LESUNGKAP_HELD_PLACE));
+    }
+    for (uint8_t n = 0; n < 20; n++) {
+        EXPECT(client_receive(&b, 100u + n, 1) == LESUNGKAP_DONE);
+        EXPECT(client_completion(&a).status == LESUNGKAP_SUCCESS && client_completion(&b).status == LESUNGKAP_SUCCESS);
+        EXPECT(b.memory[100 + n] == n);
+    }
+    client_close(&b);
+    for (uint8_t n = 20; n < 40; n++) {
+        EXPECT(client_completion(&a).status == LESUNGKAP_FLUSHED);
+    }
+    client_close(&a);
+}
+
+/* Empty packets, packets that are too long, and files that nobody asked for: all are answered, and nothing stays open. */
+static void odd_packets(void)
+{
+    struct link link;
+    uint8_t request[2 * PACKET_MOST_BYTES], answer[PACKET_MOST_BYTES];
+    struct packet packet;
+    memset(request, 0, sizeof request);
+    EXPECT(link_open(&link, path) == 0);
+    for (int n = 0; n < 3000; n++) {
+        const int file = open("/dev/null", O_RDWR | O_CLOEXEC);
+        const size_t length = n % 3 == 0 ? 0 : n % 3 == 1 ? 3 : sizeof request;
+        const size_t got = link_exchange(&link, request, length, file, answer);
+        EXPECT(get_packet(answer, got, LESUNGKAP_TAPE_ANSWER_MARK, &packet) && packet.third == LESUNGKAP_BAD_TAPE_RECORD);
+        close(file);
+    }
+    link_close(&link);
+}
+
+/* A connected TCP socket whose close waits three seconds for a reader that does not read. */
+static int lingering(int *reader)
+{
+    static const char bytes[65536];
+    const struct linger linger = {1, 3};
+    struct sockaddr_in address = {.sin_family = AF_INET, .sin_addr = {htonl(INADDR_LOOPBACK)}};
+    socklen_t size = sizeof address;
+    const int listener = socket(AF_INET, SOCK_STREAM | SOCK_CLOEXEC, 0), fd = socket(AF_INET, SOCK_STREAM | SOCK_CLOEXEC, 0);
+    EXPECT(bind(listener, (struct sockaddr *)&address, size) == 0 && listen(listener, 1) == 0);
+    EXPECT(getsockname(listener, (struct sockaddr *)&address, &size) == 0 && connect(fd, (struct sockaddr *)&address, size) == 0);
+    EXPECT((*reader = accept(listener, NULL, NULL)) >= 0 && close(listener) == 0);
+    EXPECT(setsockopt(fd, SOL_SOCKET, SO_LINGER, &linger, sizeof linger) == 0);
+    while (send(fd, bytes, sizeof bytes, MSG_DONTWAIT) > 0) {
+    }
+    return fd;
+}
+
+static double seconds(void)
+{
+    struct timespec now;
+    clock_gettime(CLOCK_MONOTONIC, &now);
+    return (double)now.tv_sec + (double)now.tv_nsec / 1e9;
+}
+
+/* Files that take long to close, read by the monitor or still on their way when their client goes, hold up nobody. They come behind other
+ * requests, so that the monitor has the last hold of them; where it hasn't, the close here is the one that waits, and isn't counted. */
+static void slow_files(void)
+{
+    struct client other;
+    uint8_t answer[PACKET_MOST_BYTES], byte = 0;
+    int readers[2];
+    client_join(&other, path);
+    for (int n = 0; n < 2; n++) {
+        struct link link;
+        const int fd = lingering(readers + n);
+        EXPECT(link_open(&link, path) == 0);
+        for (int m = 0; m < 100; m++) {
+            EXPECT(link_send(&link, &byte, 1, -1));
+        }
+        EXPECT(link_send(&link, &byte, 1, fd) && close(fd) == 0);
+        const double since = seconds();
+        for (int m = 0; m < 101 && n == 0; m++) {
+            EXPECT(recv(link.fd, answer, sizeof answer, 0) > 0);
+        }
+        link_close(&link);
+        for (int m = 0; m < 100; m++) {
+            EXPECT(ask_window(&other.link, &other.bytes) == LESUNGKAP_DONE);
+        }
+        EXPECT(seconds() - since < 2);
+    }
+    client_close(&other);
+    close(readers[0]);
+    close(readers[1]);
+}
+
+/* A flood of requests whose answers nobody takes ends that client; another is served meanwhile. */
+static void flood(void)
+{
+    struct client a;
+    struct link link;
+    client_open(&a, path, 4);
+    EXPECT(link_open(&link, path) == 0);
+    uint8_t request[PACKET_MOST_BYTES];
+    const struct packet packet = {PACKET_WINDOW, 0, NULL, 0};
+    const size_t length = put_packet(request, LESUNGKAP_TAPE_CALL_MARK, &packet);
+    int gone = 0;
+    for (int n = 0; n < 1000000 && !gone; n++) {
+        gone = send(link.fd, request, length, MSG_NOSIGNAL) < 0;
+        if (n % 64 == 0) {
+            EXPECT(client_move(&a, LESUNGKAP_QP_RESET, 0) == LESUNGKAP_DONE);
+        }
+    }
+    EXPECT(gone);
+    link_close(&link);
+    client_close(&a);
+}
+
+/* When the next answer was given, by the kernel's clock. */
+static double stamped(const struct link *link)
+{
+    uint8_t bytes[PACKET_MOST_BYTES];
+    union {
+        struct cmsghdr aligned;
+        char bytes[CMSG_SPACE(sizeof(struct timespec))];
+    } control;
+    struct iovec part = {bytes, sizeof bytes};
+    struct msghdr message = {.msg_iov = &part, .msg_iovlen = 1, .msg_control = &control, .msg_controllen = sizeof control};
+    struct timespec stamp;
+    EXPECT(recvmsg(link->fd, &message, 0) > 0 && CMSG_FIRSTHDR(&message) != NULL);
+    EXPECT(CMSG_FIRSTHDR(&message)->cmsg_type == SO_TIMESTAMPNS);
+    memcpy(&stamp, CMSG_DATA(CMSG_FIRSTHDR(&message)), sizeof stamp);
+    return (double)(stamp.tv_sec % 100000) + (double)stamp.tv_nsec / 1e9;
+}
+
+/* Three clients have a hundred requests waiting when a fourth asks once: it is answered before any of them gets its third answer. */
+static void in_turn(void)
+{
+    struct link links[4];
+    struct ucred monitor;
+    socklen_t size = sizeof monitor;
+    const int yes = 1;
+    const uint8_t byte = 0;
+    for (int n = 0; n < 4; n++) {
+        EXPECT(link_open(links + n, path) == 0 && setsockopt(links[n].fd, SOL_SOCKET, SO_TIMESTAMPNS, &yes, sizeof yes) == 0);
+        EXPECT(link_send(links + n, &byte, 1, -1) && stamped(links + n) > 0);
+    }
+    usleep(100000); /* until it waits for requests again */
+    EXPECT(getsockopt(links[0].fd, SOL_SOCKET, SO_PEERCRED, &monitor, &size) == 0 && kill(monitor.pid, SIGSTOP) == 0);
+    usleep(100000); /* until it has stopped */
+    for (int n = 0; n < 301; n++) {
+        EXPECT(link_send(links + n / 100, &byte, 1, -1));
+    }
+    EXPECT(kill(monitor.pid, SIGCONT) == 0);
+    const double asked_once = stamped(links + 3);
+    for (int n = 0; n < 3; n++) {
+        stamped(links + n);
+        stamped(links + n);
+        EXPECT(asked_once <= stamped(links + n));
+        link_close(links + n);
+    }
+    link_close(links + 3);
+}
+
+/* A fifth connection of a process is refused, and so is what can't be an event's socket. */
+static void limits(void)
+{
+    struct link links[5];
+    uint32_t bytes, cqn;
+    int ends[2];
+    for (int n = 0; n < 5; n++) {
+        EXPECT(link_open(links + n, path) == 0);
+        EXPECT(ask_window(links + n, &bytes) == (n < 4 ? LESUNGKAP_DONE : LINK_LOST));
+    }
+    for (int n = 0; n < 5; n++) {
+        link_close(links + n);
+    }
+    struct client a;
+    do { /* until the monitor has seen them go */
+        EXPECT(link_open(links, path) == 0);
+    } while (ask_window(links, &bytes) != LESUNGKAP_DONE && (link_close(links), 1));
+    link_close(links);
+    client_join(&a, path);
+    EXPECT(ask_create_cq(&a.link, 1, &cqn) == LESUNGKAP_DONE && ask_channel(&a.link, cqn, -1) == LESUNGKAP_BAD_FIELD);
+    EXPECT(pipe(ends) == 0 && ask_channel(&a.link, cqn, ends[1]) == LESUNGKAP_BAD_FIELD);
+    close(ends[0]);
+    close(ends[1]);
+    EXPECT(socketpair(AF_UNIX, SOCK_STREAM, 0, ends) == 0 && ask_channel(&a.link, cqn, ends[1]) == LESUNGKAP_BAD_FIELD);
+    close(ends[0]);
+    close(ends[1]);
+    client_close(&a);
+}
+
+int main(int count, char **words)
+{
+    static const struct {
+        const char *name;
+        void (*run)(void);
+    } cases[] = {{"bad memory", bad_memory},           {"memory after joining", memory_after_joining},
+                 {"others' objects", others_objects},  {"window and share", window_and_share},
+                 {"a former number", former_number},   {"held sends", held_in_order},
+                 {"odd packets", odd_packets},         {"slow files", slow_files},
+                 {"a flood", flood},                   {"in turn", in_turn},
+                 {"limits", limits}};
+    EXPECT(count == 2);
+    path = words[1];
+    for (size_t n = 0; n < sizeof cases / sizeof *cases; n++) {
+        printf("%s\n", cases[n].name);
+        fflush(stdout);
+        cases[n].run();
+    }
+    return 0;
+}

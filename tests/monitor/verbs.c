@@ -1,0 +1,256 @@
+/* A verbs program against the preload library: keys that were dropped, receives that are flushed, buffers that share pages, what the card
+ * lacks. A line for each case, and the first that isn't so ends the program. Run it over a monitor for four clients.
+ */
+#define _GNU_SOURCE
+#include <errno.h>
+#include <infiniband/verbs.h>
+#include <stdio.h>
+#include <stdlib.h>
+#include <string.h>
+#include <sys/socket.h>
+#include <sys/wait.h>
+#include <unistd.h>
+
+#define EXPECT(holds) expect(holds, #holds, __LINE__)
+
+enum { ALL = IBV_ACCESS_LOCAL_WRITE | IBV_ACCESS_REMOTE_WRITE | IBV_ACCESS_REMOTE_READ, SIZE = 4096, RECEIVES = 20 };
+
+struct side {
+    struct ibv_context *context;
+    struct ibv_pd *pd;
+    struct ibv_cq *cq;
+    struct ibv_qp *qp;
+    struct ibv_mr *mr;
+    uint8_t *buffer;
+};
+
+/* What two sides tell each other. */
+struct told {
+    uint32_t qpn, key;
+    uint64_t address;
+};
+
+static void expect(int holds, const char *what, int line)
+{
+    if (!holds) {
+        printf("UNEXPECTED: line %d: not %s (errno %d)\n", line, what, errno);
+        fflush(stdout);
+        _exit(1);
+    }
+}
+
+static void open_side(struct side *side)
+{
+    struct ibv_device **list = ibv_get_device_list(NULL);
+    EXPECT(list != NULL && list[0] != NULL && (side->context = ibv_open_device(list[0])) != NULL);
+    ibv_free_device_list(list);
+    EXPECT((side->pd = ibv_alloc_pd(side->context)) != NULL);
+    EXPECT((side->cq = ibv_create_cq(side->context, 100, NULL, NULL, 0)) != NULL);
+    struct ibv_qp_init_attr init = {.send_cq = side->cq, .recv_cq = side->cq, .cap = {10, RECEIVES, 1, 1, 0}, .qp_type = IBV_QPT_RC, .sq_sig_all = 1};
+    EXPECT((side->qp = ibv_create_qp(side->pd, &init)) != NULL);
+    EXPECT((side->buffer = aligned_alloc(SIZE, SIZE)) != NULL);
+    memset(side->buffer, 1, SIZE);
+    EXPECT((side->mr = ibv_reg_mr(side->pd, side->buffer, SIZE, ALL)) != NULL);
+}
+
+static void close_side(struct side *side)
+{
+    EXPECT(ibv_destroy_qp(side->qp) == 0 && ibv_destroy_cq(side->cq) == 0);
+    EXPECT(side->mr == NULL || ibv_dereg_mr(side->mr) == 0);
+    EXPECT(ibv_dealloc_pd(side->pd) == 0 && ibv_close_device(side->context) == 0);
+    free(side->buffer);
+}
+
+static void ready(struct side *side, uint32_t peer)
+{
+    struct ibv_qp_attr attr = {.qp_state = IBV_QPS_INIT, .port_num = 1, .qp_access_flags = ALL};
+    EXPECT(ibv_modify_qp(side->qp, &attr, IBV_QP_STATE | IBV_QP_PKEY_INDEX) == EINVAL);
+    EXPECT(ibv_modify_qp(side->qp, &attr, IBV_QP_STATE | IBV_QP_PKEY_INDEX | IBV_QP_PORT | IBV_QP_ACCESS_FLAGS) == 0);
+    attr = (struct ibv_qp_attr){.qp_state = IBV_QPS_RTR, .dest_qp_num = peer, .path_mtu = IBV_MTU_1024};
+    EXPECT(ibv_modify_qp(side->qp, &attr,
+                         IBV_QP_STATE | IBV_QP_AV | IBV_QP_PATH_MTU | IBV_QP_DEST_QPN | IBV_QP_RQ_PSN | IBV_QP_MAX_DEST_RD_ATOMIC |
+                             IBV_QP_MIN_RNR_TIMER) == 0);
+    attr = (struct ibv_qp_attr){.qp_state = IBV_QPS_RTS};
+    EXPECT(ibv_modify_qp(side->qp, &attr,
+                         IBV_QP_STATE | IBV_QP_TIMEOUT | IBV_QP_RETRY_CNT | IBV_QP_RNR_RETRY | IBV_QP_SQ_PSN | IBV_QP_MAX_QP_RD_ATOMIC) == 0);
+}
+
+static enum ibv_wc_status completed(struct side *side)
+{
+    struct ibv_wc wc;
+    int got;
+    while ((got = ibv_poll_cq(side->cq, 1, &wc)) == 0) {
+        usleep(100);
+    }
+    EXPECT(got == 1 && wc.qp_num == side->qp->qp_num);
+    return wc.status;
+}
+
+static enum ibv_wc_status write_to(struct side *side, const struct told *peer, uint32_t length)
+{
+    struct ibv_sge sge = {(uintptr_t)side->buffer, length, side->mr->lkey};
+    struct ibv_send_wr wr = {.sg_list = &sge, .num_sge = 1, .opcode = IBV_WR_RDMA_WRITE}, *bad;
+    wr.wr.rdma.remote_addr = peer->address;
+    wr.wr.rdma.rkey = peer->key;
+    EXPECT(ibv_post_send(side->qp, &wr, &bad) == 0);
+    return completed(side);
+}
+
+/* Tells the other side where to write, and hears where it is. */
+static struct told exchange(int other, const struct side *side)
+{
+    const struct told own = {side->qp->qp_num, side->mr->rkey, (uintptr_t)side->buffer};
+    struct told told;
+    EXPECT(send(other, &own, sizeof own, 0) == (ssize_t)sizeof own && recv(other, &told, sizeof told, 0) == (ssize_t)sizeof told);
+    return told;
+}
+
+static void turn(int other)
+{
+    char word = 0;
+    EXPECT(send(other, &word, 1, 0) == 1 && recv(other, &word, 1, 0) == 1);
+}
+
+/* ---- a key that was dropped */
+
+/* Lets the peer write once, drops the region and registers the same bytes again: the old key must lead nowhere. */
+static void owner(int other)
+{
+    struct side side;
+    open_side(&side);
+    const struct told peer = exchange(other, &side);
+    ready(&side, peer.qpn);
+    turn(other);
+    turn(other);
+    EXPECT(side.buffer[0] == 9 && side.buffer[63] == 9 && side.buffer[64] == 1);
+    const uint32_t dropped = side.mr->rkey;
+    EXPECT(ibv_dereg_mr(side.mr) == 0);
+    memset(side.buffer, 5, SIZE);
+    EXPECT((side.mr = ibv_reg_mr(side.pd, side.buffer, SIZE, ALL)) != NULL && side.mr->rkey != dropped);
+    turn(other);
+    turn(other);
+    for (int n = 0; n < SIZE; n++) {
+        EXPECT(side.buffer[n] == 5);
+    }
+    close_side(&side);
+}
+
+static void writer(int other)
+{
+    struct side side;
+    open_side(&side);
+    const struct told peer = exchange(other, &side);
+    ready(&side, peer.qpn);
+    turn(other);
+    memset(side.buffer, 9, SIZE);
+    EXPECT(write_to(&side, &peer, 64) == IBV_WC_SUCCESS);
+    turn(other);
+    turn(other);
+    EXPECT(write_to(&side, &peer, 64) == IBV_WC_REM_ACCESS_ERR);
+    turn(other);
+    close_side(&side);
+}
+
+static void dropped_key(void)
+{
+    int ends[2], status;
+    EXPECT(socketpair(AF_UNIX, SOCK_SEQPACKET, 0, ends) == 0);
+    const pid_t child = fork();
+    if (child == 0) {
+        close(ends[1]);
+        owner(ends[0]);
+        _exit(0);
+    }
+    close(ends[0]);
+    writer(ends[1]);
+    EXPECT(waitpid(child, &status, 0) == child && status == 0);
+    close(ends[1]);
+}
+
+/* ---- receives of a queue pair in error, those in the card and those behind them, in order */
+
+static void flushed_in_order(void)
+{
+    struct side side;
+    struct ibv_wc wcs[RECEIVES + 1];
+    open_side(&side);
+    struct ibv_qp_attr attr = {.qp_state = IBV_QPS_INIT, .port_num = 1};
+    EXPECT(ibv_modify_qp(side.qp, &attr, IBV_QP_STATE | IBV_QP_PKEY_INDEX | IBV_QP_PORT | IBV_QP_ACCESS_FLAGS) == 0);
+    struct ibv_sge sge = {(uintptr_t)side.buffer, 1, side.mr->lkey};
+    for (unsigned n = 0; n <= RECEIVES; n++) {
+        struct ibv_recv_wr wr = {.wr_id = n, .sg_list = &sge, .num_sge = 1}, *bad;
+        EXPECT(ibv_post_recv(side.qp, &wr, &bad) == (n < RECEIVES ? 0 : ENOMEM));
+    }
+    EXPECT(ibv_poll_cq(side.cq, RECEIVES, wcs) == 0);
+    attr.qp_state = IBV_QPS_ERR;
+    EXPECT(ibv_modify_qp(side.qp, &attr, IBV_QP_STATE) == 0);
+    EXPECT(ibv_poll_cq(side.cq, RECEIVES + 1, wcs) == RECEIVES);
+    for (unsigned n = 0; n < RECEIVES; n++) {
+        EXPECT(wcs[n].wr_id == n && wcs[n].status == IBV_WC_WR_FLUSH_ERR && wcs[n].qp_num == side.qp->qp_num);
+    }
+    close_side(&side);
+}
+
+/* ---- buffers that share pages: contents stay, one page may be in several regions */
+
+static void shared_pages(void)
+{
+    struct side side;
+    struct ibv_mr *mrs[3];
+    open_side(&side);
+    uint8_t *area = aligned_alloc(SIZE, 6 * SIZE);
+    EXPECT(area != NULL);
+    for (int n = 0; n < 6 * SIZE; n++) {
+        area[n] = (uint8_t)(n * 7 + n / 256);
+    }
+    EXPECT((mrs[0] = ibv_reg_mr(side.pd, area + SIZE + 100, SIZE, ALL)) != NULL);
+    EXPECT((mrs[1] = ibv_reg_mr(side.pd, area + SIZE + 200, 10, ALL)) != NULL);
+    EXPECT((mrs[2] = ibv_reg_mr(side.pd, area + 2 * SIZE + 200, 2 * SIZE, ALL)) != NULL);
+    EXPECT(mrs[0]->lkey != mrs[1]->lkey && mrs[1]->lkey != mrs[2]->lkey);
+    for (int n = 0; n < 3; n++) {
+        EXPECT(ibv_dereg_mr(mrs[n]) == 0);
+        for (int at = 0; at < 6 * SIZE; at++) {
+            EXPECT(area[at] == (uint8_t)(at * 7 + at / 256));
+        }
+    }
+    EXPECT(ibv_reg_mr(side.pd, area, (size_t)1 << 30, ALL) == NULL && errno == ENOMEM);
+    EXPECT(ibv_reg_mr(side.pd, NULL, SIZE, ALL) == NULL && errno == EFAULT);
+    EXPECT(ibv_reg_mr(side.pd, area, SIZE, IBV_ACCESS_REMOTE_WRITE) == NULL && errno == EINVAL);
+    free(area);
+    close_side(&side);
+}
+
+/* ---- what the card lacks */
+
+static void lacks(void)
+{
+    struct side side;
+    open_side(&side);
+    struct ibv_qp_init_attr init = {.send_cq = side.cq, .recv_cq = side.cq, .cap = {1, 1, 1, 1, 0}, .qp_type = IBV_QPT_UD};
+    EXPECT(ibv_create_qp(side.pd, &init) == NULL && errno == EOPNOTSUPP);
+    init = (struct ibv_qp_init_attr){.send_cq = side.cq, .recv_cq = side.cq, .cap = {1, 1, 5, 1, 0}, .qp_type = IBV_QPT_RC};
+    EXPECT(ibv_create_qp(side.pd, &init) == NULL && errno == EINVAL);
+    EXPECT(ibv_create_cq(side.context, 1 << 20, NULL, NULL, 0) == NULL && errno == EINVAL);
+    struct ibv_srq_init_attr srq = {.attr = {1, 1, 0}};
+    EXPECT(ibv_create_srq(side.pd, &srq) == NULL && errno == EOPNOTSUPP);
+    struct ibv_send_wr wr = {.opcode = IBV_WR_ATOMIC_CMP_AND_SWP}, *bad = NULL;
+    EXPECT(ibv_post_send(side.qp, &wr, &bad) == EOPNOTSUPP && bad == &wr);
+    wr.opcode = IBV_WR_SEND;
+    EXPECT(ibv_post_send(side.qp, &wr, &bad) == EINVAL);
+    EXPECT(ibv_dealloc_pd(side.pd) == EBUSY && ibv_destroy_cq(side.cq) == EBUSY);
+    close_side(&side);
+}
+
+int main(void)
+{
+    static const struct {
+        const char *name;
+        void (*run)(void);
+    } cases[] = {{"dropped key", dropped_key}, {"flushed", flushed_in_order}, {"shared pages", shared_pages}, {"lacks", lacks}};
+    for (size_t n = 0; n < sizeof cases / sizeof *cases; n++) {
+        printf("%s\n", cases[n].name);
+        fflush(stdout);
+        cases[n].run();
+    }
+    return 0;
+}
