@@ -160,15 +160,3 @@ unsigned card_unread(const struct card *card, uint32_t cqn)
     struct lesungkap_cq cq;
     return lesungkap_peek_cq(card->state, sizeof card->state, cqn, &cq) == LESUNGKAP_DONE ? cq.unread : 0;
 }
-
-unsigned card_qp_state(const struct card *card, uint32_t qpn)
-{
-    struct lesungkap_qp qp;
-    return lesungkap_peek_qp(card->state, sizeof card->state, qpn, &qp) == LESUNGKAP_DONE ? qp.state : LESUNGKAP_QP_RESET;
-}
-
-uint32_t card_send_cq(const struct card *card, uint32_t qpn)
-{
-    struct lesungkap_qp qp;
-    return lesungkap_peek_qp(card->state, sizeof card->state, qpn, &qp) == LESUNGKAP_DONE ? qp.send_cqn : LESUNGKAP_CQ_COUNT;
-}

@@ -31,10 +31,6 @@ uint32_t card_poll(struct card *card, uint32_t cqn, uint8_t completion[LESUNGKAP
 
 /* Unread completions of a queue; 0 if there is no such queue. */
 unsigned card_unread(const struct card *card, uint32_t cqn);
-/* The queue pair's state; LESUNGKAP_QP_RESET if there is none. */
-unsigned card_qp_state(const struct card *card, uint32_t qpn);
-/* The queue pair's send completion queue; LESUNGKAP_CQ_COUNT if there is none. */
-uint32_t card_send_cq(const struct card *card, uint32_t qpn);
 /* Moves a queue pair to the error state. */
 uint32_t card_break(struct card *card, uint32_t qpn);
 

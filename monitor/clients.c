@@ -86,14 +86,16 @@ void clients_drop(struct monitor *monitor, unsigned number)
 
 /* ---- joining */
 
+/* The free seat with the most keys left. */
 static int free_seat(const struct monitor *monitor)
 {
+    int best = NO_SEAT;
     for (int seat = 0; seat < monitor->seats; seat++) {
-        if (!monitor->taken[seat]) {
-            return seat;
+        if (!monitor->taken[seat] && (best == NO_SEAT || monitor->keys[seat] < monitor->keys[best])) {
+            best = seat;
         }
     }
-    return NO_SEAT;
+    return best;
 }
 
 static uint32_t join(struct monitor *monitor, unsigned number, int fd)

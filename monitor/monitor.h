@@ -14,6 +14,7 @@ enum {
     CONNECTIONS_OF_A_PROCESS = 4,
     SEATS_MOST = LESUNGKAP_QP_COUNT,
     OBJECTS_MOST = LESUNGKAP_MR_COUNT, /* of the largest table */
+    KEYS_OF_A_SLOT = 255,
     NO_SEAT = -1,
     NO_FD = -1
 };
@@ -55,6 +56,7 @@ struct monitor {
     int seats;
     uint64_t window; /* bytes of each seat */
     uint8_t taken[SEATS_MOST];
+    unsigned keys[SEATS_MOST]; /* handed out to those who had the seat, since the reset */
     struct connection connections[CONNECTIONS_MOST];
     uint8_t owner[KINDS][OBJECTS_MOST]; /* connection + 1; 0: nobody */
     struct queue_pair pairs[LESUNGKAP_QP_COUNT];

@@ -11,18 +11,27 @@ int owns(const struct monitor *monitor, unsigned client, enum kind kind, uint32_
     return number < counts[kind] && monitor->owner[kind][number] == client + 1;
 }
 
+/* How many a client may have. The card takes for a region the lowest free slot, whoever dropped the one before, and retires a slot when its
+ * last key was dropped: half of the slots are shared out as regions, the keys of the other half may be used up. So there is always a slot
+ * for one who is within both. */
+static unsigned share_of(const struct monitor *monitor, enum kind kind) { return counts[kind] / (unsigned)monitor->seats / (kind == MR ? 2 : 1); }
+
+static unsigned keys_of_a_seat(const struct monitor *monitor) { return share_of(monitor, MR) * KEYS_OF_A_SLOT; }
+
 static int within_share(const struct monitor *monitor, unsigned client, enum kind kind)
 {
-    const unsigned share = counts[kind] / (unsigned)monitor->seats;
     const struct connection *connection = monitor->connections + client;
-    return connection->seat != NO_SEAT && connection->has[kind] < (share > 0 ? share : 1);
+    return connection->seat != NO_SEAT && connection->has[kind] < share_of(monitor, kind) &&
+           (kind != MR || monitor->keys[connection->seat] < keys_of_a_seat(monitor));
 }
 
 static void take(struct monitor *monitor, unsigned client, enum kind kind, uint32_t number)
 {
     monitor->owner[kind][number] = (uint8_t)(client + 1);
     monitor->connections[client].has[kind]++;
-    if (kind == QP) {
+    if (kind == MR && ++monitor->keys[monitor->connections[client].seat] == keys_of_a_seat(monitor)) {
+        complain("a client has used up its seat's keys: it registers no more until the monitor is started anew", monitor->connections[client].pid);
+    } else if (kind == QP) {
         struct queue_pair *pair = monitor->pairs + number;
         pair->given = ++pair->given_before;
         pair->peer_given = 0;

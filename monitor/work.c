@@ -1,5 +1,5 @@
-/* Work requests, polls and events. A send that the card holds waits here, in the order of its queue pair, and is tried again in turn. So
- * does one on a queue pair in error, until a poll of its completion queue takes it out as flushed. */
+/* Work requests, polls and events. A send that the card holds waits here, in the order of its queue pair, and is tried again in turn; on a
+ * queue pair in error the card flushes it then. */
 #define _GNU_SOURCE
 #include "monitor.h"
 
@@ -98,12 +98,6 @@ static int is_held(uint32_t result)
     return lesungkap_answer(result) == LESUNGKAP_HELD_PEER || lesungkap_answer(result) == LESUNGKAP_HELD_PLACE;
 }
 
-/* A card that refuses work in the error state leaves its flushing to the monitor. */
-static int is_refused_in_error(const struct monitor *monitor, uint32_t qpn, uint32_t result)
-{
-    return lesungkap_answer(result) == LESUNGKAP_WRONG_STATE && card_qp_state(&monitor->card, qpn) == LESUNGKAP_QP_ERROR;
-}
-
 static uint32_t hold(struct held *held, const uint8_t *record, size_t length, uint32_t result)
 {
     if (held->count == PACKET_HELD_MOST) {
@@ -121,15 +115,6 @@ static void drop_first(struct held *held)
     held->count--;
 }
 
-/* A completion queue that waits for an event gets one: the held sends of a queue pair in error can be polled. */
-static void notify_flushed(struct monitor *monitor, uint32_t qpn)
-{
-    const uint32_t cqn = card_send_cq(&monitor->card, qpn);
-    if (cqn < LESUNGKAP_CQ_COUNT && monitor->events[cqn].armed) {
-        notify(monitor->events + cqn, cqn);
-    }
-}
-
 uint32_t work_send(struct monitor *monitor, unsigned client, uint32_t qpn, const uint8_t *record, size_t length)
 {
     struct lesungkap_send send;
@@ -145,24 +130,14 @@ uint32_t work_send(struct monitor *monitor, unsigned client, uint32_t qpn, const
         return hold(held, record, length, LESUNGKAP_HELD_PLACE);
     }
     const uint32_t result = send_once(monitor, qpn, record, length);
-    if (is_held(result)) {
-        return hold(held, record, length, result);
-    }
-    if (is_refused_in_error(monitor, qpn, result)) {
-        const uint32_t flushed = hold(held, record, length, LESUNGKAP_DONE | LESUNGKAP_FLUSHED << 8);
-        notify_flushed(monitor, qpn);
-        return flushed;
-    }
-    return result;
+    return is_held(result) ? hold(held, record, length, result) : result;
 }
 
 static void try_first(struct monitor *monitor, uint32_t qpn)
 {
     struct held *held = monitor->held + qpn;
     const uint32_t result = send_once(monitor, qpn, held->at[held->first].record, held->at[held->first].length);
-    if (is_refused_in_error(monitor, qpn, result)) {
-        notify_flushed(monitor, qpn);
-    } else if (!is_held(result)) {
+    if (!is_held(result)) {
         drop_first(held);
     }
 }
@@ -206,54 +181,6 @@ uint32_t work_flush(struct monitor *monitor, unsigned client, uint32_t qpn)
     return result;
 }
 
-/* The queue pair in error whose held sends complete into this queue, or LESUNGKAP_NO_QP. */
-static uint32_t flushes_into(const struct monitor *monitor, uint32_t cqn)
-{
-    for (uint32_t qpn = 0; qpn < LESUNGKAP_QP_COUNT; qpn++) {
-        if (monitor->held[qpn].count > 0 && card_qp_state(&monitor->card, qpn) == LESUNGKAP_QP_ERROR &&
-            card_send_cq(&monitor->card, qpn) == cqn) {
-            return qpn;
-        }
-    }
-    return LESUNGKAP_NO_QP;
-}
-
-/* The completion of the oldest held send of a queue pair in error, as a card gives it that accepts work there. */
-static void flush_held(struct monitor *monitor, uint32_t qpn, uint8_t *completion)
-{
-    static const uint8_t completed[] = {LESUNGKAP_COMPLETED_WRITE, LESUNGKAP_COMPLETED_WRITE, LESUNGKAP_COMPLETED_SEND,
-                                        LESUNGKAP_COMPLETED_SEND, LESUNGKAP_COMPLETED_READ};
-    struct held *held = monitor->held + qpn;
-    struct lesungkap_send send;
-    struct lesungkap_completion done;
-    memset(&done, 0, sizeof done);
-    if (lesungkap_get_send(held->at[held->first].record, held->at[held->first].length, &send) == LESUNGKAP_DONE) {
-        done.wr_id = send.wr_id;
-        done.opcode = completed[send.opcode];
-    }
-    done.status = LESUNGKAP_FLUSHED;
-    done.qpn = qpn;
-    lesungkap_put_completion(completion, LESUNGKAP_COMPLETION_BYTES, &done);
-    drop_first(held);
-}
-
-/* An empty queue may be one that a queue pair in error still has sends for: the card flushes the oldest if it does that, else the monitor. */
-static void poll_flushed(struct monitor *monitor, uint32_t cqn, struct answer *answer)
-{
-    const uint32_t qpn = flushes_into(monitor, cqn);
-    if (qpn == LESUNGKAP_NO_QP) {
-        return;
-    }
-    const unsigned before = monitor->held[qpn].count;
-    try_first(monitor, qpn);
-    if (monitor->held[qpn].count < before) {
-        answer->result = card_poll(&monitor->card, cqn, answer->body);
-    } else {
-        flush_held(monitor, qpn, answer->body);
-        answer->result = LESUNGKAP_DONE;
-    }
-}
-
 void work_poll(struct monitor *monitor, unsigned client, uint32_t cqn, struct answer *answer)
 {
     if (!owns(monitor, client, CQ, cqn)) {
@@ -262,12 +189,8 @@ void work_poll(struct monitor *monitor, unsigned client, uint32_t cqn, struct an
     }
     answer->result = card_poll(&monitor->card, cqn, answer->body);
     monitor->changed |= answer->result == LESUNGKAP_DONE;
-    if (answer->result == LESUNGKAP_NOTHING) {
-        poll_flushed(monitor, cqn, answer);
-    }
     if (answer->result == LESUNGKAP_DONE) {
-        const unsigned left = card_unread(&monitor->card, cqn) + (flushes_into(monitor, cqn) != LESUNGKAP_NO_QP);
-        answer->body[LESUNGKAP_COMPLETION_BYTES] = (uint8_t)(left < 255 ? left : 255);
+        answer->body[LESUNGKAP_COMPLETION_BYTES] = (uint8_t)card_unread(&monitor->card, cqn);
         answer->length = PACKET_POLL_BYTES;
     }
 }

@@ -19,11 +19,16 @@ void link_close(struct link *link);
 /* The errno of a result; EIO where the monitor has gone. */
 int link_errno(uint32_t result);
 
-/* Rights of a queue pair. The card has none yet: those of its regions count. */
+/* The card's access flags of a queue pair: the bits are those of IBV_ACCESS_*, and atomics it has none. */
+static inline uint32_t rights_of(unsigned access)
+{
+    return access & (LESUNGKAP_LOCAL_WRITE | LESUNGKAP_REMOTE_WRITE | LESUNGKAP_REMOTE_READ);
+}
+
 static inline void put_rights(struct lesungkap_modify_qp *wanted, unsigned access)
 {
-    (void)wanted;
-    (void)access;
+    wanted->mask |= LESUNGKAP_MASK_ACCESS_FLAGS;
+    wanted->access_flags = rights_of(access);
 }
 
 /* Each makes one request and returns its result. Numbers of queue pairs are names in commands, and the name's lowest byte in work. */

@@ -130,7 +130,8 @@ static void keep(struct ibv_qp_attr *kept, const struct ibv_qp_attr *attr, int m
     kept->rq_psn = mask & IBV_QP_RQ_PSN ? attr->rq_psn : kept->rq_psn;
     kept->sq_psn = mask & IBV_QP_SQ_PSN ? attr->sq_psn : kept->sq_psn;
     kept->dest_qp_num = mask & IBV_QP_DEST_QPN ? attr->dest_qp_num : kept->dest_qp_num;
-    kept->qp_access_flags = mask & IBV_QP_ACCESS_FLAGS ? attr->qp_access_flags : kept->qp_access_flags;
+    kept->qp_access_flags = mask & IBV_QP_ACCESS_FLAGS ? rights_of(attr->qp_access_flags) : kept->qp_access_flags;
+    kept->qp_access_flags = attr->qp_state == IBV_QPS_RESET ? 0 : kept->qp_access_flags;
     kept->ah_attr = mask & IBV_QP_AV ? attr->ah_attr : kept->ah_attr;
     kept->max_rd_atomic = mask & IBV_QP_MAX_QP_RD_ATOMIC ? attr->max_rd_atomic : kept->max_rd_atomic;
     kept->max_dest_rd_atomic = mask & IBV_QP_MAX_DEST_RD_ATOMIC ? attr->max_dest_rd_atomic : kept->max_dest_rd_atomic;

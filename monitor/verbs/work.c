@@ -1,6 +1,6 @@
 /* Posting and polling. A send goes to the monitor at once, which holds it where the card can't take it yet. A receive that the card has no
  * room for waits here, and follows when one has been completed. Of a queue pair in error, the card's receives are flushed by request, and
- * those that wait here after them. */
+ * those that wait here follow one by one: the card flushes each as it is posted. */
 #include "verbs.h"
 
 #include <errno.h>
@@ -91,18 +91,24 @@ int work_post_send(struct ibv_qp *base, struct ibv_send_wr *wr, struct ibv_send_
 
 /* ---- receives */
 
+/* Gives the card the oldest receive that waits here, if it takes it. */
+static uint32_t give_first(struct lk_context *context, struct lk_qp *qp)
+{
+    const uint32_t result = ask_receive(&context->link, qp->base.qp_num, qp->receives + qp->first);
+    if (lesungkap_answer(result) == LESUNGKAP_DONE) {
+        qp->first = (qp->first + 1) % qp->init.cap.max_recv_wr;
+        qp->waiting--;
+        qp->in_card++;
+    }
+    return result;
+}
+
 /* Moves receives that wait here into the card, as many as it takes. */
 static uint32_t top_up(struct lk_context *context, struct lk_qp *qp)
 {
     uint32_t result = LESUNGKAP_DONE;
-    while (qp->waiting > 0 && qp->in_card < LESUNGKAP_QP_MOST_RECEIVES && !qp->broken) {
-        result = ask_receive(&context->link, qp->base.qp_num, qp->receives + qp->first);
-        if (lesungkap_answer(result) != LESUNGKAP_DONE) {
-            break;
-        }
-        qp->first = (qp->first + 1) % qp->init.cap.max_recv_wr;
-        qp->waiting--;
-        qp->in_card++;
+    while (qp->waiting > 0 && qp->in_card < LESUNGKAP_QP_MOST_RECEIVES && !qp->broken && lesungkap_answer(result) == LESUNGKAP_DONE) {
+        result = give_first(context, qp);
     }
     return result;
 }
@@ -198,35 +204,28 @@ static void note(struct lk_context *context, const struct lesungkap_completion *
     }
 }
 
-/* A completion of the queue pair's oldest receive that waits here. */
-static void flush_here(struct lk_qp *qp, struct lesungkap_completion *done)
+/* Has the card flush the next receive of a queue pair in error: its own first, then those that wait here. */
+static uint32_t flush_next(struct lk_context *context, struct lk_qp *qp)
 {
-    memset(done, 0, sizeof *done);
-    done->wr_id = qp->receives[qp->first].wr_id;
-    done->status = LESUNGKAP_FLUSHED;
-    done->opcode = LESUNGKAP_COMPLETED_RECEIVE;
-    done->qpn = qp->base.handle;
-    qp->first = (qp->first + 1) % qp->init.cap.max_recv_wr;
-    qp->waiting--;
+    uint32_t result = qp->drained ? (uint32_t)LESUNGKAP_NOTHING : ask_flush(&context->link, qp->base.qp_num);
+    if (result == LESUNGKAP_NOTHING) {
+        qp->drained = 1;
+        qp->in_card = 0;
+        result = qp->waiting > 0 ? give_first(context, qp) : result;
+    } else if (result == LESUNGKAP_WRONG_STATE) { /* the failure was of before a reset */
+        qp->broken = 0;
+        top_up(context, qp);
+    }
+    return result;
 }
 
-/* The next flushed receive of a queue pair in error: the card's first. */
 static uint32_t poll_flushed(struct lk_context *context, const struct lk_cq *cq, struct lesungkap_completion *done)
 {
     unsigned left;
     for (unsigned n = 0; n < NUMBERS; n++) {
         struct lk_qp *qp = context->qps[n];
-        if (qp == NULL || !qp->broken || qp->base.recv_cq != &cq->base) {
-            continue;
-        }
-        if (!qp->drained && ask_flush(&context->link, qp->base.qp_num) == LESUNGKAP_DONE) {
+        if (qp != NULL && qp->broken && qp->base.recv_cq == &cq->base && lesungkap_answer(flush_next(context, qp)) == LESUNGKAP_DONE) {
             return ask_poll(&context->link, cq->cqn, done, &left);
-        }
-        qp->drained = 1;
-        qp->in_card = 0;
-        if (qp->waiting > 0) {
-            flush_here(qp, done);
-            return LESUNGKAP_DONE;
         }
     }
     return LESUNGKAP_NOTHING;

@@ -112,7 +112,7 @@ static void any_control(struct client *client)
     case 3: ask_create_qp(&client->link, &pair_of, &client->qp); break;
     case 4: ask_destroy_pd(&client->link, number); break;
     case 5: ask_destroy_cq(&client->link, number); break;
-    case 6: ask_deregister_mr(&client->link, random_below(34)); break;
+    case 6: ask_deregister_mr(&client->link, random_below(2) ? client->mr.mrn : random_below(34)); break;
     case 7: ask_destroy_qp(&client->link, random_below(4) ? client->qp : number); break;
     case 8: client_move(client, LESUNGKAP_QP_INIT, 0); break;
     case 9: client_move(client, LESUNGKAP_QP_RTR, number | random_below(40) << PACKET_NAME_SHIFT); break;

@@ -15,6 +15,8 @@
 #include <time.h>
 #include <unistd.h>
 
+enum { SHARE_OF_REGIONS = LESUNGKAP_MR_COUNT / 4 / 2, SHARE_OF_KEYS = SHARE_OF_REGIONS * 255 };
+
 static const char *path;
 
 static const uint32_t all_rights = LESUNGKAP_LOCAL_WRITE | LESUNGKAP_REMOTE_WRITE | LESUNGKAP_REMOTE_READ;
@@ -133,7 +135,7 @@ static void window_and_share(void)
         EXPECT(ask_register_mr(&a.link, ranges + n, &mr) == LESUNGKAP_RANGE);
     }
     const struct lesungkap_register_mr last = {a.pdn, 1, a.bytes - 1, 1, 0};
-    for (int n = 0; n < LESUNGKAP_MR_COUNT / 4; n++) {
+    for (int n = 0; n < SHARE_OF_REGIONS; n++) {
         EXPECT(ask_register_mr(&a.link, &last, &mr) == LESUNGKAP_DONE);
     }
     EXPECT(ask_register_mr(&a.link, &last, &mr) == LESUNGKAP_FULL);
@@ -365,6 +367,49 @@ static void limits(void)
     client_close(&a);
 }
 
+/* Registers and drops the same byte, so many times or until it is refused; how often it was done. */
+static int use_keys(struct client *client, int times)
+{
+    const struct lesungkap_register_mr region = {client->pdn, 1, 0, 1, 0};
+    struct lesungkap_register_mr_ack mr;
+    for (int n = 0; n < times; n++) {
+        const uint32_t result = ask_register_mr(&client->link, &region, &mr);
+        EXPECT(result == LESUNGKAP_DONE || result == LESUNGKAP_FULL);
+        if (result == LESUNGKAP_FULL) {
+            return n;
+        }
+        EXPECT(ask_deregister_mr(&client->link, mr.mrn) == LESUNGKAP_DONE);
+    }
+    return times;
+}
+
+/* Three clients with every region that they may have use up every key that they may: each gets its share, and the fourth has all of its own
+ * left. A newcomer gets a seat that has keys left. */
+static void keys(void)
+{
+    struct client clients[4], newcomer;
+    struct lesungkap_register_mr_ack mr;
+    for (int n = 0; n < 4; n++) {
+        client_join(clients + n, path);
+        EXPECT(ask_create_pd(&clients[n].link, &clients[n].pdn) == LESUNGKAP_DONE);
+    }
+    for (int n = 0; n < 3; n++) {
+        const struct lesungkap_register_mr region = {clients[n].pdn, 1, 0, 1, 0};
+        for (int m = 1; m < SHARE_OF_REGIONS; m++) {
+            EXPECT(ask_register_mr(&clients[n].link, &region, &mr) == LESUNGKAP_DONE);
+        }
+        const int used = use_keys(clients + n, SHARE_OF_KEYS);
+        EXPECT(used > 0 && used <= SHARE_OF_KEYS - SHARE_OF_REGIONS + 1);
+    }
+    EXPECT(use_keys(clients + 3, 2 * SHARE_OF_REGIONS) == 2 * SHARE_OF_REGIONS);
+    client_close(clients + 3);
+    client_close(clients + 0);
+    client_open(&newcomer, path, 8);
+    client_close(&newcomer);
+    client_close(clients + 1);
+    client_close(clients + 2);
+}
+
 int main(int count, char **words)
 {
     static const struct {
@@ -375,7 +420,7 @@ int main(int count, char **words)
                  {"a former number", former_number},   {"held sends", held_in_order},
                  {"odd packets", odd_packets},         {"slow files", slow_files},
                  {"a flood", flood},                   {"in turn", in_turn},
-                 {"limits", limits}};
+                 {"limits", limits},                   {"keys", keys}};
     EXPECT(count == 2);
     path = words[1];
     for (size_t n = 0; n < sizeof cases / sizeof *cases; n++) {

@@ -1,5 +1,5 @@
-/* A verbs program against the preload library: keys that were dropped, receives that are flushed, buffers that share pages, what the card
- * lacks. A line for each case, and the first that isn't so ends the program. Run it over a monitor for four clients.
+/* A verbs program against the preload library: keys that were dropped, access flags of a queue pair, work that is flushed, buffers that
+ * share pages, what the card lacks. A line for each case, and the first that isn't so ends the program. Run it over a monitor for four clients.
  */
 #define _GNU_SOURCE
 #include <errno.h>
@@ -61,9 +61,9 @@ static void close_side(struct side *side)
     free(side->buffer);
 }
 
-static void ready(struct side *side, uint32_t peer)
+static void ready(struct side *side, uint32_t peer, unsigned access)
 {
-    struct ibv_qp_attr attr = {.qp_state = IBV_QPS_INIT, .port_num = 1, .qp_access_flags = ALL};
+    struct ibv_qp_attr attr = {.qp_state = IBV_QPS_INIT, .port_num = 1, .qp_access_flags = access};
     EXPECT(ibv_modify_qp(side->qp, &attr, IBV_QP_STATE | IBV_QP_PKEY_INDEX) == EINVAL);
     EXPECT(ibv_modify_qp(side->qp, &attr, IBV_QP_STATE | IBV_QP_PKEY_INDEX | IBV_QP_PORT | IBV_QP_ACCESS_FLAGS) == 0);
     attr = (struct ibv_qp_attr){.qp_state = IBV_QPS_RTR, .dest_qp_num = peer, .path_mtu = IBV_MTU_1024};
@@ -86,10 +86,10 @@ static enum ibv_wc_status completed(struct side *side)
     return wc.status;
 }
 
-static enum ibv_wc_status write_to(struct side *side, const struct told *peer, uint32_t length)
+static enum ibv_wc_status reach(struct side *side, enum ibv_wr_opcode opcode, const struct told *peer, uint32_t length)
 {
     struct ibv_sge sge = {(uintptr_t)side->buffer, length, side->mr->lkey};
-    struct ibv_send_wr wr = {.sg_list = &sge, .num_sge = 1, .opcode = IBV_WR_RDMA_WRITE}, *bad;
+    struct ibv_send_wr wr = {.sg_list = &sge, .num_sge = 1, .opcode = opcode}, *bad;
     wr.wr.rdma.remote_addr = peer->address;
     wr.wr.rdma.rkey = peer->key;
     EXPECT(ibv_post_send(side->qp, &wr, &bad) == 0);
@@ -119,7 +119,7 @@ static void owner(int other)
     struct side side;
     open_side(&side);
     const struct told peer = exchange(other, &side);
-    ready(&side, peer.qpn);
+    ready(&side, peer.qpn, ALL);
     turn(other);
     turn(other);
     EXPECT(side.buffer[0] == 9 && side.buffer[63] == 9 && side.buffer[64] == 1);
@@ -140,13 +140,13 @@ static void writer(int other)
     struct side side;
     open_side(&side);
     const struct told peer = exchange(other, &side);
-    ready(&side, peer.qpn);
+    ready(&side, peer.qpn, ALL);
     turn(other);
     memset(side.buffer, 9, SIZE);
-    EXPECT(write_to(&side, &peer, 64) == IBV_WC_SUCCESS);
+    EXPECT(reach(&side, IBV_WR_RDMA_WRITE, &peer, 64) == IBV_WC_SUCCESS);
     turn(other);
     turn(other);
-    EXPECT(write_to(&side, &peer, 64) == IBV_WC_REM_ACCESS_ERR);
+    EXPECT(reach(&side, IBV_WR_RDMA_WRITE, &peer, 64) == IBV_WC_REM_ACCESS_ERR);
     turn(other);
     close_side(&side);
 }
@@ -167,7 +167,64 @@ static void dropped_key(void)
     close(ends[1]);
 }
 
-/* ---- receives of a queue pair in error, those in the card and those behind them, in order */
+/* ---- access flags of a queue pair: the peer's reads and writes need them, whatever its regions grant */
+
+static enum ibv_wc_status reach_with(enum ibv_wr_opcode opcode, unsigned access)
+{
+    struct side own, other;
+    struct ibv_qp_attr attr;
+    struct ibv_qp_init_attr init;
+    open_side(&own);
+    open_side(&other);
+    const struct told peer = {other.qp->qp_num, other.mr->rkey, (uintptr_t)other.buffer};
+    ready(&own, other.qp->qp_num, 0);
+    ready(&other, own.qp->qp_num, access);
+    EXPECT(ibv_query_qp(other.qp, &attr, IBV_QP_ACCESS_FLAGS, &init) == 0 && attr.qp_access_flags == access);
+    memset(own.buffer, 9, SIZE);
+    const enum ibv_wc_status status = reach(&own, opcode, &peer, SIZE);
+    for (int n = 0; n < SIZE; n++) {
+        EXPECT(other.buffer[n] == (status == IBV_WC_SUCCESS && opcode == IBV_WR_RDMA_WRITE ? 9 : 1));
+        EXPECT(own.buffer[n] == (status == IBV_WC_SUCCESS && opcode == IBV_WR_RDMA_READ ? 1 : 9));
+    }
+    attr.qp_state = IBV_QPS_RESET;
+    EXPECT(ibv_modify_qp(other.qp, &attr, IBV_QP_STATE) == 0);
+    EXPECT(ibv_query_qp(other.qp, &attr, IBV_QP_ACCESS_FLAGS, &init) == 0 && attr.qp_access_flags == 0);
+    close_side(&own);
+    close_side(&other);
+    return status;
+}
+
+static void access_flags(void)
+{
+    for (unsigned access = 0; access <= ALL; access++) {
+        const enum ibv_wc_status refused = IBV_WC_REM_ACCESS_ERR;
+        EXPECT(reach_with(IBV_WR_RDMA_WRITE, access) == (access & IBV_ACCESS_REMOTE_WRITE ? IBV_WC_SUCCESS : refused));
+        EXPECT(reach_with(IBV_WR_RDMA_READ, access) == (access & IBV_ACCESS_REMOTE_READ ? IBV_WC_SUCCESS : refused));
+    }
+}
+
+/* ---- work of a queue pair in error: receives in the card, those behind them, what is posted later; sends, more than the queue has places */
+
+static void posted_in_error(struct side *side)
+{
+    struct ibv_sge sge = {(uintptr_t)side->buffer, 1, side->mr->lkey};
+    struct ibv_wc wc;
+    for (unsigned n = 0; n < 2 * RECEIVES; n++) {
+        struct ibv_send_wr wr = {.wr_id = n, .sg_list = &sge, .num_sge = 1, .opcode = IBV_WR_SEND}, *bad;
+        EXPECT(ibv_post_send(side->qp, &wr, &bad) == 0);
+    }
+    for (unsigned n = 0; n < 2 * RECEIVES; n++) {
+        while (ibv_poll_cq(side->cq, 1, &wc) == 0) {
+        }
+        EXPECT(wc.wr_id == n && wc.status == IBV_WC_WR_FLUSH_ERR && wc.qp_num == side->qp->qp_num);
+    }
+    for (unsigned n = 0; n < 3; n++) {
+        struct ibv_recv_wr wr = {.wr_id = n, .sg_list = &sge, .num_sge = 1}, *bad;
+        EXPECT(ibv_post_recv(side->qp, &wr, &bad) == 0 && ibv_poll_cq(side->cq, 1, &wc) == 1);
+        EXPECT(wc.wr_id == n && wc.status == IBV_WC_WR_FLUSH_ERR && wc.opcode == IBV_WC_RECV);
+    }
+    EXPECT(ibv_poll_cq(side->cq, 1, &wc) == 0);
+}
 
 static void flushed_in_order(void)
 {
@@ -188,6 +245,7 @@ static void flushed_in_order(void)
     for (unsigned n = 0; n < RECEIVES; n++) {
         EXPECT(wcs[n].wr_id == n && wcs[n].status == IBV_WC_WR_FLUSH_ERR && wcs[n].qp_num == side.qp->qp_num);
     }
+    posted_in_error(&side);
     close_side(&side);
 }
 
@@ -246,7 +304,7 @@ int main(void)
     static const struct {
         const char *name;
         void (*run)(void);
-    } cases[] = {{"dropped key", dropped_key}, {"flushed", flushed_in_order}, {"shared pages", shared_pages}, {"lacks", lacks}};
+    } cases[] = {{"dropped key", dropped_key}, {"access flags", access_flags}, {"flushed", flushed_in_order}, {"shared pages", shared_pages}, {"lacks", lacks}};
     for (size_t n = 0; n < sizeof cases / sizeof *cases; n++) {
         printf("%s\n", cases[n].name);
         fflush(stdout);
