@@ -7,14 +7,21 @@
 #include <fcntl.h>
 #include <linux/magic.h>
 #include <pthread.h>
-#include <stdatomic.h>
 #include <sys/socket.h>
 #include <sys/vfs.h>
 #include <unistd.h>
 
-enum { CLOSERS_MOST = 64, FILES_MOST = 253 /* the kernel's, of one message */ };
+enum { CLOSERS_MOST = 64, WAITING_MOST = 65536, FILES_MOST = 253 /* the kernel's, of one message */ };
 
-static atomic_int closers = 0;
+static pthread_mutex_t lock = PTHREAD_MUTEX_INITIALIZER;
+
+/* Files that wait to be closed, and how many threads close them. */
+static struct {
+    int files[WAITING_MOST];
+    unsigned first;
+    unsigned count;
+    unsigned closers;
+} waiting;
 
 /* Memory of the kernel's own, whose length nobody can change. Only such files are asked for their file system. */
 int is_sealed_memory(int fd)
@@ -25,17 +32,42 @@ int is_sealed_memory(int fd)
     return seals >= 0 && (seals & wanted) == wanted && fstatfs(fd, &system) == 0 && system.f_type == TMPFS_MAGIC;
 }
 
-static void *closer(void *fd)
+/* Closes files until none waits. */
+static void *closer(void *none)
 {
-    close((int)(intptr_t)fd);
-    atomic_fetch_sub(&closers, 1);
-    return NULL;
+    pthread_mutex_lock(&lock);
+    while (waiting.count > 0) {
+        const int fd = waiting.files[waiting.first];
+        waiting.first = (waiting.first + 1) % WAITING_MOST;
+        waiting.count--;
+        pthread_mutex_unlock(&lock);
+        close(fd);
+        pthread_mutex_lock(&lock);
+    }
+    waiting.closers--;
+    pthread_mutex_unlock(&lock);
+    return none;
+}
+
+/* Where there is no thread now, the files wait for the next. */
+static void start_closer(void)
+{
+    pthread_attr_t attributes;
+    pthread_t thread;
+    pthread_attr_init(&attributes);
+    pthread_attr_setdetachstate(&attributes, PTHREAD_CREATE_DETACHED);
+    pthread_attr_setstacksize(&attributes, 65536);
+    if (pthread_create(&thread, &attributes, closer, NULL) != 0) {
+        pthread_mutex_lock(&lock);
+        waiting.closers--;
+        pthread_mutex_unlock(&lock);
+        complain("clients' files stay open for now: there is no thread to close them", 0);
+    }
+    pthread_attr_destroy(&attributes);
 }
 
 void close_file(int fd)
 {
-    pthread_attr_t attributes;
-    pthread_t thread;
     if (fd == NO_FD) {
         return;
     }
@@ -43,19 +75,19 @@ void close_file(int fd)
         close(fd);
         return;
     }
-    if (atomic_fetch_add(&closers, 1) >= CLOSERS_MOST) {
-        atomic_fetch_sub(&closers, 1);
+    pthread_mutex_lock(&lock);
+    const int fits = waiting.count < WAITING_MOST, start = waiting.closers < CLOSERS_MOST;
+    if (fits) {
+        waiting.files[(waiting.first + waiting.count++) % WAITING_MOST] = fd;
+    }
+    waiting.closers += (unsigned)start;
+    pthread_mutex_unlock(&lock);
+    if (!fits) {
         complain("a client's file stays open: too many wait to be closed", 0);
-        return;
     }
-    pthread_attr_init(&attributes);
-    pthread_attr_setdetachstate(&attributes, PTHREAD_CREATE_DETACHED);
-    pthread_attr_setstacksize(&attributes, 65536);
-    if (pthread_create(&thread, &attributes, closer, (void *)(intptr_t)fd) != 0) {
-        atomic_fetch_sub(&closers, 1);
-        complain("a client's file stays open: there is no thread to close it", 0);
+    if (start) {
+        start_closer();
     }
-    pthread_attr_destroy(&attributes);
 }
 
 /* The first file that came with a message; any other is closed. Whether a message came at all is told by its sender's credentials. */
