@@ -128,11 +128,7 @@ module _ (cardOf : List ℕ → Card) (accepts : List ℕ → Bool) where
   flushes-card l c (Call.send q x m) p a = tt
   flushes-card l c (Call.receive q x) p a =
       let h = a .pairs q (not-false _ (passed-after (receiveChecks x) (joinChecks c q) p .0)) in
-      rw (← h .errs, ← h .waits) (go (flushesAtOnce c q))
-    where
-      go : (b : Bool) → eqb (cond b 4 0) 4 ≡ b
-      go true = refl
-      go false = refl
+      rw (← h .errs, ← h .waits) refl
   flushes-card l c (Call.flush q) p a = tt
   flushes-card l c (Call.poll n b) p a = tt
 

@@ -86,8 +86,8 @@ pub record Tally : Type 0 where
 abbrev pub none-yet : Tally
 none-yet = record { accepted = 0; put = 0; dropped = 0 }
 
--- 02, M-103: "The count of accepted receives includes those flushed at once", which are put by the same call
--- what a note of the queue pair counts, on which w receives waited before the call
+-- what a note of the queue pair counts, on which w receives waited before the call; 02, M-103: "The count of accepted receives includes those
+-- flushed at once", which are put by the same call
 abbrev pub countedBy : PairNote → (w : ℕ) → Tally → Tally
 countedBy (PairNote.created r) w t = none-yet
 countedBy (PairNote.changed r) w t =

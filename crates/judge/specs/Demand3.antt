@@ -1,7 +1,7 @@
 -- Demand 3, over lists of calls. Assumes nothing.
 use mathlib.Core.Path.{_≡_}
 use mathlib.Core.Logic.{_≢_}
-use mathlib.Core.Bool.{Bool, true, false}
+use mathlib.Core.Bool.{Bool, true, false, cond}
 use mathlib.Core.List.{List, [], _∷_}
 use mathlib.Core.Option.{Option, none, some}
 use Prim.Native.Nat.{ℕ, _^_, _<_}
@@ -126,10 +126,10 @@ postedOn (Call.receive q x) = some q
 postedOn (Call.flush q) = none
 postedOn (Call.poll n b) = none
 
--- done, it is flushed exactly when the log puts its queue pair in error and no older receive waits there
+-- done, it has status 4 where the log puts its queue pair in error and no older receive waits there, else 0
 abbrev pub FlushedBy : Log → Option ℕ → Answer → Type 0
 FlushedBy l none a = Unit {0}
-FlushedBy l (some q) (Done s) = eqb s 4 ≡ flushesAtOnce l q
+FlushedBy l (some q) (Done s) = s ≡ cond (flushesAtOnce l q) 4 0
 FlushedBy l (some q) (Held c) = Unit {0}
 FlushedBy l (some q) (Refused n) = Unit {0}
 

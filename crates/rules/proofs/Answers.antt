@@ -24,9 +24,9 @@ use Rattle.rules.specs.declared.Cause.the-variants.{Peer, Place}
 use Rattle.rules.specs.declared.Answer.the-variants.{Done, Held, Refused}
 use Rattle.rules.specs.Answer.{number, codeOf, answered, answerIn, isDone, isHeld, listed}
 use Rattle.rules.specs.Control.{commandChecks}
-use Rattle.rules.specs.Touch.{Request, requestOf, fills, total, sgeTotal, ownBytes, farBytes}
+use Rattle.rules.specs.Touch.{Request, requestOf, takes, fills, total, sgeTotal, ownBytes, farBytes}
 use Rattle.rules.specs.Permit.{permitsAll}
-use Rattle.rules.specs.Send.{pairChecks, readyChecks, placeChecks, holdChecks, deliveryChecks, room, isInError, peerOf, takenBy, ownUse, farUse, statusBy, runStatus, sendStatus}
+use Rattle.rules.specs.Send.{pairChecks, readyChecks, placeChecks, holdChecks, deliveryChecks, ready, room, hasPlaces, isInError, peerOf, takenBy, ownUse, farUse, statusBy, runStatus, sendStatus}
 use Rattle.rules.specs.Queues.{flushesAtOnce, joinChecks, joinStatus, flushChecks, pollChecks}
 use Rattle.rules.specs.Call.{Call, memoryOf}
 use Rattle.rules.proofs.Ranges.{all-split}
@@ -185,7 +185,10 @@ status-small c (Call.poll n b) = omega arith
 abbrev pub mayHold : Card → Call → Bool
 mayHold c (Call.reset n) = false
 mayHold c (Call.control k a) = false
-mayHold c (Call.send q x m) = isSome (refusal (holdChecks c q (requestOf x)))
+mayHold c (Call.send q x m) =
+    let o = requestOf x .opcode in
+    cond (isInError (c .qp q)) (not (room (c .cq (c .qp q .scq)) 1))
+    (not (ready c q (c .qp q .dest)) || ((takes o && isEmpty (c .qp (peerOf c q) .waiting)) || not (hasPlaces c q (peerOf c q) o)))
 mayHold c (Call.receive q x) = flushesAtOnce c q && not (room (c .cq (c .qp q .rcq)) 1)
 mayHold c (Call.flush q) = not (room (c .cq (c .qp q .rcq)) 1)
 mayHold c (Call.poll n b) = false
@@ -220,6 +223,22 @@ before-none xs ys h e n = rw (refusal-append xs ys) (go (refusal xs) refl (refus
     go none i (some y) j k = absurd (true≢false j)
     go (some x) i b j k = first-with plain xs n h (i ∙ k)
 
+-- the tests of a post send that hold are met where it may be held
+hold-met : (e p a b d : Bool) → isSome (refusal (cond e (6 if p ∷ []) (5 if a ∷ 5 if b ∷ 6 if d ∷ []))) ≡ cond e p (a || (b || d))
+hold-met true true a b d = refl
+hold-met true false a b d = refl
+hold-met false p true b d = refl
+hold-met false p false true d = refl
+hold-met false p false false true = refl
+hold-met false p false false false = refl
+
+send-holds : (c : Card) (q : ℕ) (x : List ℕ) (m : List ℕ) → isSome (refusal (holdChecks c q (requestOf x))) ≡ mayHold c (Call.send q x m)
+unfolding holdChecks readyChecks placeChecks
+send-holds c q x m =
+    let o = requestOf x .opcode in
+    hold-met (isInError (c .qp q)) (not (room (c .cq (c .qp q .scq)) 1)) (not (ready c q (c .qp q .dest)))
+    (takes o && isEmpty (c .qp (peerOf c q) .waiting)) (not (hasPlaces c q (peerOf c q) o))
+
 checks-plain : (c : Card) (k : Call) → mayHold c k ≡ false → Plain (checks c k)
 unfolding all checks resetChecks controlChecks bufferChecks sendChecks receiveChecks pairChecks deliveryChecks joinChecks flushChecks pollChecks
 checks-plain c (Call.reset n) e = λ i. first-with plain (resetChecks n) i refl
@@ -227,7 +246,8 @@ checks-plain c (Call.control k a) e =
     λ i. first-with plain (controlChecks k a ++ maybe [] (commandChecks c) (commandOf k)) i
     (rw (all-split (λ t. plain (t .no)) (controlChecks k a) (maybe [] (commandChecks c) (commandOf k)), command-plain c (commandOf k)))
 checks-plain c (Call.send q x m) e =
-    before-none (7 if not (eqb (length m) (c .memory)) ∷ (sendChecks x ++ pairChecks c q)) (holdChecks c q (requestOf x)) refl e
+    before-none (7 if not (eqb (length m) (c .memory)) ∷ (sendChecks x ++ pairChecks c q)) (holdChecks c q (requestOf x)) refl
+    (send-holds c q x m ∙ e)
 checks-plain c (Call.receive q x) e =
     without (receiveChecks x ++ (2 if not (c .qp q .live) ∷ 3 if eqb (c .qp q .state) 0 ∷ [])) 6 (mayHold c (Call.receive q x))
     (8 if leb mostWaiting (length (c .qp q .waiting)) ∷ []) e refl

@@ -8,6 +8,7 @@ use Prim.Native.Nat.{ℕ}
 use Rattle.wire.specs.Checks.{refusal}
 use Rattle.wire.specs.Scan.{lowest, lowestFrom, anyBelow, all}
 use Rattle.wire.specs.Slots.{upd}
+use Rattle.validate.specs.Accept.{pairOk}
 use Rattle.tables.specs.Card.{Card, fresh, withQp, withWaiting}
 use Rattle.tables.specs.Commands.{Command}
 use Rattle.tables.specs.declared.Sge.{Sge}
@@ -47,7 +48,6 @@ flags-along c [] = []
 flags-along c (k ∷ ks) = let d = obeyed (refusal (commandChecks c k)) c k in d .qp 0 .rights ∷ flags-along d ks
 
 -- set with bit 2 in states 1, 2, 3 and 6, kept and the number ignored without it, 0 after a move to 0 even one with bit 2, and 0 at creation
--- whatever the number's last owner had
 pub kept : flags-along pairs
     (modify 0 5 1 0 7 ∷ modify 0 32769 2 1 0 ∷ modify 0 5 3 0 2 ∷ modify 0 1 6 0 7 ∷ modify 0 5 6 0 4 ∷ modify 0 5 0 0 7 ∷
     modify 0 1 1 0 4294967295 ∷ modify 0 32773 2 1 6 ∷ Command.destroyQp 0 ∷ create ∷ [])
@@ -66,6 +66,11 @@ pub refused : map (λ k. refusal (commandChecks pairs k))
     some 2 ∷ some 3 ∷ some 4 ∷ some 4 ∷ some 4 ∷ some 4 ∷ []
 unfolding pairs after commandChecks commandEffect lowest lowestFrom anyBelow
 refused = refl
+
+-- stored flags: up to 7 in every combination, and none above
+pub stored : map (λ f. pairOk 0 (record { pd = 0; signal = 0; scq = 0; rcq = 0; state = 3; rights = f; dest = 1 })) (0 ∷ 2 ∷ 6 ∷ 7 ∷ 8 ∷ 10 ∷ 255 ∷ [])
+    ≡ true ∷ true ∷ true ∷ true ∷ false ∷ false ∷ false ∷ []
+stored = refl
 
 -- ---- ranges
 

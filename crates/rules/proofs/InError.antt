@@ -8,26 +8,31 @@ use lib.Dec.{eqb}
 use Rattle.wire.specs.Checks.{refusal}
 use Rattle.tables.specs.Card.{Card, Qp, Receive, fresh, withCq, withQp}
 use Rattle.tables.specs.declared.Completion.{Completion}
+use Rattle.tables.specs.declared.Sge.{Sge}
 use Rattle.rules.specs.Touch.{Request}
 use Rattle.rules.specs.Send.{Put, pairChecks, readyChecks, placeChecks, holdChecks, deliveryChecks, sendStatus, sendPuts, sendQps, putAll}
 use Rattle.rules.specs.Queues.{joinChecks, joinStatus, joinPuts, joined, received}
 
--- every queue pair is in the state t, names queue pair 1, sends unsignaled and has the receives ws; completion queue 0 is its send queue and has a
--- free places, completion queue 1 its receive queue and has b
-abbrev pair : (t : ℕ) → List Receive → Qp
-pair t ws = record { live = true; pd = 0; signal = 1; scq = 0; rcq = 1; state = t; rights = 0; dest = some 1; waiting = ws }
+-- every queue pair is in the state t, names queue pair 1, which names 2, sends unsignaled and has the receives ws; completion queue 0 is its send
+-- queue and has a free places, completion queue 1 its receive queue and has b
+abbrev pair : (t : ℕ) → List Receive → (q : ℕ) → Qp
+pair t ws q =
+    record { live = true; pd = 0; signal = 1; scq = 0; rcq = 1; state = t; rights = 0; dest = some (cond (eqb q 1) 2 1); waiting = ws }
 
 abbrev card : (t a b : ℕ) → List Receive → Card
 card t a b ws =
-    withQp (withCq (fresh 8) (λ n. record { live = true; places = cond (eqb n 0) a b; entries = [] })) (λ q. pair t ws)
+    withQp (withCq (fresh 8) (λ n. record { live = true; places = cond (eqb n 0) a b; entries = [] })) (pair t ws)
 
+-- of three bytes
 abbrev request : (opcode : ℕ) → Request
-request o = record { wr = 5; opcode = o; signaled = false; inline = false; bytes = []; imm = 6; address = 0; key = 0; sges = [] }
+request o =
+    let piece : Sge = record { address = 0; length = 3; key = 0 } in
+    record { wr = 5; opcode = o; signaled = false; inline = false; bytes = []; imm = 6; address = 0; key = 0; sges = piece ∷ [] }
 
 abbrev one : (wr : ℕ) → Receive
 one n = record { wr = n; sges = [] }
 
--- sends in the states 0 to 6, where the peer is in the same state: in 3 it is not ready to be named back, and held
+-- sends in the states 0 to 6: in 3 one is held with 5, as the peer does not name it back; in 6 the peer is not looked at
 pub sends : map (λ t. refusal (deliveryChecks (card t 1 1 []) 0 (request 0))) (0 ∷ 1 ∷ 2 ∷ 3 ∷ 6 ∷ []) ≡ some 3 ∷ some 3 ∷ some 3 ∷ some 5 ∷ none ∷ []
 unfolding pairChecks readyChecks placeChecks holdChecks deliveryChecks
 sends = refl
