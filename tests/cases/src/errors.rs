@@ -216,7 +216,7 @@ fn shared() -> Vec<Case> {
     vec![one.named("error-shared-queue-of-one-place"), two.named("error-shared-queue-of-two-pairs")]
 }
 
-/// The pair stays in error until it moves to 0.
+/// The pair stays in error until it moves to 0 or is destroyed.
 fn ends() -> Vec<Case> {
     let mut stays = Script::joined();
     stays.send(0, write(4).remote(B_VIRT, 0), 0, 8).poll(0, 7, 8, 1, 0, 0);
@@ -238,9 +238,14 @@ fn ends() -> Vec<Case> {
     both.poll(1, 1, 1, 3, 0, 1).send(1, Send::new(4, WRITE), 0, 4).poll(1, 4, 4, 1, 0, 1).receive(1, 5, &[], 0);
     both.send(0, Send::new(6, READ), 0, 4).poll(0, 6, 4, 2, 0, 0).receive_flushed(0, 7, &[]).poll(0, 7, 4, 3, 0, 0);
     both.flush(1, 0).flush(1, 0).flush(1, 9).poll(1, 2, 4, 3, 0, 1).poll(1, 5, 4, 3, 0, 1).poll_empty(1);
+    let mut gone = failed(16, 0);
+    gone.receive_flushed(0, 1, &[]).poll(0, 1, 4, 3, 0, 0).done(destroy_pair(0)).create(create_pair(0, 2, 0, 0, 0), 0);
+    gone.send(0, write(4), 3, 0).receive(0, 2, &[], 3).flush(0, 3).ready(0, 1).receive(0, 3, &[], 0).poll_empty(0);
+    gone.send(0, write(4), 0, 0).poll(0, 7, 0, 1, 4, 0).send(1, Send::new(5, SEND), 0, 0).poll(0, 3, 0, 3, 0, 0).poll_empty(0);
     vec![
         stays.named("error-flushed-work-leaves-the-pair-in-error"),
         moved.named("error-ends-with-a-move-to-0"),
+        gone.named("error-is-gone-with-the-pair"),
         both.named("error-of-both-after-status-7"),
     ]
 }
