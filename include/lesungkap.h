@@ -87,7 +87,7 @@ uint32_t lesungkap_control(uint8_t *state, size_t state_len, const uint8_t *comm
  *   DONE              it is finished, with the first status that is met:
  *     LOCAL_LENGTH      over LESUNGKAP_MOST_MESSAGE bytes in all
  *     LOCAL_PROTECTION  a byte of a local entry isn't permitted to the queue pair
- *     REMOTE_ACCESS     a byte of the remote range isn't permitted to the peer, or its access flags lack the right
+ *     REMOTE_ACCESS     of some bytes: one of the remote range isn't permitted to the peer, or the peer's access flags lack the right
  *     REMOTE_INVALID    the receive is too short (its own status LOCAL_LENGTH), or a byte that would be filled isn't permitted to the peer
  *                       (LOCAL_PROTECTION); the receive is taken, and the peer goes to error too
  *     SUCCESS           the bytes are written in turn, each with the value that its source had before the call

@@ -59,7 +59,7 @@ enum {
     LESUNGKAP_SUCCESS = 0,
     LESUNGKAP_LOCAL_LENGTH = 1,     /* over LESUNGKAP_MOST_MESSAGE; of a receive: the message is longer than its entries */
     LESUNGKAP_LOCAL_PROTECTION = 3, /* a byte of its own entries is not permitted */
-    LESUNGKAP_FLUSHED = 4,          /* posted on a queue pair in error, or waiting when it failed */
+    LESUNGKAP_FLUSHED = 4,          /* posted on a queue pair in error, or waiting when it came there */
     LESUNGKAP_REMOTE_INVALID = 7,   /* the peer's receive could not take it */
     LESUNGKAP_REMOTE_ACCESS = 8     /* a byte of the remote range is not permitted */
 };
@@ -88,9 +88,9 @@ enum { LESUNGKAP_LOCAL_WRITE = 1, LESUNGKAP_REMOTE_WRITE = 2, LESUNGKAP_REMOTE_R
 
 /* Queue pairs. A new one is in RESET. Modify QP moves it from RESET to INIT, from INIT to RTR (with the destination), from RTR to RTS, and
  * from any state to RESET or ERROR; a work request that fails moves it to ERROR. RESET drops waiting receives, the destination and the access
- * flags, ERROR nothing. Any move may set the access flags, but RESET leaves them 0, as a new queue pair has them: then a remote write or read
- * of its peer fails. Receives may be posted in INIT, RTR and RTS, work requests in RTS, to a peer in RTR or RTS. In ERROR both are taken and flushed: they
- * complete with LESUNGKAP_FLUSHED, a receive behind those that wait.
+ * flags, ERROR nothing. Any move may set the access flags, but RESET leaves them 0, as a new queue pair has them: then a remote write or
+ * read of some bytes by its peer fails. Receives may be posted in INIT, RTR and RTS, work requests in RTS, to a peer in RTR or RTS. In ERROR
+ * both are taken and flushed: they complete with LESUNGKAP_FLUSHED, a receive behind those that wait.
  *
  * Type and states are as IBV_QPT_* and IBV_QPS_*. Signal and the mask's bits are the card's own: signal 0 completes everything, where
  * libibverbs has sq_sig_all 1 for that; the access flags are bit 2 and the destination is bit 15, where IBV_QP_ACCESS_FLAGS is bit 3 and

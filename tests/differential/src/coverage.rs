@@ -222,7 +222,12 @@ impl Coverage {
             _ => return,
         };
         let region = card.regions.get((send.key >> 8) as usize).copied().flatten();
-        let in_region = region.map_or(false, |region| region.domain == peer.pair.domain && region.access & right != 0);
+        let in_region = region.map_or(false, |region| {
+            let key_fits = u32::from(region.variant) == send.key & 0xff && region.domain == peer.pair.domain;
+            let offset = send.address.checked_sub(region.virt);
+            let within = offset.map_or(false, |at| at < region.length && send.total() as u64 <= region.length - at);
+            key_fits && within && region.access & right != 0
+        });
         let in_flags = peer.pair.access & right != 0;
         match (send.total(), status, in_region, in_flags) {
             (0, 0, _, _) if peer.pair.access == 0 => self.add(format!("rights {name} of no bytes without flags")),
