@@ -1,6 +1,8 @@
-//! Interleaved timing of two cards on the same work, and the cards to time.
+//! Interleaved timing of cards on the same work, the work and the states to time it on.
 
 pub mod fixture;
+pub mod tuned;
+pub mod work;
 
 use std::time::{Duration, Instant};
 
@@ -67,6 +69,31 @@ pub fn compare(name: &str, calls: u32, proved: &mut Work, reference: &mut Work) 
         quantile(&mut ratios, 1),
         quantile(&mut ratios, 3),
     );
+}
+
+/// Times all in turn, in rounds short enough that other work on the machine disturbs few of them: the median of each in nanoseconds per call, and the
+/// quartiles of the first's time over each one's.
+pub fn ratios<const N: usize>(calls: u32, works: &mut [Work; N]) -> ([f64; N], [[f64; 3]; N]) {
+    const SHORT_ROUNDS: u32 = 501;
+    let per_round = (calls + SHORT_ROUNDS - 1) / SHORT_ROUNDS;
+    for work in works.iter_mut() {
+        work.sample(per_round);
+    }
+    let mut times: [Vec<f64>; N] = [(); N].map(|()| Vec::new());
+    for round in 0..SHORT_ROUNDS as usize {
+        for n in 0..N {
+            let n = (n + round) % N;
+            times[n].push(works[n].sample(per_round));
+        }
+    }
+    let first = times[0].clone();
+    let against = [0; N].map(|_: usize| [0.0; 3]);
+    let mut result = (times.clone().map(|mut times| quantile(&mut times, 2)), against);
+    for n in 0..N {
+        let mut over: Vec<f64> = first.iter().zip(&times[n]).map(|(a, b)| a / b).collect();
+        result.1[n] = [1, 2, 3].map(|quarter| quantile(&mut over, quarter));
+    }
+    result
 }
 
 pub fn heading(first: &str, second: &str) {

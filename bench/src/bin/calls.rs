@@ -2,11 +2,9 @@
 //!
 //! usage: calls [CALLS]
 
-use bench::{compare, fixture, heading, opaque, Work};
+use bench::work::{polls, writes};
+use bench::{compare, fixture, heading};
 use cards::{proved, Card, Reference};
-use reference::layout::{COMPLETION_BYTES, MOST_PLACES, QUEUES};
-use reference::Outcome;
-use std::cell::RefCell;
 
 fn main() {
     let calls = std::env::args().nth(1).and_then(|word| word.parse().ok()).unwrap_or(1_000_000);
@@ -29,40 +27,4 @@ fn main() {
     }
     println!("Lent buffers are made once and never cleared in the timing. The reference copies one piece, and inline bytes, in place and");
     println!("clears a staging array of 4,096 bytes only for several pieces. Refilling the queues before polls isn't timed.");
-}
-
-fn writes<'a>(card: &'a dyn Card, state: &[u8], record: &'a [u8]) -> Work<'a> {
-    let calls = 1000;
-    let mut state = state.to_vec();
-    let mut memory: Vec<u8> = (0..fixture::MEMORY).map(|n| n as u8).collect();
-    let run = move || {
-        for _ in 0..calls {
-            let outcome = card.post_send(opaque(&mut state), opaque(&mut memory), 0, opaque(record));
-            assert_eq!(outcome, Outcome::DONE);
-        }
-    };
-    Work { calls, prepare: Box::new(|| {}), run: Box::new(run) }
-}
-
-/// Empties the queues of four cards; they are filled again before each run.
-fn polls<'a>(card: &'a dyn Card, full: &[u8]) -> Work<'a> {
-    let full = full.to_vec();
-    let queues: Vec<u32> =
-        (0..QUEUES as u32).filter(|&n| reference::poll(&mut full.clone(), n, &mut [0; COMPLETION_BYTES]).answer == 0).collect();
-    let calls = (4 * MOST_PLACES * queues.len()) as u32;
-    let states = std::rc::Rc::new(RefCell::new(vec![full.clone(); 4]));
-    let refilled = states.clone();
-    let prepare = move || refilled.borrow_mut().iter_mut().for_each(|state| state.copy_from_slice(&full));
-    let run = move || {
-        let mut buffer = [0; COMPLETION_BYTES];
-        for state in states.borrow_mut().iter_mut() {
-            for &cqn in &queues {
-                for _ in 0..MOST_PLACES {
-                    let outcome = card.poll(opaque(state), cqn, opaque(&mut buffer));
-                    assert_eq!(outcome, Outcome::DONE);
-                }
-            }
-        }
-    };
-    Work { calls, prepare: Box::new(prepare), run: Box::new(run) }
 }

@@ -3,9 +3,9 @@
 //!
 //! usage: state [CALLS]
 
-use bench::{compare, fixture, heading, opaque, Work};
+use bench::work::state_tests;
+use bench::{compare, fixture, heading};
 use cards::{proved, Card, Reference};
-use reference::Refusal;
 
 fn main() {
     let calls = std::env::args().nth(1).and_then(|word| word.parse().ok()).unwrap_or(1_000_000);
@@ -15,19 +15,7 @@ fn main() {
     fixture::fill_queues(&mut unread);
     for (name, state) in [("thin tables", fixture::thin()), ("full tables", fixture::full()), ("full tables, 128 unread", unread)]
     {
-        compare(&format!("state test, {name}"), calls, &mut work(first, &state), &mut work(&Reference, &state));
+        compare(&format!("state test, {name}"), calls, &mut state_tests(first, &state), &mut state_tests(&Reference, &state));
     }
     println!("The states are made once, before the timing; nothing is cleared or copied in it.");
-}
-
-fn work<'a>(card: &'a dyn Card, state: &[u8]) -> Work<'a> {
-    let calls = 1000;
-    let mut state = state.to_vec();
-    let run = move || {
-        for _ in 0..calls {
-            let outcome = card.poll(opaque(&mut state), 0, &mut []);
-            assert_eq!(outcome, Refusal::BufferTooShort.into());
-        }
-    };
-    Work { calls, prepare: Box::new(|| {}), run: Box::new(run) }
 }

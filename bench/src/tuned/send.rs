@@ -1,0 +1,92 @@
+//! Post send. The quick way is a write of one piece that succeeds without a completion; it changes no byte of the state.
+
+use super::{accepts, byte, get32, get64, part, State};
+use reference::layout::*;
+use reference::record::*;
+use reference::Outcome;
+
+/// A record with one piece.
+const ONE_PIECE: usize = SEND_BYTES + PIECE_BYTES;
+
+pub fn post_send(state: &mut [u8], memory: &mut [u8], qpn: u32, record: &[u8]) -> Outcome {
+    if quick_write(state, memory, qpn, record).is_some() {
+        return Outcome::DONE;
+    }
+    any_send(state, memory, qpn, record)
+}
+
+#[cold]
+#[inline(never)]
+fn any_send(state: &mut [u8], memory: &mut [u8], qpn: u32, record: &[u8]) -> Outcome {
+    reference::post_send(state, memory, qpn, record)
+}
+
+/// The write done, or nothing done.
+#[inline(always)]
+fn quick_write(state: &[u8], memory: &mut [u8], qpn: u32, record: &[u8]) -> Option<()> {
+    let state: &State = state.try_into().ok()?;
+    if !accepts(state) {
+        return None;
+    }
+    let record: &[u8; ONE_PIECE] = record.try_into().ok()?;
+    let silent = record[8] == WRITE && record[9] & !(FENCE | SOLICITED) == 0;
+    if memory.len() as u64 != get64(state, MEMORY_LENGTH) || !silent || get32(record, COUNT_AT) != 1 {
+        return None;
+    }
+    let (own, far) = ends(state, qpn as usize)?;
+    let piece = Piece { address: get64(record, 576), length: get32(record, 584), key: get32(record, 588) };
+    let length = piece.length as usize;
+    if length.wrapping_sub(1) >= MOST_MESSAGE {
+        return None;
+    }
+    let from = place(state, own, 0, piece.address, length, piece.key)?;
+    let to = place(state, far, REMOTE_WRITE, get64(record, 16), length, get32(record, 24))?;
+    if from.max(to) + length > memory.len() {
+        return None;
+    }
+    memory.copy_within(from..from + length, to);
+    Some(())
+}
+
+/// The domains of a sender that asks for no completion of a success, and of its peer.
+#[inline(always)]
+fn ends(state: &State, number: usize) -> Option<(u32, u32)> {
+    if number >= PAIRS || state[PAIR_FLAGS + number] != 1 {
+        return None;
+    }
+    let own = get64(state, pair_row(number));
+    let destination = field(own, PAIR_DESTINATION) as usize;
+    if field(own, PAIR_STATE) != READY_TO_SEND.into() || field(own, PAIR_SIGNAL) != 1 || destination >= PAIRS {
+        return None;
+    }
+    let far = get64(state, pair_row(destination));
+    let ready = field(far, PAIR_STATE) & !1 == READY_TO_RECEIVE.into() && field(far, PAIR_DESTINATION) as usize == number;
+    let queue = get32(state, queue_row(field(own, PAIR_SEND_QUEUE) as usize % QUEUES));
+    let room = byte(queue, QUEUE_COUNT) < byte(queue, QUEUE_PLACES);
+    if !ready || !room || state[PAIR_FLAGS + destination] != 1 {
+        return None;
+    }
+    Some((field(own, PAIR_DOMAIN), field(far, PAIR_DOMAIN)))
+}
+
+#[inline(always)]
+fn field(pair: u64, at: usize) -> u32 {
+    (pair >> (8 * at)) as u32 & 0xff
+}
+
+/// Where a range that isn't empty stands in memory, if every byte of it is permitted.
+#[inline(always)]
+fn place(state: &State, domain: u32, right: u8, address: u64, length: usize, key: u32) -> Option<usize> {
+    let slot = (key >> 8) as usize;
+    if slot >= REGIONS || state[REGION_FLAGS + slot] != 1 {
+        return None;
+    }
+    let row: &[u8; region_row(1) - region_row(0)] = part(state, region_row(slot));
+    let fits = row[REGION_VARIANT] == key as u8 && u32::from(row[REGION_DOMAIN]) == domain && row[REGION_ACCESS] & right == right;
+    let offset = address.wrapping_sub(get64(row, REGION_VIRT));
+    let room = get64(row, REGION_LENGTH);
+    if !fits || offset >= room || length as u64 > room - offset {
+        return None;
+    }
+    Some((get64(row, REGION_START) + offset) as usize)
+}

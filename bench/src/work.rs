@@ -1,0 +1,57 @@
+//! The calls that are timed. Each must be answered as it should be.
+
+use crate::{fixture, opaque, Work};
+use cards::Card;
+use reference::layout::{COMPLETION_BYTES, MOST_PLACES, QUEUES};
+use reference::{Outcome, Refusal};
+use std::cell::RefCell;
+
+/// Polls without a buffer, which end right after the state test.
+pub fn state_tests<'a>(card: &'a dyn Card, state: &[u8]) -> Work<'a> {
+    let calls = 1000;
+    let mut state = state.to_vec();
+    let run = move || {
+        for _ in 0..calls {
+            let outcome = card.poll(opaque(&mut state), 0, &mut []);
+            assert_eq!(outcome, Refusal::BufferTooShort.into());
+        }
+    };
+    Work { calls, prepare: Box::new(|| {}), run: Box::new(run) }
+}
+
+/// Post sends of a record that succeeds without a completion.
+pub fn writes<'a>(card: &'a dyn Card, state: &[u8], record: &'a [u8]) -> Work<'a> {
+    let calls = 1000;
+    let mut state = state.to_vec();
+    let mut memory: Vec<u8> = (0..fixture::MEMORY).map(|n| n as u8).collect();
+    let run = move || {
+        for _ in 0..calls {
+            let outcome = card.post_send(opaque(&mut state), opaque(&mut memory), 0, opaque(record));
+            assert_eq!(outcome, Outcome::DONE);
+        }
+    };
+    Work { calls, prepare: Box::new(|| {}), run: Box::new(run) }
+}
+
+/// Empties the queues of four cards; they are filled again before each run.
+pub fn polls<'a>(card: &'a dyn Card, full: &[u8]) -> Work<'a> {
+    let full = full.to_vec();
+    let queues: Vec<u32> =
+        (0..QUEUES as u32).filter(|&n| reference::poll(&mut full.clone(), n, &mut [0; COMPLETION_BYTES]).answer == 0).collect();
+    let calls = (4 * MOST_PLACES * queues.len()) as u32;
+    let states = std::rc::Rc::new(RefCell::new(vec![full.clone(); 4]));
+    let refilled = states.clone();
+    let prepare = move || refilled.borrow_mut().iter_mut().for_each(|state| state.copy_from_slice(&full));
+    let run = move || {
+        let mut buffer = [0; COMPLETION_BYTES];
+        for state in states.borrow_mut().iter_mut() {
+            for &cqn in &queues {
+                for _ in 0..MOST_PLACES {
+                    let outcome = card.poll(opaque(state), cqn, opaque(&mut buffer));
+                    assert_eq!(outcome, Outcome::DONE);
+                }
+            }
+        }
+    };
+    Work { calls, prepare: Box::new(prepare), run: Box::new(run) }
+}
