@@ -9,6 +9,10 @@ use std::time::{Duration, Instant};
 /// Rounds of which each times the one and then the other.
 const ROUNDS: usize = 21;
 
+/// Most of the short rounds, in each of which all are timed, and the fewest calls of one.
+const SHORT_ROUNDS: u32 = 501;
+const LEAST_CALLS: u32 = 1000;
+
 /// Work that is timed: `prepare` isn't, `run` is and makes `calls` calls.
 pub struct Work<'a> {
     pub calls: u32,
@@ -74,26 +78,24 @@ pub fn compare(name: &str, calls: u32, proved: &mut Work, reference: &mut Work) 
 /// Times all in turn, in rounds short enough that other work on the machine disturbs few of them: the median of each in nanoseconds per call, and the
 /// quartiles of the first's time over each one's.
 pub fn ratios<const N: usize>(calls: u32, works: &mut [Work; N]) -> ([f64; N], [[f64; 3]; N]) {
-    const SHORT_ROUNDS: u32 = 501;
-    let per_round = (calls + SHORT_ROUNDS - 1) / SHORT_ROUNDS;
+    let rounds = (calls / LEAST_CALLS).clamp(1, SHORT_ROUNDS);
+    let per_round = (calls + rounds - 1) / rounds;
     for work in works.iter_mut() {
         work.sample(per_round);
     }
     let mut times: [Vec<f64>; N] = [(); N].map(|()| Vec::new());
-    for round in 0..SHORT_ROUNDS as usize {
+    for round in 0..rounds as usize {
         for n in 0..N {
             let n = (n + round) % N;
             times[n].push(works[n].sample(per_round));
         }
     }
     let first = times[0].clone();
-    let against = [0; N].map(|_: usize| [0.0; 3]);
-    let mut result = (times.clone().map(|mut times| quantile(&mut times, 2)), against);
-    for n in 0..N {
-        let mut over: Vec<f64> = first.iter().zip(&times[n]).map(|(a, b)| a / b).collect();
-        result.1[n] = [1, 2, 3].map(|quarter| quantile(&mut over, quarter));
-    }
-    result
+    let over = times.clone().map(|times| {
+        let mut over: Vec<f64> = first.iter().zip(&times).map(|(a, b)| a / b).collect();
+        [1, 2, 3].map(|quarter| quantile(&mut over, quarter))
+    });
+    (times.map(|mut times| quantile(&mut times, 2)), over)
 }
 
 pub fn heading(first: &str, second: &str) {

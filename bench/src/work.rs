@@ -2,7 +2,7 @@
 
 use crate::{fixture, opaque, Work};
 use cards::Card;
-use reference::layout::{COMPLETION_BYTES, MOST_PLACES, QUEUES};
+use reference::layout::{COMPLETION_BYTES, MOST_MESSAGE, MOST_PLACES, QUEUES};
 use reference::{Outcome, Refusal};
 use std::cell::RefCell;
 
@@ -54,4 +54,16 @@ pub fn polls<'a>(card: &'a dyn Card, full: &[u8]) -> Work<'a> {
         }
     };
     Work { calls, prepare: Box::new(prepare), run: Box::new(run) }
+}
+
+/// Copies of 4,096 bytes: what a time is set against that is no card's.
+pub fn copies<'a>() -> Work<'a> {
+    let calls = 1000;
+    let (from, mut to) = (vec![7u8; MOST_MESSAGE], vec![0u8; MOST_MESSAGE]);
+    let run = move || {
+        for _ in 0..calls {
+            opaque(&mut to).copy_from_slice(opaque(&from));
+        }
+    };
+    Work { calls, prepare: Box::new(|| {}), run: Box::new(run) }
 }

@@ -1,5 +1,6 @@
 //! Times the proved library (libengine.a) against both yardsticks in one run, for the figures that document 02 asks for in M-107: unsignaled writes of 64 and
-//! 4,096 bytes with status 0, and polls answered 0; and the state test alone. The yardsticks are the reference and the tuned engine.
+//! 4,096 bytes with status 0, and polls answered 0; and the state test alone, which also stands against a 4,096-byte copy. The yardsticks are the reference
+//! and the tuned engine. A call that is not answered as it should be ends the run.
 //!
 //! usage: yardsticks [CALLS]
 
@@ -11,17 +12,14 @@ fn main() {
     let calls = std::env::args().nth(1).and_then(|word| word.parse().ok()).unwrap_or(1_000_000);
     let first: &dyn Card = proved().unwrap_or(&Reference);
     let cards = [first, &Reference, &Tuned];
-    println!("first: {}, second: {}, third: {}", first.name(), Reference.name(), Tuned.name());
-    println!(
-        "{:<38}{:>9}{:>24}   {:<22}{:<22}",
-        "work", "calls", "nanoseconds, medians", "first over second", "first over third"
-    );
+    println!("first: {}, second: {}, third: {}, fourth: a 4,096-byte copy", first.name(), Reference.name(), Tuned.name());
+    println!("{:<30}{:>9}  {:<32}first over each other, with the middle half", "work", "calls", "nanoseconds, medians");
     for (tables, state) in [("thin", fixture::thin()), ("full", fixture::full())] {
         let mut unread = state.clone();
         fixture::fill_queues(&mut unread);
-        line(&format!("state test, {tables}"), calls, cards.map(|card| work::state_tests(card, &state)));
+        state_line(&format!("state test, {tables}"), calls, cards, &state);
         if tables == "full" {
-            line("state test, full, 128 unread", calls, cards.map(|card| work::state_tests(card, &unread)));
+            state_line("state test, full, 128 unread", calls, cards, &unread);
         }
         for (name, length) in [("64 bytes", 64), ("4,096 bytes", 4096)] {
             let record = fixture::write(length, 1);
@@ -32,9 +30,15 @@ fn main() {
     println!("Lent buffers are made once and never cleared in the timing; refilling the queues before polls isn't timed.");
 }
 
+fn state_line(name: &str, calls: u32, cards: [&dyn Card; 3], state: &[u8]) {
+    let [first, second, third] = cards.map(|card| work::state_tests(card, state));
+    line(name, calls, [first, second, third, work::copies()]);
+}
+
 /// A line of the table: nanoseconds of each, and the first's time over each other's with the middle half.
-fn line(name: &str, calls: u32, mut works: [Work; 3]) {
-    let (times, against) = ratios(calls, &mut works);
-    let shown = |n: usize| format!("{:.2} ({:.2} to {:.2})", against[n][1], against[n][0], against[n][2]);
-    println!("{name:<38}{calls:>9}{:>8.1}{:>8.1}{:>8.1}   {:<22}{:<22}", times[0], times[1], times[2], shown(1), shown(2));
+fn line<const N: usize>(name: &str, calls: u32, mut works: [Work; N]) {
+    let (times, over) = ratios(calls, &mut works);
+    let times: String = times.iter().map(|time| format!("{time:<8.1}")).collect();
+    let over: String = over[1..].iter().map(|[low, middle, high]| format!("{middle:<6.2}{low:.2} to {high:<8.2}")).collect();
+    println!("{name:<30}{calls:>9}  {times:<32}{over}");
 }

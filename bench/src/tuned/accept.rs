@@ -15,13 +15,15 @@ const RECEIVE_ROW: usize = receive_row(0, 1) - receive_row(0, 0);
 /// The bits that access and domain of a region can't have.
 const REGION_OUTSIDE: u32 = 0xf8 << (8 * REGION_ACCESS) | 0xf8 << (8 * REGION_DOMAIN);
 
-/// The bits that a queue pair's row can't have: numbers up to 7, signal up to 1, state up to 7, destination up to 15.
+/// The bits that a queue pair's row can't have: numbers up to 7, signal up to 1, state up to 7, destination up to 15, access
+/// flags up to 7.
 const PAIR_OUTSIDE: u64 = 0xf8 << (8 * PAIR_DOMAIN)
     | 0xfe << (8 * PAIR_SIGNAL)
     | 0xf8 << (8 * PAIR_SEND_QUEUE)
     | 0xf8 << (8 * PAIR_RECEIVE_QUEUE)
     | 0xf8 << (8 * PAIR_STATE)
-    | 0xf0 << (8 * PAIR_DESTINATION);
+    | 0xf0 << (8 * PAIR_DESTINATION)
+    | 0xf8 << (8 * PAIR_ACCESS);
 
 /// Statuses and states as sets of bits.
 const STATUSES: u32 = 1 << 0 | 1 << 1 | 1 << 3 | 1 << 4 | 1 << 7 | 1 << 8;

@@ -48,7 +48,7 @@ fn quick_write(state: &[u8], memory: &mut [u8], qpn: u32, record: &[u8]) -> Opti
     Some(())
 }
 
-/// The domains of a sender that asks for no completion of a success, and of its peer.
+/// The domains of a sender that asks for no completion of a success, and of its peer, which grants writes.
 #[inline(always)]
 fn ends(state: &State, number: usize) -> Option<(u32, u32)> {
     if number >= PAIRS || state[PAIR_FLAGS + number] != 1 {
@@ -61,9 +61,10 @@ fn ends(state: &State, number: usize) -> Option<(u32, u32)> {
     }
     let far = get64(state, pair_row(destination));
     let ready = field(far, PAIR_STATE) & !1 == READY_TO_RECEIVE.into() && field(far, PAIR_DESTINATION) as usize == number;
+    let grants = field(far, PAIR_ACCESS) & u32::from(REMOTE_WRITE) != 0;
     let queue = get32(state, queue_row(field(own, PAIR_SEND_QUEUE) as usize % QUEUES));
     let room = byte(queue, QUEUE_COUNT) < byte(queue, QUEUE_PLACES);
-    if !ready || !room || state[PAIR_FLAGS + destination] != 1 {
+    if !ready || !grants || !room || state[PAIR_FLAGS + destination] != 1 {
         return None;
     }
     Some((field(own, PAIR_DOMAIN), field(far, PAIR_DOMAIN)))
