@@ -10,8 +10,8 @@ use std::time::{Duration, Instant};
 const ROUNDS: usize = 21;
 
 /// Most of the short rounds, in each of which all are timed, and the fewest calls of one.
-const SHORT_ROUNDS: u32 = 501;
-const LEAST_CALLS: u32 = 1000;
+const SHORT_ROUNDS: u32 = 4001;
+const LEAST_CALLS: u32 = 250;
 
 /// Work that is timed: `prepare` isn't, `run` is and makes `calls` calls.
 pub struct Work<'a> {

@@ -8,7 +8,7 @@ use std::cell::RefCell;
 
 /// Polls without a buffer, which end right after the state test.
 pub fn state_tests<'a>(card: &'a dyn Card, state: &[u8]) -> Work<'a> {
-    let calls = 1000;
+    let calls = 250;
     let mut state = state.to_vec();
     let run = move || {
         for _ in 0..calls {
@@ -21,7 +21,7 @@ pub fn state_tests<'a>(card: &'a dyn Card, state: &[u8]) -> Work<'a> {
 
 /// Post sends of a record that succeeds without a completion.
 pub fn writes<'a>(card: &'a dyn Card, state: &[u8], record: &'a [u8]) -> Work<'a> {
-    let calls = 1000;
+    let calls = 250;
     let mut state = state.to_vec();
     let mut memory: Vec<u8> = (0..fixture::MEMORY).map(|n| n as u8).collect();
     let run = move || {
@@ -56,13 +56,18 @@ pub fn polls<'a>(card: &'a dyn Card, full: &[u8]) -> Work<'a> {
     Work { calls, prepare: Box::new(prepare), run: Box::new(run) }
 }
 
-/// Copies of 4,096 bytes: what a time is set against that is no card's.
+/// Three pages, so that where two ranges stand to each other does not hang on the allocator.
+#[repr(align(4096))]
+struct Pages([u8; 3 * MOST_MESSAGE]);
+
+/// Copies of 4,096 bytes to a range one and a half pages further on: what a time is set against that is no card's.
 pub fn copies<'a>() -> Work<'a> {
-    let calls = 1000;
-    let (from, mut to) = (vec![7u8; MOST_MESSAGE], vec![0u8; MOST_MESSAGE]);
+    let calls = 250;
+    let mut pages = Box::new(Pages([7; 3 * MOST_MESSAGE]));
     let run = move || {
+        let (from, to) = pages.0.split_at_mut(MOST_MESSAGE + MOST_MESSAGE / 2);
         for _ in 0..calls {
-            opaque(&mut to).copy_from_slice(opaque(&from));
+            opaque(&mut to[..MOST_MESSAGE]).copy_from_slice(opaque(&from[..MOST_MESSAGE]));
         }
     };
     Work { calls, prepare: Box::new(|| {}), run: Box::new(run) }
