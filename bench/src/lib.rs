@@ -6,11 +6,8 @@ pub mod work;
 
 use std::time::{Duration, Instant};
 
-/// Rounds of which each times the one and then the other.
-const ROUNDS: usize = 21;
-
-/// Most of the short rounds, in each of which all are timed, and the fewest calls of one.
-const SHORT_ROUNDS: u32 = 4001;
+/// Most rounds, in each of which all are timed, and the fewest calls of one.
+const MOST_ROUNDS: u32 = 4001;
 const LEAST_CALLS: u32 = 250;
 
 /// Work that is timed: `prepare` isn't, `run` is and makes `calls` calls.
@@ -47,38 +44,15 @@ pub fn opaque<T>(value: T) -> T {
 }
 
 /// Times both in turn and prints a line: nanoseconds per call, the median ratio and the middle half of the ratios.
-pub fn compare(name: &str, calls: u32, proved: &mut Work, reference: &mut Work) {
-    let rounds = ROUNDS as u32;
-    let per_round = (calls + rounds - 1) / rounds;
-    proved.sample(per_round);
-    reference.sample(per_round);
-    let (mut ours, mut theirs, mut ratios) = (Vec::new(), Vec::new(), Vec::new());
-    for round in 0..ROUNDS {
-        let (a, b) = if round % 2 == 0 {
-            let a = proved.sample(per_round);
-            (a, reference.sample(per_round))
-        } else {
-            let b = reference.sample(per_round);
-            (proved.sample(per_round), b)
-        };
-        ours.push(a);
-        theirs.push(b);
-        ratios.push(a / b);
-    }
-    println!(
-        "{name:<42}{calls:>10}{:>12.1}{:>12.1}{:>9.2}   {:.2} to {:.2}",
-        quantile(&mut ours, 2),
-        quantile(&mut theirs, 2),
-        quantile(&mut ratios, 2),
-        quantile(&mut ratios, 1),
-        quantile(&mut ratios, 3),
-    );
+pub fn compare(name: &str, calls: u32, proved: Work, reference: Work) {
+    let ([ours, theirs], [_, [low, middle, high]]) = ratios(calls, &mut [proved, reference]);
+    println!("{name:<42}{calls:>10}{ours:>12.1}{theirs:>12.1}{middle:>9.2}   {low:.2} to {high:.2}");
 }
 
 /// Times all in turn, in rounds short enough that other work on the machine disturbs few of them: the median of each in nanoseconds per call, and the
 /// quartiles of the first's time over each one's.
 pub fn ratios<const N: usize>(calls: u32, works: &mut [Work; N]) -> ([f64; N], [[f64; 3]; N]) {
-    let rounds = (calls / LEAST_CALLS).clamp(1, SHORT_ROUNDS);
+    let rounds = (calls / LEAST_CALLS).clamp(1, MOST_ROUNDS);
     let per_round = (calls + rounds - 1) / rounds;
     for work in works.iter_mut() {
         work.sample(per_round);
@@ -99,7 +73,7 @@ pub fn ratios<const N: usize>(calls: u32, works: &mut [Work; N]) -> ([f64; N], [
 }
 
 pub fn heading(first: &str, second: &str) {
-    println!("{first} against {second}; {ROUNDS} interleaved rounds; nanoseconds per call are medians");
+    println!("{first} against {second}; interleaved rounds; nanoseconds per call are medians");
     println!("{:<42}{:>10}{:>12}{:>12}{:>9}   middle half", "work", "calls", "first", "second", "ratio");
 }
 

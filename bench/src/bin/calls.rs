@@ -18,12 +18,12 @@ fn main() {
             ("64 inline bytes", fixture::inline_write(64)),
             ("512 inline bytes", fixture::inline_write(512)),
         ] {
-            let (mut ours, mut theirs) = (writes(first, &state, &record), writes(&Reference, &state, &record));
-            compare(&format!("write {name}, {tables}"), calls, &mut ours, &mut theirs);
+            let (ours, theirs) = (writes(first, &state, &record), writes(&Reference, &state, &record));
+            compare(&format!("write {name}, {tables}"), calls, ours, theirs);
         }
         let mut unread = state;
         fixture::fill_queues(&mut unread);
-        compare(&format!("poll, {tables}"), calls, &mut polls(first, &unread), &mut polls(&Reference, &unread));
+        compare(&format!("poll, {tables}"), calls, polls(first, &unread), polls(&Reference, &unread));
     }
     println!("Lent buffers are made once and never cleared in the timing. The reference copies one piece, and inline bytes, in place and");
     println!("clears a staging array of 4,096 bytes only for several pieces. Refilling the queues before polls isn't timed.");

@@ -15,7 +15,7 @@ fn main() {
     fixture::fill_queues(&mut unread);
     for (name, state) in [("thin tables", fixture::thin()), ("full tables", fixture::full()), ("full tables, 128 unread", unread)]
     {
-        compare(&format!("state test, {name}"), calls, &mut state_tests(first, &state), &mut state_tests(&Reference, &state));
+        compare(&format!("state test, {name}"), calls, state_tests(first, &state), state_tests(&Reference, &state));
     }
     println!("The states are made once, before the timing; nothing is cleared or copied in it.");
 }
