@@ -68,13 +68,18 @@ int clients_accept(struct monitor *monitor, int listener)
 
 static uint8_t *window_of(const struct monitor *monitor, int seat) { return monitor->card.memory + (size_t)seat * monitor->window; }
 
+/* Pages of the monitor's own in a window; whether they are there. */
+static int free_window(const struct monitor *monitor, int seat)
+{
+    return mmap(window_of(monitor, seat), monitor->window, PROT_READ | PROT_WRITE, MAP_PRIVATE | MAP_ANONYMOUS | MAP_FIXED, -1, 0) != MAP_FAILED;
+}
+
 void clients_drop(struct monitor *monitor, unsigned number)
 {
     struct connection *connection = monitor->connections + number;
     destroy_all(monitor, number);
     if (connection->seat != NO_SEAT) {
-        void *window = window_of(monitor, connection->seat);
-        if (mmap(window, monitor->window, PROT_READ | PROT_WRITE, MAP_PRIVATE | MAP_ANONYMOUS | MAP_FIXED, -1, 0) == MAP_FAILED) {
+        if (!free_window(monitor, connection->seat)) {
             complain("a window could not be freed, its seat stays taken", connection->pid);
         } else {
             monitor->taken[connection->seat] = 0;
@@ -120,6 +125,7 @@ static uint32_t join(struct monitor *monitor, unsigned number, int fd)
     void *window = window_of(monitor, seat);
     if (mmap(window, (size_t)file.st_size, PROT_READ | PROT_WRITE, MAP_SHARED | MAP_FIXED, fd, 0) == MAP_FAILED) {
         complain("a client's memory was refused: it can't be mapped", connection->pid);
+        monitor->taken[seat] = !free_window(monitor, seat);
         return LESUNGKAP_BAD_FIELD;
     }
     monitor->taken[seat] = 1;

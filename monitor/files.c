@@ -128,13 +128,20 @@ ssize_t receive_packet(int from, uint8_t bytes[PACKET_MOST_BYTES], int *fd)
     return length;
 }
 
-void close_connection(int from)
+void empty_socket(int from)
 {
     uint8_t bytes[PACKET_MOST_BYTES];
+    const int tells = 1; /* credentials with every packet, an empty one too */
     int fd;
-    shutdown(from, SHUT_RDWR);
+    setsockopt(from, SOL_SOCKET, SO_PASSCRED, &tells, sizeof tells);
     while (receive_packet(from, bytes, &fd) >= 0 || errno == ECONNRESET || errno == EINTR) { /* a reset is told once, before the packets */
         close_file(fd);
     }
+}
+
+void close_connection(int from)
+{
+    shutdown(from, SHUT_RDWR);
+    empty_socket(from);
     close(from);
 }

@@ -282,6 +282,7 @@ static int serve(int listener, int signals)
 static int open_signals(void)
 {
     sigset_t set;
+    signal(SIGPIPE, SIG_IGN);
     sigemptyset(&set);
     sigaddset(&set, SIGTERM);
     sigaddset(&set, SIGINT);

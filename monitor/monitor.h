@@ -97,6 +97,7 @@ int is_sealed_memory(int fd);
 /* Closes a client's file without waiting for it. */
 void close_file(int fd);
 /* Closes a connection, and every file that was still on its way. */
+void empty_socket(int from);
 void close_connection(int from);
 
 /* ---- requests.c: who may do what */

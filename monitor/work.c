@@ -4,6 +4,8 @@
 #include "monitor.h"
 
 #include <sys/socket.h>
+#include <sys/un.h>
+#include <unistd.h>
 
 /* ---- events */
 
@@ -44,15 +46,23 @@ void events_forget(struct monitor *monitor, uint32_t cqn)
     events->armed = 0;
 }
 
-static int is_packet_socket(int fd)
+static int option_of(int fd, int name)
 {
-    int domain = 0, type = 0;
-    socklen_t size = sizeof domain;
-    if (getsockopt(fd, SOL_SOCKET, SO_DOMAIN, &domain, &size) != 0) {
-        return 0;
-    }
-    size = sizeof type;
-    return getsockopt(fd, SOL_SOCKET, SO_TYPE, &type, &size) == 0 && domain == AF_UNIX && type == SOCK_SEQPACKET;
+    int value = -1;
+    socklen_t size = sizeof value;
+    return getsockopt(fd, SOL_SOCKET, name, &value, &size) == 0 ? value : -1;
+}
+
+/* A connected socket of packets whose other end is not the monitor's: an end of one of its own connections would keep that open for a client
+ * that has gone. */
+static int is_channel(int fd)
+{
+    struct ucred peer = {0, 0, 0};
+    struct sockaddr_un name;
+    socklen_t size = sizeof peer, named = sizeof name;
+    return option_of(fd, SO_DOMAIN) == AF_UNIX && option_of(fd, SO_TYPE) == SOCK_SEQPACKET && option_of(fd, SO_ACCEPTCONN) == 0 &&
+           getpeername(fd, (struct sockaddr *)&name, &named) == 0 && getsockopt(fd, SOL_SOCKET, SO_PEERCRED, &peer, &size) == 0 &&
+           peer.pid != getpid();
 }
 
 /* Takes the socket if it answers LESUNGKAP_DONE. */
@@ -61,9 +71,12 @@ uint32_t events_channel(struct monitor *monitor, unsigned client, uint32_t cqn, 
     if (!owns(monitor, client, CQ, cqn)) {
         return LESUNGKAP_NOT_LIVE;
     }
-    if (fd == NO_FD || !is_packet_socket(fd)) {
+    if (fd == NO_FD || !is_channel(fd)) {
         return LESUNGKAP_BAD_FIELD;
     }
+    /* nothing comes in by it, files least of all */
+    shutdown(fd, SHUT_RD);
+    empty_socket(fd);
     events_forget(monitor, cqn);
     monitor->events[cqn].channel = fd;
     return LESUNGKAP_DONE;
