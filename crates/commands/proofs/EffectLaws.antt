@@ -187,7 +187,10 @@ module _ (l : List ℕ) (ok : Accepted l) where
         let s = space in
         (omega arith, (omega arith, (omega arith, (omega arith, (omega arith, (omega arith, (omega arith, tt)))))))
 
-    limits : regionOk (rowAt memoryT l 0) row ≡ true
+    abbrev rows : RegionRows
+    rows = record { flag = 1; row = row; pages = regionAt l n .pages }
+
+    limits : regionOk (rowAt memoryT l 0) rows ≡ true
     limits =
         rw (not-false (accessOk (g .access)) (tests .0), le-leb 1 v (variant .0), le-leb 1 (g .length) size)
         (rw (le-leb (g .start + g .length) (rowAt memoryT l 0) inside, le-leb (g .virt + g .length) mostAddress space))
@@ -198,11 +201,11 @@ module _ (l : List ℕ) (ok : Accepted l) where
     mr-only : RegionsOnly l (putRow mrFlagT m n 1) n
     mr-only = only-then (store.mr-row-only l n below row) (store.mr-flag-only m n below 1)
 
-    mr-after : regionAt (putRow mrFlagT m n 1) n ≡ record { flag = 1; row = row }
+    mr-after : regionAt (putRow mrFlagT m n 1) n ≡ rows
     unfolding mrFlagT mrT flagCodec Fit
     mr-after =
         store.mr-flag-at m n below 1 (putRow-length mrT l n row ∙ ok .sized) (omega arith, tt)
-        ∙ ap (λ (r : RegionRows). record { flag = 1; row = r .row }) (store.mr-row-at l n below row (ok .sized) fits)
+        ∙ ap (λ (r : RegionRows). record { flag = 1; row = r .row; pages = r .pages }) (store.mr-row-at l n below row (ok .sized) fits)
 
     pub register : Kept l (Command.register g)
     unfolding commandBytes commandEffect mrOf
@@ -212,7 +215,7 @@ module _ (l : List ℕ) (ok : Accepted l) where
           still =
               region-accepted ok mr-only
               (rw mr-after
-              (registering (card l .pd) (rowAt memoryT l 0) (record { flag = 1; row = row })
+              (registering (card l .pd) (rowAt memoryT l 0) rows
               (record { live = refl; domain = domain; limits = limits })));
         }
 

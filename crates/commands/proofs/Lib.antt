@@ -3,3 +3,5 @@ pub mod PairCaseLaws
 pub mod EffectLaws
 pub mod PairEffectLaws
 pub mod CallLaws
+pub mod PagesLaws
+pub mod PagesEffectLaws

@@ -22,6 +22,7 @@ use tables::Region;
 use tables::RegisterRead;
 use tables::Registration;
 use tables::limits::CQ_COUNT;
+use tables::limits::FLAT;
 use tables::limits::MOST_ADDRESS;
 use tables::limits::MOST_PLACES;
 use tables::limits::MR_COUNT;
@@ -166,6 +167,7 @@ fn put_region(state: &mut [u8], n: usize, g: Registration) -> u8
         access: g.access as u8,
         variant: variant,
         pd: g.pd as u8,
+        kind: FLAT,
         start: g.start,
         length: g.length,
         virt: g.virt,

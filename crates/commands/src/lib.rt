@@ -2,6 +2,7 @@
 pub mod control;
 mod control_qp;
 mod destroy;
+mod pages;
 mod query;
 
 use tables::Ack;

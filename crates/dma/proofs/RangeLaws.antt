@@ -28,7 +28,7 @@ abbrev pub byte : (a k : ℕ) → Byte
 byte a k = record { address = a; key = k }
 
 module _ (p : Byte → Bool) (k : ℕ) where
-  range-all : (n a : ℕ) → ((i : ℕ) → i < n → p (byte (a + i) k) ≡ true) → all p (range a k n) ≡ true
+  pub range-all : (n a : ℕ) → ((i : ℕ) → i < n → p (byte (a + i) k) ≡ true) → all p (range a k n) ≡ true
   unfolding all range
   range-all zero a h = refl
   range-all (suc n) a h =

@@ -62,7 +62,7 @@ module _ (c : Card) (l : Log) (a : Agree c l) where
       let i : freeMrn c < mrCount = leb-false mrCount (freeMrn c) (p .1 .1 .1 .1 .1 .0) in
       record {
         keys =
-            Keys.registers (c .memory) (c .mr) (standing l) (dropped l) (handed l) (Distinct l) (a .keys) (freeMrn c) g (slot-free c i .0) (slot-free c i .1)
+            Keys.registers (c .memory) (c .mr) (standing l) (dropped l) (handed l) (Distinct l) (a .keys) (freeMrn c) g [] (slot-free c i .0) (slot-free c i .1)
             (Keys.flat-inside (c .memory) g (ltb-false (c .memory) (g .start + g .length) (p .1 .1 .1 .0))
             (ltb-false mostAddress (g .virt + g .length) (p .1 .1 .1 .1 .0)));
         pairs = a .pairs;

@@ -59,7 +59,7 @@ entry k s b = record { call = k; status = s; ack = ackOf k b }
 
 -- of a key
 pub data KeyNote : Type 0 where
-  registered : (mrn lkey rkey : ℕ) → Registration → KeyNote
+  registered : (mrn lkey rkey : ℕ) → Registration → (pages : List ℕ) → KeyNote
   deregistered : (mrn : ℕ) → KeyNote
 
 -- of a queue pair
@@ -89,7 +89,7 @@ noteCommand (Command.createCq n) a = Note.other
 noteCommand (Command.destroyCq n) a = Note.other
 noteCommand Command.createPd a = Note.other
 noteCommand (Command.destroyPd n) a = Note.other
-noteCommand (Command.register g) a = Note.ofKey (KeyNote.registered (getD a 0 0) (getD a 1 0) (getD a 2 0) g)
+noteCommand (Command.register g) a = Note.ofKey (KeyNote.registered (getD a 0 0) (getD a 1 0) (getD a 2 0) g [])
 noteCommand (Command.deregister n) a = Note.ofKey (KeyNote.deregistered n)
 noteCommand (Command.createQp r) a = Note.ofPair (getD a 0 0) (PairNote.created r)
 noteCommand (Command.modifyQp r) a = Note.ofPair (r .qpn) (PairNote.changed r)

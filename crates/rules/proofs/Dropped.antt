@@ -179,7 +179,7 @@ module _ (c : Card) (k : ℕ) where
   unfolding commandEffect lookup
   spent-registers g s =
       let i : ℕ = freeMrn c in
-      let new : Mr = record { live = true; variant = newVariant c; reg = g } in
+      let new : Mr = record { live = true; variant = newVariant c; reg = g; pages = [] } in
       let both =
       split i (λ j. k / 256 ≡ j → (k % 256 ≤ upd (c .mr) i new j .variant) × (found (upd (c .mr) i new j) j k ≡ none))
       (λ e. (let h = at-slot s i e .0 in rw (same i) (omega arith, rw (ne-eqb (keyOf i (newVariant c)) k (λ p. omega arith)))))
@@ -232,7 +232,7 @@ stays-registers c n g b =
     taken = c .mr (freeMrn c)
 
     new : Mr
-    new = record { live = true; variant = newVariant c; reg = g }
+    new = record { live = true; variant = newVariant c; reg = g; pages = [] }
 
 stays-deregisters : (c : Card) (n i : ℕ) → not (c .mr i .live) ≡ false → retired (c .mr n) ≡ true →
     retired (commandEffect c (Command.deregister i) .mr n) ≡ true

@@ -35,7 +35,7 @@ abbrev pub emptyQueue : ℕ → QueueHead
 emptyQueue places = record { places = places; first = 0; count = 0 }
 
 abbrev pub regionRow : Registration → ℕ → Region
-regionRow g v = record { access = g .access; variant = v; pd = g .pd; start = g .start; length = g .length; virt = g .virt }
+regionRow g v = record { access = g .access; variant = v; pd = g .pd; kind = 0; start = g .start; length = g .length; virt = g .virt }
 
 -- a new queue pair, in state 0, with no destination and no right
 abbrev pub newPair : CreateQp → QueuePair
