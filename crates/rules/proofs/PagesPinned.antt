@@ -1,7 +1,7 @@
--- The tests of a page list, computed: what is accepted, and what is refused with which answer. Assumes nothing.
+-- Page lists, computed: what is accepted, what is refused with which answer, and which byte an address means. Assumes nothing.
 use mathlib.Core.Path.{_≡_, refl}
 use mathlib.Core.Bool.{true}
-use mathlib.Core.List.{List, [], _∷_}
+use mathlib.Core.List.{List, [], _∷_, map}
 use mathlib.Core.Option.{Option, none, some}
 use Prim.Native.Nat.{ℕ, _+_, _-_, _^_}
 use Rattle.wire.specs.Checks.{refusal}
@@ -12,6 +12,7 @@ use Rattle.tables.specs.Card.{Card, fresh, withPd}
 use Rattle.tables.specs.Commands.{registerCodec}
 use Rattle.tables.specs.State.{pagesNeeded}
 use Rattle.rules.specs.Pages.{pagesChecks, pagedChecks}
+use Rattle.rules.specs.Touch.{byteIn, byteOf}
 
 -- a card with a memory of so many bytes and domain 0
 abbrev sized : ℕ → Card
@@ -52,3 +53,11 @@ pub records : refusal (pagesChecks (6 ∷ []) ack) ∷ refusal (pagesChecks (5 �
     ≡ some 1 ∷ some 13 ∷ some 13 ∷ some 1 ∷ []
 unfolding pagesChecks registerCodec leAt
 records = refl
+
+-- a region over three pages, the third of them the first again, that starts 2 bytes before the end of its first: the bytes at both borders, and
+-- one byte that two addresses mean
+pub places : map (byteOf (4096 ∷ 0 ∷ 4096 ∷ []) (record { pd = 0; access = 7; start = 4094; length = 8194; virt = 4096 }))
+    (4096 ∷ 4097 ∷ 4098 ∷ 8193 ∷ 8194 ∷ 12288 ∷ [])
+    ≡ 8190 ∷ 8191 ∷ 0 ∷ 4095 ∷ 4096 ∷ 8190 ∷ []
+unfolding byteOf byteIn
+places = refl

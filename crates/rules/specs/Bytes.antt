@@ -20,8 +20,9 @@ use Rattle.tables.specs.declared.ReceiveRecord.{ReceiveRecord}
 use Rattle.tables.specs.declared.Region.{Region}
 use Rattle.tables.specs.declared.Registration.{Registration}
 use Rattle.tables.specs.declared.WaitingHead.{WaitingHead}
-use Rattle.rules.specs.Call.{Call}
+use Rattle.rules.specs.Call.{Call, registrationIn}
 use Rattle.rules.specs.Control.{newVariant, rightsAfter}
+use Rattle.rules.specs.Pages.{pagedBytes}
 use Rattle.rules.specs.Queues.{flushedPut, flushesAtOnce}
 use Rattle.rules.specs.Send.{Put, peerOf, oldest, sendStatus, sendPuts, consumes, fails}
 use Rattle.rules.specs.Touch.{Request, requestOf}
@@ -124,6 +125,7 @@ flushBytes l q = takeBytes (flushedBytes l q (oldest (card l .qp q .waiting) .wr
 unfoldable pub effectBytes : List ℕ → Call → List ℕ
 effectBytes l (Call.reset n) = resetBytes n
 effectBytes l (Call.control k a) = maybe l (commandBytes l) (commandOf k)
+effectBytes l (Call.pages k ps a) = pagedBytes l (registrationIn k) ps
 effectBytes l (Call.send q x m) = sendBytes l q (requestOf x)
 effectBytes l (Call.receive q x) = receiveBytes l q (decode receiveCodec x 0)
 effectBytes l (Call.flush q) = flushBytes l q
