@@ -2,6 +2,7 @@
 pub mod control;
 mod control_qp;
 mod destroy;
+pub mod pages;
 mod query;
 
 use tables::Ack;

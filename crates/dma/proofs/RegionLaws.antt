@@ -3,33 +3,35 @@ use mathlib.Core.Path.{_≡_, refl, sym, ap, _∙_}
 use mathlib.Core.Bool.{Bool, true, false, cond, _&&_, false≢true}
 use mathlib.Core.List.{List, [], _∷_, map}
 use mathlib.Core.Option.{Option, none, some}
-use Prim.Native.Nat.{ℕ, _+_, _-_, _*_, _/_, _%_, _≤_, _<_}
-use native.Mathlib.Decide.{ℕ-discrete}
-use native.Mathlib.Nat.{add-zero}
+use Prim.Native.Nat.{ℕ, _+_, _*_, _/_, _%_, _≤_, _<_}
 use native.Mathlib.Omega.{arith}
 use lib.Dec.{eqb}
-use lib.ListN.{length}
+use lib.ListN.{length, getD, take, length-map, List·getD-map}
+use lib.Seq.{length-take-le, getD-take}
 use borrow.Author.Tests.{eq-eqb, ne-eqb, eqb-true}
 use Rattle.wire.specs.Table.{rowAt}
-use Rattle.tables.specs.Card.{Card, Mr}
-use Rattle.tables.specs.State.{card, regionAt, registrationOf}
-use Rattle.tables.specs.Layout.{memoryT, mrFlagT, mrT}
-use Rattle.tables.specs.Limits.{mrCount, mostMemory, mostAddress}
-use Rattle.tables.proofs.ObjectLaws.{mr-live, mr-below, mr-out, mr-row, mr-variant}
+use Rattle.tables.specs.Card.{Mr}
+use Rattle.wire.proofs.RowLaws.{length-rows}
+use Rattle.tables.specs.State.{card, regionAt, registrationOf, pagesAt, pagesNeeded, pagesOf}
+use Rattle.tables.specs.Layout.{memoryT, mrFlagT, mrT, pageT}
+use Rattle.tables.specs.Limits.{mrCount, mostAddress, pageSize, mostPages}
+use Rattle.tables.proofs.ObjectLaws.{mr-live, mr-below, mr-out, mr-row, mr-variant, mr-pages, page-at}
 use Rattle.tables.specs.declared.Region.{Region}
 use Rattle.tables.specs.declared.Registration.{Registration}
-use Rattle.tables.specs.declared.Sge.{Sge}
 use Rattle.validate.specs.Accept.{accepts, mrOk}
-use Rattle.validate.proofs.AcceptedLaws.{accepted, memory-most, registered, ranged}
+use Rattle.validate.proofs.AcceptedLaws.{accepted, registered, Ranged, Paged, ranged}
+use Rattle.validate.proofs.TestLaws.{need-most}
 use Rattle.rules.specs.Lists.{maybe}
-use Rattle.rules.specs.Permit.{lookup, place, keyOf}
-use Rattle.rules.specs.Touch.{Byte, range, sgeBytes, byteOf}
-use Rattle.rules.proofs.Runs.{run, place-run}
+use Rattle.rules.specs.Permit.{lookup, keyOf}
+use Rattle.rules.specs.Touch.{Byte, byteIn}
 use Rattle.dma.specs.Grants.{regionOf, within}
-use Rattle.dma.specs.Moves.{Ready, mapped, mappedAll, places, placeOf}
+use Rattle.dma.specs.Moves.{mapped}
 use Rattle.dma.specs.declared.permit.Found.the-variants.{Live, Nothing}
-use Rattle.dma.proofs.RangeLaws.{byte, range-at, Within, within-facts}
-use Rattle.dma.proofs.SgeLaws.{one-bytes}
+use Rattle.dma.proofs.RangeLaws.{Within, within-facts}
+
+-- a region's row without its kind
+abbrev plain : Region → Region
+plain r = record { access = r .access; variant = r .variant; pd = r .pd; kind = 0; start = r .start; length = r .length; virt = r .virt }
 
 -- ---- how the look-up of a key ends
 
@@ -52,9 +54,10 @@ module _ (l : List ℕ) (key : ℕ) where
   pub region-other : n < mrCount → rowAt mrFlagT l n ≡ 1 → (rowAt mrT l n .variant ≡ key % 256 → ⊥) → regionOf (card l .mr) key ≡ Nothing
   unfolding lookup
   region-other h e f =
-      nothing (rw (mr-live l n h, mr-variant l n h, eq-eqb (rowAt mrFlagT l n) 1 e, ne-eqb (256 * n + rowAt mrT l n .variant) key (λ q. f (omega arith))))
+      nothing
+      (rw (mr-live l n h, mr-variant l n h, eq-eqb (rowAt mrFlagT l n) 1 e, ne-eqb (256 * n + rowAt mrT l n .variant) key (λ q. f (omega arith))))
 
-  pub region-live : n < mrCount → rowAt mrFlagT l n ≡ 1 → rowAt mrT l n .variant ≡ key % 256 → regionOf (card l .mr) key ≡ Live (rowAt mrT l n)
+  pub region-live : n < mrCount → rowAt mrFlagT l n ≡ 1 → rowAt mrT l n .variant ≡ key % 256 → regionOf (card l .mr) key ≡ Live (plain (rowAt mrT l n))
   unfolding regionOf lookup
   region-live h e f =
       rw (
@@ -87,13 +90,14 @@ passing : (o : Option Registration) (f : Registration → Bool) → maybe false 
 passing none f e = absurd (false≢true e)
 passing (some g) f e = record { one = g; is = refl; passes = e }
 
--- its region g: where it is found, and where it lies
+-- its region: where it is found, and what its rows say
 pub record Placed (l : List ℕ) (b : Byte) : Type 0 where
   pub region : Registration
   pub found : lookup (card l .mr) (b .key) ≡ some region
   pub slot : b .key / 256 < mrCount
   pub row : region ≡ registrationOf (rowAt mrT l (b .key / 256))
-  pub inside : region .start + region .length ≤ rowAt memoryT l 0
+  pub pages : card l .mr (b .key / 256) .pages ≡ pagesOf (regionAt l (b .key / 256))
+  pub ranged : Ranged (rowAt memoryT l 0) (regionAt l (b .key / 256))
   pub word : region .virt + region .length ≤ mostAddress
   pub covers : Within region (b .address)
 
@@ -110,93 +114,79 @@ module _ (l : List ℕ) (ok : accepts l ≡ true) where
       let h : n < mrCount = mr-below l n (s .0) in
       let f : rowAt mrFlagT l n ≡ 1 = row-live n (s .0) in
       let q : p .one ≡ registrationOf (rowAt mrT l n) = sym (s .1) ∙ mr-row l n h f in
-      let r = ranged (rowAt memoryT l 0) (rowAt mrT l n) (registered (card l .pd) (rowAt memoryT l 0) (regionAt l n) (accepted l ok .mrs n h) (λ z. omega arith) .limits) in
+      let m : ℕ = rowAt memoryT l 0 in
+      let r = ranged m (regionAt l n) (registered (card l .pd) m (regionAt l n) (accepted l ok .mrs n h) (λ z. omega arith) .limits) in
       record {
         region = p .one;
         found = p .is;
         slot = h;
         row = q;
-        inside = rw q (r .inside);
+        pages = mr-pages l n h f;
+        ranged = r;
         word = rw q (r .space);
         covers = within-facts (p .one) (b .address) (p .passes);
       }
 
--- ---- where an entry begins, from its region's row r
+-- ---- the byte at an offset into the pages of a region
 
-pub record Begins (l : List ℕ) (s : Sge) (r : Region) : Type 0 where
-  pub low : r .virt ≤ s .address
-  pub small : r .start + (s .address - r .virt) < mostMemory
-  pub is : r .start + (s .address - r .virt) ≡ placeOf (card l) s
+-- a list of pages that has as many places as it needs
+byte-at : (ps : List ℕ) (o : ℕ) → 0 < length ps → byteIn ps o ≡ getD ps (o / pageSize) 0 + o % pageSize
+unfolding byteIn
+byte-at [] o h = absurd (omega arith)
+byte-at (p ∷ ps) o h = refl
 
-module _ (l : List ℕ) (ok : accepts l ≡ true) (s : Sge) (h : mappedAll (card l) (sgeBytes (s ∷ [])) ≡ true) where
-  abbrev each : mappedAll (card l) (range (s .address) (s .key) (s .length)) ≡ true
-  each = rw (one-bytes s) at h
+module _ (l : List ℕ) (n : ℕ) (memory : ℕ) (r : Ranged memory (regionAt l n)) (over : rowAt mrT l n .kind ≡ 0 → ⊥) where
+  abbrev row : Region
+  row = rowAt mrT l n
 
-  pub first : (s .length ≡ 0 → ⊥) → Placed l (byte (s .address) (s .key))
-  first f =
-      let e : mapped (card l) (byte (s .address + 0) (s .key)) ≡ true = range-at (mapped (card l)) (s .key) (s .length) (s .address) each 0 (omega arith) in
-      placed l ok (byte (s .address) (s .key)) (rw add-zero at e)
+  abbrev need : ℕ
+  need = pagesNeeded (row .start) (row .length)
 
-  place-is : (f : s .length ≡ 0 → ⊥) → placeOf (card l) s ≡ byteOf (first f .region) (s .address)
-  unfolding placeOf place
-  place-is f = rw (ne-eqb (s .length) 0 f, first f .found)
+  abbrev numbers : List ℕ
+  numbers = pagesAt l n
 
-  pub begins : (r : Region) → (s .length ≡ 0 → ⊥) → r ≡ rowAt mrT l (s .key / 256) → Begins l s r
-  unfolding byteOf
-  begins r f e =
-      let p = first f in
-      let g : Registration = p .region in
-      let q : g ≡ registrationOf r = p .row ∙ ap registrationOf (sym e) in
-      let low : g .virt ≤ s .address = p .covers .low in
-      let high : s .address < g .virt + g .length = p .covers .high in
-      let in-memory : g .start + g .length ≤ rowAt memoryT l 0 = p .inside in
-      let most = memory-most l (accepted l ok) in
-      let small : g .start + (s .address - g .virt) < mostMemory = omega arith in
-      record { low = rw q at low; small = rw q at small; is = ap (λ (x : Registration). x .start + (s .address - x .virt)) (sym q) ∙ sym (place-is f) }
+  paged : Paged memory (regionAt l n)
+  unfolding regionAt
+  paged = r .paged over
 
-pub empty-place : (c : Card) (s : Sge) → s .length ≡ 0 → placeOf c s ≡ 0
-unfolding placeOf
-empty-place c s e = rw (eq-eqb (s .length) 0 e)
+  pub need-small : need ≤ mostPages
+  unfolding regionAt
+  need-small = need-most (row .start) (row .length) (paged .most)
 
--- ---- an entry lies in a run of memory
+  full : length numbers ≡ mostPages
+  unfolding pagesAt
+  full = length-rows mostPages (λ k. rowAt pageT l (mostPages * n + k))
 
-pub record Lies (c : Card) (m : ℕ) (s : Sge) : Type 0 where
-  pub at : places c (s ∷ []) ≡ run (placeOf c s) (s .length)
-  pub ends : placeOf c s + s .length ≤ m
+  listed : pagesOf (regionAt l n) ≡ map (λ p. pageSize * p) (take need numbers)
+  unfolding regionAt
+  listed = rw (ne-eqb (row .kind) 0 over)
 
-module _ (l m : List ℕ) (r : Ready l m) (s : Sge) (h : mappedAll (card l) (sgeBytes (s ∷ [])) ≡ true) where
-  no-bytes : s .length ≡ 0 → Lies (card l) (length m) s
-  unfolding range run
-  no-bytes e =
-      let z = empty-place (card l) s e in
-      record {
-        at =
-            ap (map (place (card l))) (one-bytes s) ∙ ap (λ (n : ℕ). map (place (card l)) (range (s .address) (s .key) n)) e
-            ∙ sym (ap (run (placeOf (card l) s)) e);
-        ends = omega arith;
-      }
+  cut-length : length (take need numbers) ≡ need
+  cut-length = length-take-le need numbers (let f = full in let s = need-small in omega arith)
 
-  some-bytes : (s .length ≡ 0 → ⊥) → Lies (card l) (length m) s
-  unfolding byteOf
-  some-bytes f =
-      let p = first l (r .accepted) s h f in
-      let g : Registration = p .region in
-      let last = range-at (mapped (card l)) (s .key) (s .length) (s .address) (rw (one-bytes s) at h) (s .length - 1) (omega arith) in
-      let q = placed l (r .accepted) (byte (s .address + (s .length - 1)) (s .key)) last in
-      let same : q .region ≡ g = cc in
-      let low : g .virt ≤ s .address = p .covers .low in
-      let high : s .address + (s .length - 1) < g .virt + g .length = rw same at (q .covers .high) in
-      let in-memory : g .start + g .length ≤ rowAt memoryT l 0 = p .inside in
-      let is : placeOf (card l) s ≡ g .start + (s .address - g .virt) = place-is l (r .accepted) s h f in
-      record {
-        at =
-            ap (map (place (card l))) (one-bytes s) ∙ place-run (card l) (s .key) g (p .found) (s .address) (s .length) low
-            ∙ ap (λ (b : ℕ). run b (s .length)) (sym is);
-        ends = omega (arith, r .whole);
-      }
+  listed-length : length (pagesOf (regionAt l n)) ≡ need
+  listed-length = ap length listed ∙ length-map (take need numbers) (λ p. pageSize * p) ∙ cut-length
 
-  pub lies : Lies (card l) (length m) s
-  lies = elim (ℕ-discrete (s .length) 0) [
-    | yes e ↦ no-bytes e
-    | no f ↦ some-bytes f
-  ]
+  page-is : (k : ℕ) → k < need → getD (pagesOf (regionAt l n)) k 0 ≡ pageSize * rowAt pageT l (mostPages * n + k)
+  page-is k b =
+      let s = need-small in
+      ap (λ (ps : List ℕ). getD ps k 0) listed ∙ List·getD-map (λ p. pageSize * p) (take need numbers) k 0
+      ∙ ap (λ (x : ℕ). pageSize * x) (getD-take need numbers k 0 b ∙ page-at l n k (omega arith))
+
+  page-small : (k : ℕ) → k < need → rowAt pageT l (mostPages * n + k) < memory / pageSize
+  unfolding regionAt
+  page-small k b = let s = need-small in rw (← page-at l n k (omega arith)) (paged .numbers k b)
+
+  pub in-need : (o : ℕ) → o < row .start + row .length → o / pageSize < need
+  unfolding pagesNeeded
+  in-need o b = omega arith
+
+  pub paged-byte : (o : ℕ) → o < row .start + row .length →
+      byteIn (pagesOf (regionAt l n)) o ≡ pageSize * rowAt pageT l (mostPages * n + o / pageSize) + o % pageSize
+  paged-byte o b =
+      let d = in-need o b in
+      byte-at (pagesOf (regionAt l n)) o (rw listed-length (omega arith)) ∙ ap (λ (x : ℕ). x + o % pageSize) (page-is (o / pageSize) d)
+
+  pub paged-room : (o k : ℕ) → o < row .start + row .length → o % pageSize + k ≤ pageSize →
+      pageSize * rowAt pageT l (mostPages * n + o / pageSize) + o % pageSize + k ≤ memory
+  paged-room o k b h = let s = page-small (o / pageSize) (in-need o b) in omega arith

@@ -3,7 +3,7 @@
 use mathlib.Core.Path.{_≡_}
 use mathlib.Core.Bool.{Bool, true, false, cond}
 use mathlib.Core.List.{List, map}
-use Prim.Native.Nat.{ℕ, _≤_}
+use Prim.Native.Nat.{ℕ, _+_, _-_, _^_, _≤_, _<_}
 use lib.Dec.{eqb}
 use lib.ListN.{length, getD}
 use Rattle.wire.specs.Scan.{all}
@@ -38,6 +38,25 @@ places c sges = map (place c) (sgeBytes sges)
 -- where an entry begins; 0 for an empty one, which "looks at no key"
 unfoldable pub placeOf : Card → Sge → ℕ
 placeOf c s = cond (eqb (s .length) 0) 0 (place c (record { address = s .address; key = s .key }))
+
+-- the first n bytes of an entry, and the others
+abbrev pub front : Sge → (n : ℕ) → Sge
+front s n = record { address = s .address; length = n; key = s .key }
+
+abbrev pub back : Sge → (n : ℕ) → Sge
+back s n = record { address = s .address + n; length = s .length - n; key = s .key }
+
+-- the bytes of an entry stand one after the other in a memory of that length, from where it begins on
+pub record Lies (c : Card) (memory : ℕ) (s : Sge) : Type 0 where
+  pub at : (i : ℕ) → i < s .length → place c (record { address = s .address + i; key = s .key }) ≡ placeOf c s + i
+  pub ends : placeOf c s + s .length ≤ memory
+
+-- so do its first n bytes, and so do the others: an entry crosses at most one page's end
+pub record Splits (c : Card) (memory : ℕ) (s : Sge) (n : ℕ) : Type 0 where
+  pub most : n ≤ s .length
+  pub word : n < s .length → s .address + n < 2 ^ 64
+  pub first : Lies c memory (front s n)
+  pub others : Lies c memory (back s n)
 
 -- the bytes at the places
 abbrev pub readBytes : List ℕ → (places : List ℕ) → List ℕ

@@ -13,7 +13,7 @@ ghost use Rattle.tables.specs.Layout.{stateSize};
 ghost use Rattle.rules.specs.Touch.{range, sgeBytes, sgeTotal, cut};
 ghost use Rattle.dma.specs.Grants.{regionOf, admits, allowsAll, spans};
 
-// The live region that has exactly a key, if there is one.
+// The live region that has exactly a key, if there is one; who may touch it does not depend on its kind, which is left out.
 enum Found {
     Live(Region),
     Nothing,
@@ -34,7 +34,15 @@ fn region_of(state: &[u8], key: u32) -> Found
     if (r.variant as u32) != key % 256 {
         return Found::Nothing;
     }
-    Found::Live(r)
+    Found::Live(Region {
+        access: r.access,
+        variant: r.variant,
+        pd: r.pd,
+        kind: 0,
+        start: r.start,
+        length: r.length,
+        virt: r.virt,
+    })
 }
 
 // Whether a region has the party's domain, its access the use's right, and so the party's flags where the use is a remote one.

@@ -94,7 +94,7 @@ module _ (l : Log) (w : Work) (s : ℕ) (m m′ : List ℕ) (k : Correct l w s m
   changed p d (no z) = absurd (d (kept z p))
 
   spared : (p : ℕ) →
-      ((k a : ℕ) (h : Standing) → standing l k ≡ some h → writtenSide l w .party .domain ≡ some (h .reg .pd) → Means (h .reg) a p → ⊥) →
+      ((k a : ℕ) (h : Standing) → standing l k ≡ some h → writtenSide l w .party .domain ≡ some (h .reg .pd) → Means h a p → ⊥) →
       Dec (s ≡ 0) → getD m′ p 0 ≡ getD m p 0
   spared p f (yes z) =
       bytes .others z p

@@ -1,40 +1,60 @@
 -- The region table against the log: a key finds the same registration in both. Assumes nothing.
 use mathlib.Core.Path.{_≡_, refl, sym, ap, subst, _∙_}
 use mathlib.Core.Bool.{Bool, true, false, cond, _&&_, _||_, false≢true}
+use mathlib.Core.List.{List, [], _∷_}
 use mathlib.Core.Option.{Option, none, some, Option·some-ne-none}
-use Prim.Native.Nat.{ℕ, _+_, _/_, _%_, _^_, _≤_, _<_}
+use Prim.Native.Nat.{ℕ, _+_, _-_, _/_, _%_, _^_, _≤_, _<_}
 use native.Mathlib.Omega.{arith}
 use lib.Dec.{eqb, leb, ltb}
+use lib.ListN.{length, getD}
 use borrow.Author.Tests.{eq-eqb, ne-eqb, eqb-true, eqb-false, leb-true, ltb-true}
 use Rattle.wire.specs.Slots.{upd}
 use Rattle.wire.proofs.SlotLaws.{split, same}
 use Rattle.wire.proofs.ScanLaws.{and-left, and-right, or-true}
-use Rattle.tables.specs.Limits.{mostAddress}
+use Rattle.tables.specs.Limits.{mostAddress, pageSize}
 use Rattle.tables.specs.Card.{Mr, freeMr}
+use Rattle.tables.specs.State.{pagesNeeded}
 use Rattle.tables.specs.declared.Registration.{Registration}
 use Rattle.rules.specs.Lists.{names}
-use Rattle.rules.specs.Touch.{byteOf}
+use Rattle.rules.specs.Touch.{byteIn, byteOf}
 use Rattle.rules.specs.declared.Party as rules
+use Rattle.rules.specs.Pages.{entryOk, entriesOk}
 use Rattle.rules.specs.Permit.{keyOf, lookup, covers, placeIn, Use}
 use Rattle.validate.specs.Search.{lastVariant}
+use Rattle.rules.proofs.Ranges.{all-in}
 use Rattle.rules.proofs.Variants.{slot}
 use Rattle.judge.specs.Judge.{Standing, Party, Right, grants, unless, passesBy, placeBy, opens}
 use Rattle.judge.proofs.Rights.{needs-right, same-right, same-opens}
 
 -- every address of the region means a byte of a memory of length n, and is below 2^64
-abbrev pub Sits : (n : ℕ) → Registration → (a : ℕ) → Type 0
-Sits n g a = (byteOf g a < n) × (a < 2 ^ 64)
+abbrev pub Sits : (n : ℕ) → (pages : List ℕ) → Registration → (a : ℕ) → Type 0
+Sits n ps g a = (byteOf ps g a < n) × (a < 2 ^ 64)
 
-abbrev pub Inside : ℕ → Registration → Type 0
-Inside n g = (a : ℕ) → g .virt ≤ a → a < g .virt + g .length → Sits n g a
+abbrev pub Inside : ℕ → (pages : List ℕ) → Registration → Type 0
+Inside n ps g = (a : ℕ) → g .virt ≤ a → a < g .virt + g .length → Sits n ps g a
 
-pub flat-inside : (n : ℕ) (g : Registration) → g .start + g .length ≤ n → g .virt + g .length ≤ mostAddress → Inside n g
-unfolding byteOf
+pub flat-inside : (n : ℕ) (g : Registration) → g .start + g .length ≤ n → g .virt + g .length ≤ mostAddress → Inside n [] g
+unfolding byteOf byteIn
 flat-inside n g h b a v w = (omega arith, omega arith)
+
+-- a byte of listed pages, each whole inside the memory
+listed-inside : (n : ℕ) (ps : List ℕ) (o : ℕ) → entriesOk n ps ≡ true → o / pageSize < length ps → byteIn ps o < n
+unfolding byteIn
+listed-inside n [] o e h = absurd (omega arith)
+listed-inside n (p ∷ ps) o e h =
+    let q : ℕ = getD (p ∷ ps) (o / pageSize) 0 in
+    let w : q + pageSize ≤ n =
+    leb-true (q + pageSize) n (and-right (eqb (q % pageSize) 0) (leb (q + pageSize) n) (all-in (entryOk n) (p ∷ ps) (o / pageSize) 0 h e)) in
+    omega arith
+
+pub paged-inside : (n : ℕ) (g : Registration) (ps : List ℕ) → length ps ≡ pagesNeeded (g .start) (g .length) → entriesOk n ps ≡ true →
+    g .virt + g .length ≤ mostAddress → Inside n ps g
+unfolding byteOf pagesNeeded
+paged-inside n g ps e f b a v w = (listed-inside n ps (g .start + (a - g .virt)) f (omega arith), omega arith)
 
 -- the region of the slot i, with its number, where it has the key k
 abbrev pub heldAt : Mr → (i k : ℕ) → Option Standing
-heldAt s i k = cond (s .live && eqb (keyOf i (s .variant)) k) (some (record { mrn = i; reg = s .reg })) none
+heldAt s i k = cond (s .live && eqb (keyOf i (s .variant)) k) (some (record { mrn = i; reg = s .reg; pages = s .pages })) none
 
 -- the table mr agrees with what the log says of each key: its standing registration, whether it is dropped, and whether it was handed out;
 -- D says that no key was handed out twice
@@ -44,7 +64,7 @@ pub record Keys (n : ℕ) (mr : ℕ → Mr) (st : ℕ → Option Standing) (dr h
   pub given : (k : ℕ) → dr k ≡ true → hd k ≡ true
   pub spent : (k : ℕ) → hd k ≡ true → k % 256 ≤ mr (k / 256) .variant
   pub distinct : D
-  pub inside : (i : ℕ) → mr i .live ≡ true → Inside n (mr i .reg)
+  pub inside : (i : ℕ) → mr i .live ≡ true → Inside n (mr i .pages) (mr i .reg)
   pub small : (i : ℕ) → mr i .variant ≤ 255
 
 eqb-sym : (x y : ℕ) → eqb x y ≡ eqb y x
@@ -66,26 +86,26 @@ or-same : (b : Bool) → (b || b) ≡ b
 or-same true = refl
 or-same false = refl
 
-unless-same : (i : ℕ) (g : Registration) (b : Bool) → none ≡ unless i (cond b (some (record { mrn = i; reg = g })) none)
-unless-same i g true = rw same
-unless-same i g false = refl
+unless-same : (i : ℕ) (g : Registration) (ps : List ℕ) (b : Bool) → none ≡ unless i (cond b (some (record { mrn = i; reg = g; pages = ps })) none)
+unless-same i g ps true = rw same
+unless-same i g ps false = refl
 
-unless-other : (i j : ℕ) (g : Registration) → eqb i j ≡ false → (b : Bool) →
-    cond b (some (record { mrn = j; reg = g })) none ≡ unless i (cond b (some (record { mrn = j; reg = g })) none)
-unless-other i j g e true = rw e
-unless-other i j g e false = refl
+unless-other : (i j : ℕ) (g : Registration) (ps : List ℕ) → eqb i j ≡ false → (b : Bool) →
+    cond b (some (record { mrn = j; reg = g; pages = ps })) none ≡ unless i (cond b (some (record { mrn = j; reg = g; pages = ps })) none)
+unless-other i j g ps e true = rw e
+unless-other i j g ps e false = refl
 
 module _ (n : ℕ) (mr : ℕ → Mr) (st : ℕ → Option Standing) (dr hd : ℕ → Bool) (D : Type 0) (agree : Keys n mr st dr hd D) (i : ℕ) where
   in-slot : (j k : ℕ) → k / 256 ≡ j → heldAt (mr j) j k ≡ st k
   in-slot j k e = subst (λ x. heldAt (mr x) x k ≡ st k) e (agree .finds k)
 
   -- a free slot with a variant left takes a registration, under the next one
-  pub registers : (g : Registration) → mr i .live ≡ false → mr i .variant < lastVariant → Inside n g →
+  pub registers : (g : Registration) (ps : List ℕ) → mr i .live ≡ false → mr i .variant < lastVariant → Inside n ps g →
       let k₁ = keyOf i (mr i .variant + 1) in
-      Keys n (upd mr i (record { live = true; variant = mr i .variant + 1; reg = g }))
-      (λ k. cond (eqb k₁ k || eqb k₁ k) (some (record { mrn = i; reg = g })) (st k)) dr (λ k. eqb k₁ k || eqb k₁ k || hd k)
+      Keys n (upd mr i (record { live = true; variant = mr i .variant + 1; reg = g; pages = ps }))
+      (λ k. cond (eqb k₁ k || eqb k₁ k) (some (record { mrn = i; reg = g; pages = ps })) (st k)) dr (λ k. eqb k₁ k || eqb k₁ k || hd k)
       ((((hd k₁ ≡ false) × (hd k₁ ≡ false))) × D)
-  registers g free left fits =
+  registers g ps free left fits =
       record {
         finds = λ k. rw (or-same (eqb k₁ k)) (finds′ k);
         gone = λ k h. rw (or-same (eqb k₁ k)) (still-gone k h (eqb k₁ k) refl);
@@ -100,7 +120,7 @@ module _ (n : ℕ) (mr : ℕ → Mr) (st : ℕ → Option Standing) (dr hd : ℕ
       k₁ = keyOf i (mr i .variant + 1)
 
       new : Mr
-      new = record { live = true; variant = mr i .variant + 1; reg = g }
+      new = record { live = true; variant = mr i .variant + 1; reg = g; pages = ps }
 
       small′ : mr i .variant + 1 ≤ 255
       small′ = omega arith
@@ -111,7 +131,7 @@ module _ (n : ℕ) (mr : ℕ → Mr) (st : ℕ → Option Standing) (dr hd : ℕ
           let h : k₁ % 256 ≤ mr i .variant = rw (slot i (mr i .variant + 1) small′) at (agree .spent k₁ e) in absurd (omega arith)
       unheard false e = refl
 
-      still-gone : (k : ℕ) → dr k ≡ true → (b : Bool) → eqb k₁ k ≡ b → cond b (some (record { mrn = i; reg = g })) (st k) ≡ none
+      still-gone : (k : ℕ) → dr k ≡ true → (b : Bool) → eqb k₁ k ≡ b → cond b (some (record { mrn = i; reg = g; pages = ps })) (st k) ≡ none
       still-gone k h true e =
           let q : hd k₁ ≡ true = ap hd (eqb-true k₁ k e) ∙ agree .given k h in absurd (false≢true (sym (unheard (hd k₁) refl) ∙ q))
       still-gone k h false e = agree .gone k h
@@ -131,9 +151,9 @@ module _ (n : ℕ) (mr : ℕ → Mr) (st : ℕ → Option Standing) (dr hd : ℕ
           there true e h d = absurd (false≢true (sym (other-key i (mr i .variant + 1) k small′ d) ∙ e))
           there false e h d = h
 
-      finds′ : (k : ℕ) → heldAt (upd mr i new (k / 256)) (k / 256) k ≡ cond (eqb k₁ k) (some (record { mrn = i; reg = g })) (st k)
+      finds′ : (k : ℕ) → heldAt (upd mr i new (k / 256)) (k / 256) k ≡ cond (eqb k₁ k) (some (record { mrn = i; reg = g; pages = ps })) (st k)
       finds′ k =
-          split i (λ j. k / 256 ≡ j → heldAt (upd mr i new j) j k ≡ cond (eqb k₁ k) (some (record { mrn = i; reg = g })) (st k))
+          split i (λ j. k / 256 ≡ j → heldAt (upd mr i new j) j k ≡ cond (eqb k₁ k) (some (record { mrn = i; reg = g; pages = ps })) (st k))
           (λ e. rw (same i, sym (in-slot i k e) ∙ dead (mr i) i k free) refl)
           (λ j e p. rw (e, other-key i (mr i .variant + 1) k small′ (subst (λ x. eqb i x ≡ false) (sym p) e)) (in-slot j k p))
           (k / 256) refl
@@ -148,8 +168,8 @@ module _ (n : ℕ) (mr : ℕ → Mr) (st : ℕ → Option Standing) (dr hd : ℕ
             (λ p. rw (same i, ← p) (agree .spent k h)) (λ j d p. rw (d, ← p) (agree .spent k h)) (k / 256) refl;
         distinct = agree .distinct;
         finds = λ k. split i (λ j. k / 256 ≡ j → heldAt (upd mr i (freeMr (mr i .variant)) j) j k ≡ unless i (st k))
-            (λ e. rw (same i, ← in-slot i k e) (unless-same i (mr i .reg) (mr i .live && eqb (keyOf i (mr i .variant)) k)))
-            (λ j e p. rw (e, ← in-slot j k p) (unless-other i j (mr j .reg) e (mr j .live && eqb (keyOf j (mr j .variant)) k)))
+            (λ e. rw (same i, ← in-slot i k e) (unless-same i (mr i .reg) (mr i .pages) (mr i .live && eqb (keyOf i (mr i .variant)) k)))
+            (λ j e p. rw (e, ← in-slot j k p) (unless-other i j (mr j .reg) (mr j .pages) e (mr j .live && eqb (keyOf j (mr j .variant)) k)))
             (k / 256) refl;
         inside = split i _ (rw same (λ e. absurd (false≢true e))) (λ j e. rw e (agree .inside j));
         small = split i _ (rw same (agree .small i)) (λ j e. rw e (agree .small j));
@@ -157,7 +177,7 @@ module _ (n : ℕ) (mr : ℕ → Mr) (st : ℕ → Option Standing) (dr hd : ℕ
     where
       now-gone : (k : ℕ) (b : Bool) → eqb i (k / 256) ≡ b → (g : Bool) → (b && g || dr k) ≡ true → unless i (st k) ≡ none
       now-gone k true e g h =
-          rw (← in-slot i k (sym (eqb-true i (k / 256) e))) (sym (unless-same i (mr i .reg) (mr i .live && eqb (keyOf i (mr i .variant)) k)))
+          rw (← in-slot i k (sym (eqb-true i (k / 256) e))) (sym (unless-same i (mr i .reg) (mr i .pages) (mr i .live && eqb (keyOf i (mr i .variant)) k)))
       now-gone k false e g h = rw (agree .gone k h)
 
       was : (k : ℕ) (b g : Bool) → hd k ≡ g → (b && g || dr k) ≡ true → hd k ≡ true
@@ -176,19 +196,19 @@ module _ (n : ℕ) (mr : ℕ → Mr) (st : ℕ → Option Standing) (dr hd : ℕ
       s : Mr
       s = mr (k / 256)
 
-      go : (b : Bool) → passesBy (cond b (some (record { mrn = k / 256; reg = s .reg })) none)
+      go : (b : Bool) → passesBy (cond b (some (record { mrn = k / 256; reg = s .reg; pages = s .pages })) none)
           (record { domain = some (p .pd); rights = p .rights }) (needs-right u) a ≡ covers (cond b (some (s .reg)) none) p u a
       go true = rw (same-right u (s .reg .access), same-opens u (p .rights), eqb-sym (p .pd) (s .reg .pd))
       go false = refl
 
-  pub same-place : (k a : ℕ) → placeBy (st k) a ≡ placeIn (lookup mr k) a
+  pub same-place : (k a : ℕ) → placeBy (st k) a ≡ placeIn (lookup mr k) (mr (k / 256) .pages) a
   unfolding lookup
   same-place k a = rw (← agree .finds k) (go (mr (k / 256) .live && eqb (keyOf (k / 256) (mr (k / 256) .variant)) k))
     where
       s : Mr
       s = mr (k / 256)
 
-      go : (b : Bool) → placeBy (cond b (some (record { mrn = k / 256; reg = s .reg })) none) a ≡ placeIn (cond b (some (s .reg)) none) a
+      go : (b : Bool) → placeBy (cond b (some (record { mrn = k / 256; reg = s .reg; pages = s .pages })) none) a ≡ placeIn (cond b (some (s .reg)) none) (s .pages) a
       go true = refl
       go false = refl
 
@@ -197,7 +217,7 @@ module _ (n : ℕ) (mr : ℕ → Mr) (st : ℕ → Option Standing) (dr hd : ℕ
   finds-none k e = go (mr (k / 256) .live && eqb (keyOf (k / 256) (mr (k / 256) .variant)) k) (agree .finds k ∙ e)
     where
       held : Standing
-      held = record { mrn = k / 256; reg = mr (k / 256) .reg }
+      held = record { mrn = k / 256; reg = mr (k / 256) .reg; pages = mr (k / 256) .pages }
 
       go : (b : Bool) → cond b (some held) none ≡ none → cond b (some (mr (k / 256) .reg)) none ≡ none
       go true h = absurd (Option·some-ne-none held h)
@@ -205,7 +225,7 @@ module _ (n : ℕ) (mr : ℕ → Mr) (st : ℕ → Option Standing) (dr hd : ℕ
 
 -- ---- a byte that passes lies in the memory
 
-placed-inside : (n : ℕ) (h : Standing) (p : Party) (u : Right) (a : ℕ) → Inside n (h .reg) → passesBy (some h) p u a ≡ true →
+placed-inside : (n : ℕ) (h : Standing) (p : Party) (u : Right) (a : ℕ) → Inside n (h .pages) (h .reg) → passesBy (some h) p u a ≡ true →
     (placeBy (some h) a < n) × (a < 2 ^ 64)
 placed-inside n h p u a f e =
     let t : Bool = names (p .domain) (h .reg .pd) && grants (h .reg .access) u && opens (p .rights) u in
@@ -213,12 +233,12 @@ placed-inside n h p u a f e =
     let w : Bool = ltb a (h .reg .virt + h .reg .length) in
     f a (leb-true (h .reg .virt) a (and-right t v (and-left (t && v) w e))) (ltb-true a (h .reg .virt + h .reg .length) (and-right (t && v) w e))
 
-found-inside : (n : ℕ) (s : Mr) (i k : ℕ) (p : Party) (u : Right) (a : ℕ) → (s .live ≡ true → Inside n (s .reg)) →
+found-inside : (n : ℕ) (s : Mr) (i k : ℕ) (p : Party) (u : Right) (a : ℕ) → (s .live ≡ true → Inside n (s .pages) (s .reg)) →
     passesBy (heldAt s i k) p u a ≡ true → (placeBy (heldAt s i k) a < n) × (a < 2 ^ 64)
 found-inside n s i k p u a f = go (s .live && eqb (keyOf i (s .variant)) k) refl
   where
     held : Standing
-    held = record { mrn = i; reg = s .reg }
+    held = record { mrn = i; reg = s .reg; pages = s .pages }
 
     go : (b : Bool) → s .live && eqb (keyOf i (s .variant)) k ≡ b → passesBy (cond b (some held) none) p u a ≡ true →
         (placeBy (cond b (some held) none) a < n) × (a < 2 ^ 64)

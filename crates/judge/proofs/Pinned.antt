@@ -9,10 +9,10 @@ use Rattle.judge.specs.Log.{Note, KeyNote}
 use Rattle.judge.specs.Distinct.{handed, Distinct}
 use Rattle.judge.specs.Dropped.{dropped}
 
-module _ (g : Registration) where
+module _ (g : Registration) (pages : List ℕ) where
   -- slot 1
   abbrev gives : (lkey rkey : ℕ) → Note
-  gives l r = Note.ofKey (KeyNote.registered 1 l r g)
+  gives l r = Note.ofKey (KeyNote.registered 1 l r g pages)
 
   abbrev drops : (mrn : ℕ) → Note
   drops n = Note.ofKey (KeyNote.deregistered n)

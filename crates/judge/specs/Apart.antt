@@ -7,17 +7,16 @@ use mathlib.Core.List.{List}
 use mathlib.Core.Option.{some}
 use Prim.Native.Nat.{ℕ, _+_, _≤_, _<_}
 use lib.ListN.{getD}
-use Rattle.tables.specs.declared.Registration.{Registration}
 use Rattle.rules.specs.Touch.{Byte, total, byteOf}
 use Rattle.judge.specs.Log.{Log}
 use Rattle.judge.specs.Judge.{Standing, standing, Side, passes, placed, Work, readSide, writtenSide, Source}
 use Rattle.judge.specs.Demand3.{targetByte, sourceAt}
 
--- the address lies in the region g, and means the memory byte p
-pub record Means (g : Registration) (address p : ℕ) : Type 0 where
-  pub low : g .virt ≤ address
-  pub high : address < g .virt + g .length
-  pub place : byteOf g address ≡ p
+-- the address lies in the region h, of either kind, and means the memory byte p
+pub record Means (h : Standing) (address p : ℕ) : Type 0 where
+  pub low : h .reg .virt ≤ address
+  pub high : address < h .reg .virt + h .reg .length
+  pub place : byteOf (h .pages) (h .reg) address ≡ p
 
 -- the byte b passes for the side s, by a standing registration made in its domain, and means the memory byte p
 pub record Covered (l : Log) (s : Side) (b : Byte) (p : ℕ) : Type 0 where
@@ -25,7 +24,7 @@ pub record Covered (l : Log) (s : Side) (b : Byte) (p : ℕ) : Type 0 where
   pub reg : Standing
   pub stands : standing l (b .key) ≡ some reg
   pub same : s .party .domain ≡ some (reg .reg .pd)
-  pub means : Means (reg .reg) (b .address) p
+  pub means : Means reg (b .address) p
 
 -- why the memory byte p may be written for the request: it is message byte i's
 pub record Reason (l : Log) (w : Work) (p : ℕ) : Type 0 where
@@ -39,7 +38,7 @@ pub record Apart (l : Log) (w : Work) (s : ℕ) (m m′ : List ℕ) : Type 0 whe
   pub changed : (p : ℕ) → getD m′ p 0 ≢ getD m p 0 → Reason l w p
   -- a memory byte that no standing registration of the written side's domain has an address for keeps its value
   pub spared : (p : ℕ) →
-      ((k a : ℕ) (h : Standing) → standing l k ≡ some h → writtenSide l w .party .domain ≡ some (h .reg .pd) → Means (h .reg) a p → ⊥) →
+      ((k a : ℕ) (h : Standing) → standing l k ≡ some h → writtenSide l w .party .domain ≡ some (h .reg .pd) → Means h a p → ⊥) →
       getD m′ p 0 ≡ getD m p 0
   -- a message byte that is not given by the request comes out of a region of the read side's domain
   pub read : s ≡ 0 → (i : ℕ) → i < total (w .request) → (b : Byte) → sourceAt l w i ≡ Source.byte b →

@@ -8,7 +8,7 @@ use Rattle.judge.specs.Log.{Log, Note, KeyNote}
 
 -- a registration of the log handed the key out
 abbrev pub handedBy : KeyNote → (k : ℕ) → Bool → Bool
-handedBy (KeyNote.registered m lkey rkey g) k b = eqb lkey k || eqb rkey k || b
+handedBy (KeyNote.registered m lkey rkey g ps) k b = eqb lkey k || eqb rkey k || b
 handedBy (KeyNote.deregistered m) k b = b
 
 unfoldable pub handed : Log → (k : ℕ) → Bool
@@ -19,7 +19,7 @@ handed (Note.other ∷ l) k = handed l k
 
 -- the keys that a registration hands out are new to the log l before it, and before holds of that
 abbrev pub DistinctBy : KeyNote → (l : Log) → (before : Type 0) → Type 0
-DistinctBy (KeyNote.registered m lkey rkey g) l before = ((handed l lkey ≡ false) × (handed l rkey ≡ false)) × before
+DistinctBy (KeyNote.registered m lkey rkey g ps) l before = ((handed l lkey ≡ false) × (handed l rkey ≡ false)) × before
 DistinctBy (KeyNote.deregistered m) l before = before
 
 unfoldable pub Distinct : Log → Type 0

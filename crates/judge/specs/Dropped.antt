@@ -20,7 +20,7 @@ use Rattle.judge.specs.Demand3.{noByte, Seen, Claim, work, Ran, Linked}
 
 -- the key k was handed out, and then its slot, which is k / 256, was dropped
 abbrev pub droppedBy : KeyNote → (k : ℕ) → (given : Bool) → Bool → Bool
-droppedBy (KeyNote.registered m lkey rkey g) k given b = b
+droppedBy (KeyNote.registered m lkey rkey g ps) k given b = b
 droppedBy (KeyNote.deregistered m) k given b = eqb m (k / 256) && given || b
 
 unfoldable pub dropped : Log → (k : ℕ) → Bool

@@ -19,13 +19,14 @@ use Rattle.judge.specs.Log.{Log, Note, KeyNote, PairNote}
 pub record Standing : Type 0 where
   pub mrn : ℕ
   pub reg : Registration
+  pub pages : List ℕ
 
 abbrev pub unless : (mrn : ℕ) → Option Standing → Option Standing
 unless m none = none
 unless m (some h) = cond (eqb m (h .mrn)) none (some h)
 
 abbrev pub standingBy : KeyNote → (k : ℕ) → Option Standing → Option Standing
-standingBy (KeyNote.registered m lkey rkey g) k o = cond (eqb lkey k || eqb rkey k) (some (record { mrn = m; reg = g })) o
+standingBy (KeyNote.registered m lkey rkey g ps) k o = cond (eqb lkey k || eqb rkey k) (some (record { mrn = m; reg = g; pages = ps })) o
 standingBy (KeyNote.deregistered m) k o = unless m o
 
 -- the registration of the key k, if it stands
@@ -173,7 +174,7 @@ passes l p u b = passesBy (standing l (b .key)) p u (b .address)
 -- 0 stands for no byte: nothing is read or written there, since only bytes that pass are
 abbrev pub placeBy : Option Standing → (a : ℕ) → ℕ
 placeBy none a = 0
-placeBy (some h) a = byteOf (h .reg) a
+placeBy (some h) a = byteOf (h .pages) (h .reg) a
 
 -- "It is then memory byte start + (address − virt)."
 unfoldable pub placed : Log → Byte → ℕ

@@ -7,6 +7,7 @@ pub mod Answers
 pub mod Marks
 pub mod Dropped
 pub mod Pinned
+pub mod PagesPinned
 pub mod InError
 pub mod Flags
 pub mod Runs

@@ -20,7 +20,7 @@ use Rattle.tables.specs.Limits.{mrCount}
 use Rattle.validate.specs.Search.{lastVariant, vacant, freeMrn}
 use Rattle.validate.proofs.SearchLaws.{search-past, lowest-is}
 use Rattle.rules.specs.Lists.{All}
-use Rattle.rules.specs.Touch.{range, byteOf}
+use Rattle.rules.specs.Touch.{range, byteIn, byteOf}
 use Rattle.rules.specs.Permit.{keyOf, permits, permitsAll, place, lookup, covers}
 use Rattle.rules.specs.Control.{commandChecks, commandAck, commandEffect}
 use Rattle.rules.specs.Marks.{obeyed, after, region, platform, renewed, registrations, rounds, nearlyUsed, keysOf, next, Verdict, ask, Question, table, Marks}
@@ -32,7 +32,7 @@ regioned f = withMr platform f
 
 -- a slot that is taken, with the variant v
 abbrev held : ℕ → Mr
-held v = record { live = true; variant = v; reg = region 256 4096 }
+held v = record { live = true; variant = v; reg = region 256 4096; pages = [] }
 
 domain : platform .pd 0 ≡ true
 unfolding platform after commandChecks commandEffect lowest lowestFrom
@@ -177,5 +177,5 @@ module _ (s : ℕ) (inside : s < mrCount) where
   p9 = rw (nearly, round 254 (omega arith)) (ap₂ Verdict.keys last-keys no-keys)
 
 pub marks : Marks
-unfolding Marks All all table after platform renewed range byteOf permits permitsAll place lookup covers commandChecks commandAck commandEffect lowest lowestFrom anyBelow
+unfolding Marks All all table after platform renewed range byteIn byteOf permits permitsAll place lookup covers commandChecks commandAck commandEffect lowest lowestFrom anyBelow
 marks = (refl, (refl, (refl, (refl, (refl, (refl, (refl, (refl, (refl, (p9 31 (omega arith), (p9 255 (omega arith), (refl, (refl, (refl, (refl, tt)))))))))))))))

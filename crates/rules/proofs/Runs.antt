@@ -2,24 +2,17 @@
 use mathlib.Core.Path.{_≡_, refl, sym, ap, ap₂, _∙_}
 use mathlib.Core.Bool.{Bool, true, false, cond, _&&_}
 use mathlib.Core.List.{List, [], _∷_, _++_, map, append-nil}
-use mathlib.Core.Option.{Option, some}
 use Prim.Native.Nat.{ℕ, zero, suc, _+_, _-_, _≤_, _<_, min}
 use native.Mathlib.Decide.{decLe}
 use native.Mathlib.Omega.{arith}
 use lib.Dec.{eqb, leb}
 use lib.ListN.{length, getD, set, take, drop}
 use lib.Seq.{paste, sets, sets-eq, drop-cons, length-take-le, take-nil}
-use borrow.Author.Tests.{leb-true}
-use Rattle.wire.proofs.ScanLaws.{and-left, and-right}
-use Rattle.tables.specs.Card.{Card}
-use Rattle.tables.specs.declared.Registration.{Registration}
 use Rattle.tables.specs.declared.Sge.{Sge}
 use Rattle.rules.specs.Lists.{stored}
-use Rattle.rules.specs.Touch.{Byte, range, sgeBytes, sgeTotal, cut, byteOf}
-use Rattle.rules.specs.declared.Party.{Party}
-use Rattle.rules.specs.Permit.{Use, lookup, place, placeIn}
+use Rattle.rules.specs.Touch.{Byte, range, sgeBytes, sgeTotal, cut}
 use Rattle.rules.specs.Send.{Put, pushed, putAll}
-use Rattle.rules.proofs.Ranges.{admits, ends, sges-take-short, sges-take-long}
+use Rattle.rules.proofs.Ranges.{sges-take-short, sges-take-long}
 
 -- ---- places
 
@@ -33,31 +26,17 @@ unfolding run
 run-length b zero = refl
 run-length b (suc n) = ap suc (run-length (suc b) n)
 
--- the bytes of a range under the key of a live region
-module _ (c : Card) (k : ℕ) (g : Registration) (is : lookup (c .mr) k ≡ some g) where
-  pub place-run : (a n : ℕ) → g .virt ≤ a → map (place c) (range a k n) ≡ run (byteOf g a) n
-  unfolding range run place byteOf
-  place-run a zero h = refl
-  place-run a (suc n) h =
-      let e : g .start + (suc a - g .virt) ≡ suc (g .start + (a - g .virt)) = omega arith in
-      let p : placeIn (lookup (c .mr) k) a ≡ g .start + (a - g .virt) = ap (λ (o : Option Registration). placeIn o a) is in
-      ap₂ (λ (x : ℕ) (xs : List ℕ). x ∷ xs) p (place-run (suc a) n (omega arith) ∙ ap (λ (b : ℕ). run b n) e)
-
--- what the one test of a range tells of its place
-pub record Lies (g : Registration) (a n memory : ℕ) : Type 0 where
-  pub low : g .virt ≤ a
-  pub high : a + n ≤ g .virt + g .length
-  pub room : byteOf g a + n ≤ memory
-
-pub lies : (g : Registration) (p : Party) (u : Use) (a n memory : ℕ) → ends (some g) p u a n ≡ true → g .start + g .length ≤ memory → Lies g a n memory
-unfolding byteOf
-lies g p u a n memory e h =
-    let t : Bool = admits g p u in
-    let x : Bool = leb (g .virt) a in
-    let y : Bool = leb (a + n) (g .virt + g .length) in
-    let l : g .virt ≤ a = leb-true (g .virt) a (and-right t x (and-left (t && x) y e)) in
-    let k : a + n ≤ g .virt + g .length = leb-true (a + n) (g .virt + g .length) (and-right (t && x) y e) in
-    record { low = l; high = k; room = omega arith }
+-- the bytes of a range, where they stand one after the other
+pub map-run : (f : Byte → ℕ) (k n a b : ℕ) → ((i : ℕ) → i < n → f (record { address = a + i; key = k }) ≡ b + i) → map f (range a k n) ≡ run b n
+unfolding range run
+map-run f k zero a b h = refl
+map-run f k (suc n) a b h =
+    let x : a + 0 ≡ a = omega arith in
+    let y : b + 0 ≡ b = omega arith in
+    let p : f (record { address = a; key = k }) ≡ b = rw (x, y) at (h 0 (omega arith)) in
+    ap₂ (λ (z : ℕ) (zs : List ℕ). z ∷ zs) p
+    (map-run f k n (suc a) (suc b)
+    (λ i l. (let u : a + suc i ≡ suc a + i = omega arith in let v : b + suc i ≡ suc b + i = omega arith in rw (u, v) at (h (suc i) (omega arith)))))
 
 -- ---- reading
 

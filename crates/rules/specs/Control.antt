@@ -17,6 +17,7 @@ use Rattle.tables.specs.declared.Ack.the-variants as ack
 use Rattle.tables.specs.declared.Device.{Device}
 use Rattle.tables.specs.declared.ModifyQp.{ModifyQp}
 use Rattle.tables.specs.declared.Port.{Port}
+use Rattle.tables.specs.declared.Registration.{Registration}
 use Rattle.validate.specs.Search.{freePdn, freeCqn, freeMrn, freeQpn, pdInUse, cqInUse}
 use Rattle.rules.specs.Permit.{keyOf}
 
@@ -134,6 +135,10 @@ moved s r =
       waiting = cond (eqb t 0) [] (s .waiting);
     }
 
+-- a new region in the lowest slot that registration takes; its pages are none where its bytes are adjacent
+abbrev pub registered : Card → Registration → (pages : List ℕ) → Card
+registered c g ps = withMr c (upd (c .mr) (freeMrn c) (record { live = true; variant = newVariant c; reg = g; pages = ps }))
+
 unfoldable pub commandEffect : Card → Command → Card
 commandEffect c Command.queryDevice = c
 commandEffect c Command.queryPort = c
@@ -141,8 +146,7 @@ commandEffect c (Command.createCq n) = withCq c (upd (c .cq) (freeCqn c) (record
 commandEffect c (Command.destroyCq n) = withCq c (upd (c .cq) n freeCq)
 commandEffect c Command.createPd = withPd c (upd (c .pd) (freePdn c) true)
 commandEffect c (Command.destroyPd n) = withPd c (upd (c .pd) n false)
-commandEffect c (Command.register g) =
-    withMr c (upd (c .mr) (freeMrn c) (record { live = true; variant = newVariant c; reg = g }))
+commandEffect c (Command.register g) = registered c g []
 commandEffect c (Command.deregister n) = withMr c (upd (c .mr) n (freeMr (c .mr n .variant)))
 commandEffect c (Command.createQp r) =
     withQp c

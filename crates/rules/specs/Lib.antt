@@ -3,6 +3,7 @@ pub mod Lists
 pub mod Touch
 pub mod Permit
 pub mod Control
+pub mod Pages
 pub mod Send
 pub mod Queues
 pub mod Call

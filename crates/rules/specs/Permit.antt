@@ -65,13 +65,13 @@ permits c q u b = covers (lookup (c .mr) (b .key)) (partyOf c q) u (b .address)
 unfoldable pub permitsAll : Card → (q : ℕ) → Use → List Byte → Bool
 permitsAll c q u bs = all (permits c q u) bs
 
-abbrev pub placeIn : Option Registration → ℕ → ℕ
-placeIn none a = 0
-placeIn (some g) a = byteOf g a
+abbrev pub placeIn : Option Registration → (pages : List ℕ) → (a : ℕ) → ℕ
+placeIn none ps a = 0
+placeIn (some g) ps a = byteOf ps g a
 
 -- the memory byte that a permitted byte is
 unfoldable pub place : Card → Byte → ℕ
-place c b = placeIn (lookup (c .mr) (b .key)) (b .address)
+place c b = placeIn (lookup (c .mr) (b .key)) (c .mr (b .key / 256) .pages) (b .address)
 
 -- "An address at or past 2^64 is never permitted", on any state that passes the state test
 unfoldable pub NeverPast : Type 0

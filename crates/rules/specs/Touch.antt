@@ -4,11 +4,12 @@
 -- answers. Assumes nothing.
 use mathlib.Core.Bool.{Bool, cond, _&&_}
 use mathlib.Core.List.{List, [], _∷_, _++_, map}
-use Prim.Native.Nat.{ℕ, zero, suc, _+_, _-_, min}
+use Prim.Native.Nat.{ℕ, zero, suc, _+_, _-_, _/_, _%_, min}
 use lib.Dec.{eqb, leb}
 use lib.ListN.{length, getD, take}
 use Rattle.wire.specs.Rows.{rows}
 use Rattle.tables.specs.Card.{Receive, receiveOf}
+use Rattle.tables.specs.Limits.{pageSize}
 use Rattle.tables.specs.Records.{sendCodec, isSignaled, isInline, inlineBytes, sendSge, receiveCodec}
 use Rattle.tables.specs.declared.Registration.{Registration}
 use Rattle.tables.specs.declared.Sge.{Sge}
@@ -98,9 +99,14 @@ farBytes r w = cond (fills (r .opcode)) (take (total r) (sgeBytes (w .sges))) (r
 
 -- ---- the bytes of the memory
 
--- "The byte is memory start + (address − virt)"
-unfoldable pub byteOf : Registration → ℕ → ℕ
-byteOf g a = g .start + (a - g .virt)
+-- the byte that stands at an offset into the memory, or into the pages whose first bytes are listed, where there are any
+unfoldable pub byteIn : (pages : List ℕ) → (offset : ℕ) → ℕ
+byteIn [] o = o
+byteIn (p ∷ ps) o = getD (p ∷ ps) (o / pageSize) 0 + o % pageSize
+
+-- "The byte is memory start + (address − virt)"; 02, M-105: "Start is the offset into the first page". Said once, for both kinds of region.
+unfoldable pub byteOf : (pages : List ℕ) → Registration → (address : ℕ) → ℕ
+byteOf ps g a = byteIn ps (g .start + (a - g .virt))
 
 -- "sender's side to peer's (opcode 4: back)"
 abbrev pub sourceBytes : Request → Receive → List Byte

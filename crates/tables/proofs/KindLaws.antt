@@ -14,10 +14,10 @@ use Rattle.wire.proofs.RowLaws.{rows-same}
 use Rattle.wire.proofs.SlotLaws.{slots-same, slots-upd}
 use Rattle.wire.proofs.TableLaws.{Block, block-then, outside, row-kept}
 use Rattle.tables.specs.Card.{withPd, withCq, withMr, withQp, freeMr, freeQp, freeCq}
-use Rattle.tables.specs.Layout.{stateSize, pdFlagBase, cqFlagBase, mrFlagBase, qpFlagBase, memoryT, pdFlagT, cqFlagT, cqT, entryT, mrFlagT, mrT, qpFlagT, qpT, waitingT, receiveT, flagCodec, queueCodec, regionCodec, pairCodec, waitingCodec, memoryCodec}
-use Rattle.tables.specs.Limits.{pdCount, cqCount, mrCount, qpCount, mostPlaces, mostWaiting}
+use Rattle.tables.specs.Layout.{stateSize, pdFlagBase, cqFlagBase, mrFlagBase, qpFlagBase, memoryT, pdFlagT, cqFlagT, cqT, entryT, mrFlagT, mrT, pageT, qpFlagT, qpT, waitingT, receiveT, flagCodec, queueCodec, regionCodec, pageCodec, pairCodec, waitingCodec, memoryCodec}
+use Rattle.tables.specs.Limits.{pdCount, cqCount, mrCount, qpCount, mostPlaces, mostWaiting, mostPages}
 use Rattle.tables.specs.Records.{completionCodec, receiveCodec}
-use Rattle.tables.specs.State.{queueAt, regionAt, pairAt, ringAt, receivesAt, mrOf, cqOf, qpOf, isLive, noCompletion, noRecord, card}
+use Rattle.tables.specs.State.{queueAt, regionAt, pairAt, ringAt, receivesAt, pagesAt, mrOf, cqOf, qpOf, isLive, noCompletion, noRecord, card}
 
 -- ---- what a change within some bytes leaves, where no table of the kind has any of them
 
@@ -26,7 +26,7 @@ module _ (from to : ℕ) where
   queuesOutside = outside cqFlagT from to && (outside cqT from to && outside entryT from to)
 
   abbrev pub regionsOutside : Bool
-  regionsOutside = outside mrFlagT from to && outside mrT from to
+  regionsOutside = outside mrFlagT from to && (outside mrT from to && outside pageT from to)
 
   abbrev pub pairsOutside : Bool
   pairsOutside = outside qpFlagT from to && (outside qpT from to && (outside waitingT from to && outside receiveT from to))
@@ -55,11 +55,16 @@ module _ {from to : ℕ} {l l′ : List ℕ} (b : Block from to l l′) where
       let q = both (outside cqT from to) (outside entryT from to) (p .1) in
       rw (row-kept cqFlagT from to (p .0) b i h, row-kept cqT from to (q .0) b i h, ring-kept (q .1) i h)
 
+  pub pages-kept : T (outside pageT from to) → (i : ℕ) → i < mrCount → pagesAt l′ i ≡ pagesAt l i
+  unfolding pagesAt pageT
+  pages-kept e i h = rows-same mostPages _ _ 0 (λ k c. row-kept pageT from to e b (mostPages * i + k) (omega arith))
+
   pub region-kept : T (regionsOutside from to) → (i : ℕ) → i < mrCount → regionAt l′ i ≡ regionAt l i
   unfolding regionAt mrFlagT mrT
   region-kept e i h =
-      let p = both (outside mrFlagT from to) (outside mrT from to) e in
-      rw (row-kept mrFlagT from to (p .0) b i h, row-kept mrT from to (p .1) b i h)
+      let p = both (outside mrFlagT from to) (outside mrT from to && outside pageT from to) e in
+      let q = both (outside mrT from to) (outside pageT from to) (p .1) in
+      rw (row-kept mrFlagT from to (p .0) b i h, row-kept mrT from to (q .0) b i h, pages-kept (q .1) i h)
 
   pub pair-kept : T (pairsOutside from to) → (i : ℕ) → i < qpCount → pairAt l′ i ≡ pairAt l i
   unfolding pairAt qpFlagT qpT waitingT
@@ -116,7 +121,7 @@ changed {count = count} {at = at} {l = l} {l′ = l′} {n = n} d of h o =
 
 module _ {l l′ : List ℕ} {n : ℕ} where
   pub domain-card : n < pdCount → DomainsOnly l l′ n → card l′ ≡ withPd (card l) (upd (card l .pd) n (isLive (rowAt pdFlagT l′ n)))
-  unfolding card outside finish memoryT cqFlagT cqT entryT mrFlagT mrT qpFlagT qpT waitingT receiveT flagCodec queueCodec completionCodec regionCodec pairCodec waitingCodec receiveCodec memoryCodec
+  unfolding card outside finish memoryT cqFlagT cqT entryT mrFlagT mrT pageT pageCodec qpFlagT qpT waitingT receiveT flagCodec queueCodec completionCodec regionCodec pairCodec waitingCodec receiveCodec memoryCodec
   domain-card h o =
       let p0 = memory-kept (o .block) tt in
       let p1 = changed false (λ f. isLive f) h o in
@@ -126,7 +131,7 @@ module _ {l l′ : List ℕ} {n : ℕ} where
       λ i. record { memory = p0 i; pd = p1 i; cq = p2 i; mr = p3 i; qp = p4 i }
 
   pub queue-card : n < cqCount → QueuesOnly l l′ n → card l′ ≡ withCq (card l) (upd (card l .cq) n (cqOf (queueAt l′ n)))
-  unfolding card outside finish memoryT pdFlagT mrFlagT mrT qpFlagT qpT waitingT receiveT flagCodec regionCodec pairCodec waitingCodec receiveCodec memoryCodec
+  unfolding card outside finish memoryT pdFlagT mrFlagT mrT pageT pageCodec qpFlagT qpT waitingT receiveT flagCodec regionCodec pairCodec waitingCodec receiveCodec memoryCodec
   queue-card h o =
       let p0 = memory-kept (o .block) tt in
       let p1 = pd-kept (o .block) tt in
@@ -146,7 +151,7 @@ module _ {l l′ : List ℕ} {n : ℕ} where
       λ i. record { memory = p0 i; pd = p1 i; cq = p2 i; mr = p3 i; qp = p4 i }
 
   pub pair-card : n < qpCount → PairsOnly l l′ n → card l′ ≡ withQp (card l) (upd (card l .qp) n (qpOf (pairAt l′ n)))
-  unfolding card outside finish memoryT pdFlagT cqFlagT cqT entryT mrFlagT mrT flagCodec queueCodec completionCodec regionCodec memoryCodec
+  unfolding card outside finish memoryT pdFlagT cqFlagT cqT entryT mrFlagT mrT pageT pageCodec flagCodec queueCodec completionCodec regionCodec memoryCodec
   pair-card h o =
       let p0 = memory-kept (o .block) tt in
       let p1 = pd-kept (o .block) tt in

@@ -12,9 +12,9 @@ use Rattle.wire.specs.Table.{rowAt}
 use Rattle.wire.proofs.RowLaws.{getD-rows}
 use Rattle.wire.proofs.SlotLaws.{slot-in, slot-out}
 use Rattle.tables.specs.Card.{Cq, Mr, Qp, cqLive, freeMr, freeQp, freeCq}
-use Rattle.tables.specs.Layout.{memoryT, pdFlagT, cqFlagT, cqT, entryT, mrFlagT, mrT, qpFlagT, receiveT}
-use Rattle.tables.specs.Limits.{pdCount, cqCount, mrCount, qpCount, mostPlaces, mostWaiting}
-use Rattle.tables.specs.State.{card, queueAt, regionAt, pairAt, ringAt, receivesAt, mrOf, cqOf, qpOf, liveQp, isLive, unread, registrationOf, noCompletion, noRecord}
+use Rattle.tables.specs.Layout.{memoryT, pdFlagT, cqFlagT, cqT, entryT, mrFlagT, mrT, pageT, qpFlagT, receiveT}
+use Rattle.tables.specs.Limits.{pdCount, cqCount, mrCount, qpCount, mostPlaces, mostWaiting, mostPages}
+use Rattle.tables.specs.State.{card, queueAt, regionAt, pairAt, ringAt, receivesAt, pagesAt, mrOf, cqOf, qpOf, liveQp, isLive, unread, registrationOf, pagesOf, noCompletion, noRecord}
 
 -- a number whose slot is not the free one lies in the table
 below : {B : Type 0} (count : ℕ) (d : B) (f : ℕ → B) (live : B → Bool) → live d ≡ false → (n : ℕ) → live (slots count d f n) ≡ true → n < count
@@ -94,6 +94,15 @@ module _ (l : List ℕ) where
     pub mr-row : n < mrCount → rowAt mrFlagT l n ≡ 1 → card l .mr n .reg ≡ registrationOf (rowAt mrT l n)
     unfolding mrOf regionAt
     mr-row h e = rw (mr-is h, eq-eqb (rowAt mrFlagT l n) 1 e)
+
+    pub page-at : (k : ℕ) → k < mostPages → getD (pagesAt l n) k 0 ≡ rowAt pageT l (mostPages * n + k)
+    unfolding pagesAt
+    page-at k h = getD-rows mostPages (λ k. rowAt pageT l (mostPages * n + k)) k 0 h
+
+    -- and lies over the pages that its rows say
+    pub mr-pages : n < mrCount → rowAt mrFlagT l n ≡ 1 → card l .mr n .pages ≡ pagesOf (regionAt l n)
+    unfolding mrOf regionAt
+    mr-pages h e = rw (mr-is h, eq-eqb (rowAt mrFlagT l n) 1 e)
 
     -- ---- queue pairs
     pub qp-is : n < qpCount → card l .qp n ≡ qpOf (pairAt l n)

@@ -9,7 +9,7 @@ use Rattle.wire.specs.Codec.{Codec, decode, encode, fieldsAt, putFields}
 use Rattle.wire.specs.Le.{leAt, putLe}
 use Rattle.wire.specs.Rows.{rows, rowsFrom}
 use Rattle.tables.specs.Commands.{Command, commandOf, encodeAck, ackNeed, numberCodec, registerCodec, createQpCodec, modifyQpCodec}
-use Rattle.tables.specs.Layout.{queueCodec, regionCodec, pairCodec, waitingCodec, pdFlagBase, cqFlagBase, cqBase, entryBase, mrFlagBase, mrBase, qpFlagBase, qpBase, waitingBase, receiveBase, stateSize}
+use Rattle.tables.specs.Layout.{queueCodec, regionCodec, pageCodec, pairCodec, waitingCodec, pdFlagBase, cqFlagBase, cqBase, entryBase, mrFlagBase, mrBase, pageBase, qpFlagBase, qpBase, waitingBase, receiveBase, stateSize}
 use Rattle.tables.specs.Records.{sgeCodec, sendCodec, sendSge, inlineBytes, inlineLength, receiveCodec, receiveSges, completionCodec}
 use Rattle.tables.specs.Queries.{deviceCodec, portCodec}
 use Rattle.tables.specs.declared.Ack.the-variants.{Device, Port}
@@ -130,13 +130,18 @@ pub queue-row : Pinned queueCodec (1 ∷ 2 ∷ 3 ∷ 99 ∷ []) (replicate 5 99)
 unfolding fieldsAt putFields leAt putLe queueCodec
 queue-row = record { read = refl; wrote = refl }
 
--- access, variant, pd, start, length, virt
+-- access, variant, pd, kind, start, length, virt
 pub region-row : Pinned regionCodec
-    (1 ∷ 2 ∷ 3 ∷ 99 ∷ 99 ∷ 99 ∷ 99 ∷ 99 ∷ 4 ∷ 0 ∷ 0 ∷ 0 ∷ 0 ∷ 0 ∷ 0 ∷ 1 ∷ 5 ∷ 0 ∷ 0 ∷ 0 ∷ 0 ∷ 0 ∷ 0 ∷ 2 ∷ 6 ∷ 0 ∷ 0 ∷ 0 ∷ 0 ∷ 0 ∷ 0 ∷ 3 ∷ []) (replicate 33 99)
-    (1 ∷ 2 ∷ 3 ∷ 0 ∷ 99 ∷ 99 ∷ 99 ∷ 99 ∷ 4 ∷ 0 ∷ 0 ∷ 0 ∷ 0 ∷ 0 ∷ 0 ∷ 1 ∷ 5 ∷ 0 ∷ 0 ∷ 0 ∷ 0 ∷ 0 ∷ 0 ∷ 2 ∷ 6 ∷ 0 ∷ 0 ∷ 0 ∷ 0 ∷ 0 ∷ 0 ∷ 3 ∷ 99 ∷ [])
-    (record { access = 1; variant = 2; pd = 3; start = 4 + 2 ^ 56; length = 5 + 2 * 2 ^ 56; virt = 6 + 3 * 2 ^ 56 })
+    (1 ∷ 2 ∷ 3 ∷ 7 ∷ 99 ∷ 99 ∷ 99 ∷ 99 ∷ 4 ∷ 0 ∷ 0 ∷ 0 ∷ 0 ∷ 0 ∷ 0 ∷ 1 ∷ 5 ∷ 0 ∷ 0 ∷ 0 ∷ 0 ∷ 0 ∷ 0 ∷ 2 ∷ 6 ∷ 0 ∷ 0 ∷ 0 ∷ 0 ∷ 0 ∷ 0 ∷ 3 ∷ []) (replicate 33 99)
+    (1 ∷ 2 ∷ 3 ∷ 7 ∷ 99 ∷ 99 ∷ 99 ∷ 99 ∷ 4 ∷ 0 ∷ 0 ∷ 0 ∷ 0 ∷ 0 ∷ 0 ∷ 1 ∷ 5 ∷ 0 ∷ 0 ∷ 0 ∷ 0 ∷ 0 ∷ 0 ∷ 2 ∷ 6 ∷ 0 ∷ 0 ∷ 0 ∷ 0 ∷ 0 ∷ 0 ∷ 3 ∷ 99 ∷ [])
+    (record { access = 1; variant = 2; pd = 3; kind = 7; start = 4 + 2 ^ 56; length = 5 + 2 * 2 ^ 56; virt = 6 + 3 * 2 ^ 56 })
 unfolding fieldsAt putFields leAt putLe regionCodec
 region-row = record { read = refl; wrote = refl }
+
+-- a page number
+pub page-row : Pinned pageCodec (1 ∷ 2 ∷ []) (replicate 3 99) (1 ∷ 2 ∷ 99 ∷ []) 513
+unfolding fieldsAt putFields leAt putLe pageCodec
+page-row = record { read = refl; wrote = refl }
 
 -- pd, signal, send cqn, receive cqn, state, destination, rights
 pub pair-row : Pinned pairCodec (1 ∷ 2 ∷ 3 ∷ 4 ∷ 5 ∷ 6 ∷ 7 ∷ 99 ∷ []) (replicate 9 99) (1 ∷ 2 ∷ 3 ∷ 4 ∷ 5 ∷ 6 ∷ 7 ∷ 0 ∷ 99 ∷ [])
@@ -150,6 +155,6 @@ unfolding fieldsAt putFields leAt putLe waitingCodec
 waiting-row = record { read = refl; wrote = refl }
 
 -- where each table begins, and the state's length: docs/STATE.md
-pub bases : pdFlagBase ∷ cqFlagBase ∷ cqBase ∷ entryBase ∷ mrFlagBase ∷ mrBase ∷ qpFlagBase ∷ qpBase ∷ waitingBase ∷ receiveBase ∷ stateSize ∷ []
-    ≡ 16 ∷ 24 ∷ 32 ∷ 64 ∷ 3136 ∷ 3392 ∷ 11584 ∷ 11592 ∷ 11656 ∷ 11672 ∷ 13464 ∷ []
+pub bases : pdFlagBase ∷ cqFlagBase ∷ cqBase ∷ entryBase ∷ mrFlagBase ∷ mrBase ∷ pageBase ∷ qpFlagBase ∷ qpBase ∷ waitingBase ∷ receiveBase ∷ stateSize ∷ []
+    ≡ 16 ∷ 24 ∷ 32 ∷ 64 ∷ 3136 ∷ 3392 ∷ 11584 ∷ 19776 ∷ 19784 ∷ 19848 ∷ 19864 ∷ 21656 ∷ []
 bases = refl

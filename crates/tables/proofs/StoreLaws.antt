@@ -11,17 +11,17 @@ use Rattle.wire.proofs.CodecLaws.{fieldsAt-fit}
 use Rattle.wire.proofs.LeLaws.{leAt-below}
 use Rattle.wire.proofs.RowLaws.{rows-same, rows-set}
 use Rattle.wire.proofs.TableLaws.{inside, outside, elsewhere, store-block, row-stored, row-other, table-other}
-use Rattle.tables.specs.Layout.{stateSize, pdFlagBase, cqFlagBase, mrFlagBase, qpFlagBase, pdFlagT, cqFlagT, cqT, entryT, mrFlagT, mrT, qpFlagT, qpT, waitingT, receiveT, flagCodec, queueCodec, regionCodec, pairCodec, waitingCodec}
-use Rattle.tables.specs.Limits.{pdCount, cqCount, mrCount, qpCount, mostPlaces, mostWaiting}
+use Rattle.tables.specs.Layout.{stateSize, pdFlagBase, cqFlagBase, mrFlagBase, qpFlagBase, pdFlagT, cqFlagT, cqT, entryT, mrFlagT, mrT, pageT, qpFlagT, qpT, waitingT, receiveT, flagCodec, queueCodec, regionCodec, pageCodec, pairCodec, waitingCodec}
+use Rattle.tables.specs.Limits.{pdCount, cqCount, mrCount, qpCount, mostPlaces, mostWaiting, mostPages}
 use Rattle.tables.specs.Records.{completionCodec, receiveCodec}
-use Rattle.tables.specs.State.{queueAt, regionAt, pairAt, ringAt, receivesAt, noCompletion, noRecord}
+use Rattle.tables.specs.State.{queueAt, regionAt, pairAt, ringAt, receivesAt, pagesAt, noCompletion, noRecord}
 use Rattle.tables.specs.declared.Completion.{Completion}
 use Rattle.tables.specs.declared.QueueHead.{QueueHead}
 use Rattle.tables.specs.declared.QueuePair.{QueuePair}
 use Rattle.tables.specs.declared.ReceiveRecord.{ReceiveRecord}
 use Rattle.tables.specs.declared.Region.{Region}
 use Rattle.tables.specs.declared.WaitingHead.{WaitingHead}
-use Rattle.tables.proofs.KindLaws.{DomainsOnly, QueuesOnly, RegionsOnly, PairsOnly, ring-kept, receives-kept}
+use Rattle.tables.proofs.KindLaws.{DomainsOnly, QueuesOnly, RegionsOnly, PairsOnly, ring-kept, receives-kept, pages-kept}
 
 -- what is read out of a table fits it
 pub queue-fits : (l : List ℕ) (n : ℕ) → Fits queueCodec (rowAt cqT l n)
@@ -117,32 +117,61 @@ module _ (l : List ℕ) (n : ℕ) (b : n < mrCount) where
   -- its flag
   module _ (v : ℕ) where
     pub mr-flag-only : RegionsOnly l (putRow mrFlagT l n v) n
-    unfolding regionAt inside outside elsewhere finish mrFlagT mrT flagCodec regionCodec
+    unfolding regionAt inside outside elsewhere finish mrFlagT mrT pageT flagCodec regionCodec pageCodec
     mr-flag-only =
         record {
           block = store-block mrFlagT mrFlagBase qpFlagBase tt l n v b;
-          others = λ i c x. rw (row-other mrFlagT l n v i x, table-other mrFlagT mrT tt l n v i b c);
+          others = λ i c x. rw (row-other mrFlagT l n v i x, table-other mrFlagT mrT tt l n v i b c, pages-kept (store-block mrFlagT (mrFlagT .base) (finish mrFlagT) tt l n v b) tt i c);
         }
 
     pub mr-flag-at : length l ≡ stateSize → Fits (mrFlagT .codec) v
-        → regionAt (putRow mrFlagT l n v) n ≡ record { flag = v; row = regionAt l n .row }
-    unfolding regionAt inside outside elsewhere finish mrFlagT mrT flagCodec regionCodec
-    mr-flag-at e f = rw (row-stored mrFlagT l n v b (omega arith) f, table-other mrFlagT mrT tt l n v n b b)
+        → regionAt (putRow mrFlagT l n v) n ≡ record { flag = v; row = regionAt l n .row; pages = regionAt l n .pages }
+    unfolding regionAt inside outside elsewhere finish mrFlagT mrT pageT flagCodec regionCodec pageCodec
+    mr-flag-at e f = rw (row-stored mrFlagT l n v b (omega arith) f, table-other mrFlagT mrT tt l n v n b b, pages-kept (store-block mrFlagT (mrFlagT .base) (finish mrFlagT) tt l n v b) tt n b)
 
   -- its row
   module _ (v : Region) where
     pub mr-row-only : RegionsOnly l (putRow mrT l n v) n
-    unfolding regionAt inside outside elsewhere finish mrFlagT mrT flagCodec regionCodec
+    unfolding regionAt inside outside elsewhere finish mrFlagT mrT pageT flagCodec regionCodec pageCodec
     mr-row-only =
         record {
           block = store-block mrT mrFlagBase qpFlagBase tt l n v b;
-          others = λ i c x. rw (table-other mrT mrFlagT tt l n v i b c, row-other mrT l n v i x);
+          others = λ i c x. rw (table-other mrT mrFlagT tt l n v i b c, row-other mrT l n v i x, pages-kept (store-block mrT (mrT .base) (finish mrT) tt l n v b) tt i c);
         }
 
     pub mr-row-at : length l ≡ stateSize → Fits (mrT .codec) v
-        → regionAt (putRow mrT l n v) n ≡ record { flag = regionAt l n .flag; row = v }
-    unfolding regionAt inside outside elsewhere finish mrFlagT mrT flagCodec regionCodec
-    mr-row-at e f = rw (table-other mrT mrFlagT tt l n v n b b, row-stored mrT l n v b (omega arith) f)
+        → regionAt (putRow mrT l n v) n ≡ record { flag = regionAt l n .flag; row = v; pages = regionAt l n .pages }
+    unfolding regionAt inside outside elsewhere finish mrFlagT mrT pageT flagCodec regionCodec pageCodec
+    mr-row-at e f = rw (table-other mrT mrFlagT tt l n v n b b, row-stored mrT l n v b (omega arith) f, pages-kept (store-block mrT (mrT .base) (finish mrT) tt l n v b) tt n b)
+
+  -- place k of its page numbers
+  module _ (k : ℕ) (d : k < mostPages) (v : ℕ) where
+    abbrev page : ℕ
+    page = mostPages * n + k
+
+    page-below : page < mrCount * mostPages
+    page-below = omega arith
+
+    pub page-only : RegionsOnly l (putRow pageT l page v) n
+    unfolding regionAt pagesAt inside outside elsewhere finish mrFlagT mrT pageT flagCodec regionCodec pageCodec
+    page-only =
+        record {
+          block = store-block pageT mrFlagBase qpFlagBase tt l page v page-below;
+          others = λ i c x. rw (table-other pageT mrFlagT tt l page v i page-below c, table-other pageT mrT tt l page v i page-below c)
+              (let e = rows-same mostPages _ _ 0 (λ j y. row-other pageT l page v (mostPages * i + j) (λ z. x (omega arith))) in rw e);
+        }
+
+    pages-put : length l ≡ stateSize → Fits pageCodec v → pagesAt (putRow pageT l page v) n ≡ set (pagesAt l n) k v
+    unfolding pagesAt finish pageT pageCodec
+    pages-put e f =
+        rows-set mostPages (λ j. rowAt pageT l (mostPages * n + j)) (λ j. rowAt pageT (putRow pageT l page v) (mostPages * n + j)) k 0 d
+        (λ j _ x. row-other pageT l page v (mostPages * n + j) (λ y. x (omega arith)))
+        ∙ ap (λ (x : ℕ). set (rows mostPages (λ j. rowAt pageT l (mostPages * n + j))) k x) (row-stored pageT l page v page-below (omega arith) f)
+
+    pub page-at : length l ≡ stateSize → Fits pageCodec v
+        → regionAt (putRow pageT l page v) n ≡ record { flag = regionAt l n .flag; row = regionAt l n .row; pages = set (regionAt l n .pages) k v }
+    unfolding regionAt elsewhere outside finish mrFlagT mrT pageT flagCodec regionCodec pageCodec
+    page-at e f = rw (table-other pageT mrFlagT tt l page v n page-below b, table-other pageT mrT tt l page v n page-below b, pages-put e f)
 
 -- ---- queue pairs
 module _ (l : List ℕ) (n : ℕ) (b : n < qpCount) where

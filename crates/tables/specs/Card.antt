@@ -10,11 +10,13 @@ use Rattle.tables.specs.declared.ReceiveRecord.{ReceiveRecord}
 use Rattle.tables.specs.declared.Registration.{Registration}
 use Rattle.tables.specs.declared.Sge.{Sge}
 
--- a slot of the region table; the variant is the last one handed out, 0 before the first
+-- a slot of the region table; the variant is the last one handed out, 0 before the first; pages are the first bytes of the pages that it lies
+-- over, none where it lies in adjacent bytes
 pub record Mr : Type 0 where
   pub live : Bool
   pub variant : ℕ
   pub reg : Registration
+  pub pages : List ℕ
 
 -- a receive: its wr_id and its pieces, which are scatter/gather entries
 pub record Receive : Type 0 where
@@ -96,7 +98,7 @@ abbrev pub noRegistration : Registration
 noRegistration = record { pd = 0; access = 0; start = 0; length = 0; virt = 0 }
 
 abbrev pub freeMr : ℕ → Mr
-freeMr v = record { live = false; variant = v; reg = noRegistration }
+freeMr v = record { live = false; variant = v; reg = noRegistration; pages = [] }
 
 abbrev pub freeQp : Qp
 freeQp = record { live = false; pd = 0; signal = 0; scq = 0; rcq = 0; state = 0; dest = none; rights = 0; waiting = [] }

@@ -6,7 +6,7 @@ use mathlib.Core.List.{[], _∷_}
 use lib.ListN.{getD}
 use Rattle.wire.specs.Codec.{Codec, line, within, clear, apart}
 use Rattle.wire.specs.Table.{Table}
-use Rattle.tables.specs.Limits.{pdCount, cqCount, mrCount, qpCount, mostPlaces, mostWaiting}
+use Rattle.tables.specs.Limits.{pdCount, cqCount, mrCount, qpCount, mostPlaces, mostWaiting, mostPages}
 use Rattle.tables.specs.Records.{completionCodec, receiveCodec}
 use Rattle.tables.specs.declared.QueueHead.{QueueHead}
 use Rattle.tables.specs.declared.Completion.{Completion}
@@ -39,7 +39,7 @@ queueCodec = record {
   back = λ r. refl;
 }
 
--- a region; the variant stays when the slot is free
+-- a region; the variant stays when the slot is free; kind 0 is of adjacent bytes, 1 over pages
 unfoldable pub regionCodec : Codec Region
 unfolding within clear apart
 regionCodec = record {
@@ -48,7 +48,7 @@ regionCodec = record {
       line 0 1 (λ r. r .access) ∷
       line 1 1 (λ r. r .variant) ∷
       line 2 1 (λ r. r .pd) ∷
-      line 3 1 (λ r. 0) ∷
+      line 3 1 (λ r. r .kind) ∷
       line 8 8 (λ r. r .start) ∷
       line 16 8 (λ r. r .length) ∷
       line 24 8 (λ r. r .virt) ∷
@@ -57,6 +57,7 @@ regionCodec = record {
     access = getD vs 0 0;
     variant = getD vs 1 0;
     pd = getD vs 2 0;
+    kind = getD vs 3 0;
     start = getD vs 4 0;
     length = getD vs 5 0;
     virt = getD vs 6 0;
@@ -65,6 +66,11 @@ regionCodec = record {
   clears = tt;
   back = λ r. refl;
 }
+
+-- a page of the memory, by its number: its first byte is 4,096 times that
+unfoldable pub pageCodec : Codec ℕ
+unfolding within clear apart
+pageCodec = record { size = 2; lines = line 0 2 (λ p. p) ∷ []; make = λ vs. getD vs 0 0; ends = tt; clears = tt; back = λ p. refl }
 
 -- a queue pair; destination 8, no queue pair's number, is none
 unfoldable pub pairCodec : Codec QueuePair
@@ -135,9 +141,15 @@ mrFlagBase = entryBase + entryCount * 24
 abbrev pub mrBase : ℕ
 mrBase = mrFlagBase + mrCount
 
+abbrev pub pageCount : ℕ
+pageCount = mrCount * mostPages
+
+abbrev pub pageBase : ℕ
+pageBase = mrBase + mrCount * 32
+
 -- the block of the queue pairs
 abbrev pub qpFlagBase : ℕ
-qpFlagBase = mrBase + mrCount * 32
+qpFlagBase = pageBase + pageCount * 2
 
 abbrev pub qpBase : ℕ
 qpBase = qpFlagBase + qpCount
@@ -148,7 +160,7 @@ waitingBase = qpBase + qpCount * 8
 abbrev pub receiveBase : ℕ
 receiveBase = waitingBase + qpCount * 2
 
--- the state's length in bytes, 13,464
+-- the state's length in bytes, 21,656
 abbrev pub stateSize : ℕ
 stateSize = receiveBase + receiveCount * 56
 
@@ -175,6 +187,10 @@ mrFlagT = record { base = mrFlagBase; count = mrCount; codec = flagCodec }
 
 unfoldable pub mrT : Table Region
 mrT = record { base = mrBase; count = mrCount; codec = regionCodec }
+
+-- 16 pages for each region
+unfoldable pub pageT : Table ℕ
+pageT = record { base = pageBase; count = pageCount; codec = pageCodec }
 
 unfoldable pub qpFlagT : Table ℕ
 qpFlagT = record { base = qpFlagBase; count = qpCount; codec = flagCodec }

@@ -25,6 +25,13 @@ mostWaiting = 4
 abbrev pub mostMemory : ℕ
 mostMemory = 16777216
 
+-- 02, M-105: "a page's first byte in the lent memory, a multiple of 4096", "at most 16"
+abbrev pub pageSize : ℕ
+pageSize = 4096
+
+abbrev pub mostPages : ℕ
+mostPages = 16
+
 -- "virt + length over 2^64 − 1"
 abbrev pub mostAddress : ℕ
 mostAddress = 2 ^ 64 - 1

@@ -1,17 +1,18 @@
 -- What a state means: the card whose objects it lists. Past the end of a table nothing is live, and an object that is not live
 -- means the free object whatever else its rows hold, but for the variant of a region slot, which stays. Assumes nothing.
 use mathlib.Core.Bool.{Bool, true, false, cond}
-use mathlib.Core.List.{List, map}
+use mathlib.Core.List.{List, [], map}
 use mathlib.Core.Option.{Option, none, some}
-use Prim.Native.Nat.{ℕ, _+_, _*_}
+use Prim.Native.Nat.{ℕ, _+_, _-_, _*_, _/_}
 use lib.Dec.{eqb}
+use lib.ListN.{take}
 use Rattle.wire.specs.Ring.{ringList}
 use Rattle.wire.specs.Rows.{rows}
 use Rattle.wire.specs.Slots.{slots}
 use Rattle.wire.specs.Table.{rowAt}
 use Rattle.tables.specs.Card.{Card, Cq, Mr, Qp, receiveOf, noRegistration, freeMr, freeQp, freeCq}
-use Rattle.tables.specs.Layout.{memoryT, pdFlagT, mrFlagT, mrT, cqFlagT, cqT, entryT, qpFlagT, qpT, waitingT, receiveT}
-use Rattle.tables.specs.Limits.{pdCount, cqCount, mrCount, qpCount, mostPlaces, mostWaiting}
+use Rattle.tables.specs.Layout.{memoryT, pdFlagT, mrFlagT, mrT, pageT, cqFlagT, cqT, entryT, qpFlagT, qpT, waitingT, receiveT}
+use Rattle.tables.specs.Limits.{pdCount, cqCount, mrCount, qpCount, mostPlaces, mostWaiting, pageSize, mostPages}
 use Rattle.tables.specs.declared.Completion.{Completion}
 use Rattle.tables.specs.declared.QueueHead.{QueueHead}
 use Rattle.tables.specs.declared.QueuePair.{QueuePair}
@@ -28,9 +29,11 @@ pub record QueueRows : Type 0 where
   pub head : QueueHead
   pub ring : List Completion
 
+-- a region: its flag, its row, and its 16 places for page numbers as they stand
 pub record RegionRows : Type 0 where
   pub flag : ℕ
   pub row : Region
+  pub pages : List ℕ
 
 -- a queue pair: its flag, its row, where its receives stand, and their 4 places as they stand
 pub record PairRows : Type 0 where
@@ -45,11 +48,14 @@ ringAt l n = rows mostPlaces (λ k. rowAt entryT l (mostPlaces * n + k))
 unfoldable pub receivesAt : List ℕ → ℕ → List ReceiveRecord
 receivesAt l n = rows mostWaiting (λ k. rowAt receiveT l (mostWaiting * n + k))
 
+unfoldable pub pagesAt : List ℕ → ℕ → List ℕ
+pagesAt l n = rows mostPages (λ k. rowAt pageT l (mostPages * n + k))
+
 unfoldable pub queueAt : List ℕ → ℕ → QueueRows
 queueAt l n = record { flag = rowAt cqFlagT l n; head = rowAt cqT l n; ring = ringAt l n }
 
 unfoldable pub regionAt : List ℕ → ℕ → RegionRows
-regionAt l n = record { flag = rowAt mrFlagT l n; row = rowAt mrT l n }
+regionAt l n = record { flag = rowAt mrFlagT l n; row = rowAt mrT l n; pages = pagesAt l n }
 
 unfoldable pub pairAt : List ℕ → ℕ → PairRows
 pairAt l n = record { flag = rowAt qpFlagT l n; row = rowAt qpT l n; head = rowAt waitingT l n; ring = receivesAt l n }
@@ -62,9 +68,26 @@ isLive flag = eqb flag 1
 abbrev pub registrationOf : Region → Registration
 registrationOf r = record { pd = r .pd; access = r .access; start = r .start; length = r .length; virt = r .virt }
 
+-- 02, M-105: "exactly the pages that start + length needs"
+unfoldable pub pagesNeeded : (start length : ℕ) → ℕ
+pagesNeeded s n = (s + n + (pageSize - 1)) / pageSize
+
+-- the page numbers that a region over pages needs
+abbrev pub needed : RegionRows → List ℕ
+needed r = take (pagesNeeded (r .row .start) (r .row .length)) (r .pages)
+
+-- the first bytes of its pages; none of a region of adjacent bytes
+abbrev pub pagesOf : RegionRows → List ℕ
+pagesOf r = cond (eqb (r .row .kind) 0) [] (map (λ p. pageSize * p) (needed r))
+
 unfoldable pub mrOf : RegionRows → Mr
 mrOf r =
-    record { live = isLive (r .flag); variant = r .row .variant; reg = cond (isLive (r .flag)) (registrationOf (r .row)) noRegistration }
+    record {
+      live = isLive (r .flag);
+      variant = r .row .variant;
+      reg = cond (isLive (r .flag)) (registrationOf (r .row)) noRegistration;
+      pages = cond (isLive (r .flag)) (pagesOf r) [];
+    }
 
 -- what stands at a place of no ring
 abbrev pub noCompletion : Completion

@@ -56,11 +56,12 @@ pub struct WaitingHead {
     pub count: u8,
 }
 
-// A memory region; the variant is the last one that its slot handed out.
+// A memory region; the variant is the last one that its slot handed out, the kind 0 for a region of adjacent bytes and 1 for one over pages.
 pub struct Region {
     pub access: u8,
     pub variant: u8,
     pub pd: u8,
+    pub kind: u8,
     pub start: u64,
     pub length: u64,
     pub virt: u64,

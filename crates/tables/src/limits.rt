@@ -15,6 +15,10 @@ pub const MOST_WAITING: usize = 4;
 
 pub const MOST_MEMORY: u64 = 16777216;
 
+pub const PAGE_SIZE: u64 = 4096;
+
+pub const MOST_PAGES: usize = 16;
+
 pub const MOST_ADDRESS: u64 = 0xffff_ffff_ffff_ffff;
 
 pub const MOST_MESSAGE: u32 = 4096;
@@ -33,6 +37,11 @@ pub const REMOTE_WRITE: u8 = 2;
 pub const REMOTE_READ: u8 = 4;
 
 pub const MOST_ACCESS: u8 = LOCAL_WRITE + REMOTE_WRITE + REMOTE_READ;
+
+// ---- kinds of region
+pub const FLAT: u8 = 0;
+
+pub const PAGED: u8 = 1;
 
 // ---- queue pair states
 pub const RESET: u8 = 0;

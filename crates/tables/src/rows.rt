@@ -6,6 +6,7 @@ use crate::ReceiveRecord;
 use crate::Region;
 use crate::WaitingHead;
 use crate::limits::CQ_COUNT;
+use crate::limits::MOST_PAGES;
 use crate::limits::MOST_PLACES;
 use crate::limits::MOST_WAITING;
 use crate::limits::MR_COUNT;
@@ -17,7 +18,7 @@ ghost use Prim.Native.Nat.{_<_, _+_};
 ghost use lib.ListN.{length};
 ghost use Rattle.wire.specs.Table.{rowAt, putRow};
 ghost use Rattle.tables.specs.Limits.{pdCount, cqCount, mrCount, qpCount};
-ghost use Rattle.tables.specs.Layout.{stateSize, receiveCount, entryCount, memoryT, pdFlagT, cqFlagT, cqT, entryT, mrFlagT, mrT, qpFlagT, qpT, waitingT, receiveT};
+ghost use Rattle.tables.specs.Layout.{stateSize, receiveCount, entryCount, pageCount, memoryT, pdFlagT, cqFlagT, cqT, entryT, mrFlagT, mrT, pageT, qpFlagT, qpT, waitingT, receiveT};
 
 // ---- where each table begins
 
@@ -41,7 +42,11 @@ pub const MRS: usize = MR_FLAGS + MR_COUNT;
 
 pub const MR_SIZE: usize = 32;
 
-pub const QP_FLAGS: usize = MRS + MR_COUNT * MR_SIZE;
+pub const PAGES: usize = MRS + MR_COUNT * MR_SIZE;
+
+pub const PAGE_NUMBER: usize = 2;
+
+pub const QP_FLAGS: usize = PAGES + MR_COUNT * MOST_PAGES * PAGE_NUMBER;
 
 pub const QPS: usize = QP_FLAGS + QP_COUNT;
 
@@ -179,6 +184,7 @@ pub fn load_mr(state: &[u8], n: usize) -> Region
         access: b[0],
         variant: b[1],
         pd: b[2],
+        kind: b[3],
         start: wire::get64(state, at + 8),
         length: wire::get64(state, at + 16),
         virt: wire::get64(state, at + 24),
@@ -190,10 +196,25 @@ pub fn store_mr(state: &mut [u8], n: usize, r: Region)
     ensures { λ _. ⌜ now (state .exit) ≡ putRow mrT (now (state .entry)) n r ⌝ }
 {
     let at = MRS + n * MR_SIZE;
-    wire::put_bytes4(state, at, r.access, r.variant, r.pd, 0);
+    wire::put_bytes4(state, at, r.access, r.variant, r.pd, r.kind);
     wire::put64(state, at + 8, r.start);
     wire::put64(state, at + 16, r.length);
     wire::put64(state, at + 24, r.virt);
+}
+
+// Page number row n: place k of region slot q is row 16 q + k.
+pub fn load_page(state: &[u8], n: usize) -> u16
+    requires { ⌜ (n < pageCount) × (length (now state) ≡ stateSize) ⌝ }
+    ensures { λ r. ⌜ r ≡ rowAt pageT (now (state .entry)) n ⌝ }
+{
+    wire::get16(state, PAGES + n * PAGE_NUMBER)
+}
+
+pub fn store_page(state: &mut [u8], n: usize, r: u16)
+    requires { ⌜ (n < pageCount) × (length (now state) ≡ stateSize) ⌝ }
+    ensures { λ _. ⌜ now (state .exit) ≡ putRow pageT (now (state .entry)) n r ⌝ }
+{
+    wire::put16(state, PAGES + n * PAGE_NUMBER, r);
 }
 
 // ---- queue pairs

@@ -2,10 +2,10 @@
 use mathlib.Core.Path.{_≡_}
 use mathlib.Core.Bool.{Bool, true, _&&_, _||_}
 use mathlib.Core.List.{List}
-use Prim.Native.Nat.{ℕ, _+_, _≤_, _<_}
+use Prim.Native.Nat.{ℕ, _+_, _-_, _*_, _/_, _≤_, _<_}
 use native.Mathlib.Omega.{arith}
 use lib.Bits.{bitAnd, and-le-r}
-use lib.ListN.{length}
+use lib.ListN.{length, getD}
 use lib.Dec.{eqb, ltb, leb}
 use borrow.Author.Tests.{eq-eqb, ne-eqb, eqb-true, ltb-true, leb-true, lt-ltb, le-leb}
 use Rattle.wire.specs.Checks.{only}
@@ -13,12 +13,12 @@ use Rattle.wire.specs.Scan.{all, allBelow}
 use Rattle.wire.specs.Table.{rowAt}
 use Rattle.wire.proofs.ScanLaws.{all-at, all-each, and-left, and-right, or-true}
 use Rattle.tables.specs.Layout.{stateSize, memoryT}
-use Rattle.tables.specs.Limits.{pdCount, cqCount, mrCount, qpCount, mostPlaces, mostWaiting, mostMemory, mostAddress, mostAccess}
-use Rattle.tables.specs.State.{QueueRows, RegionRows, PairRows, unread, posted}
+use Rattle.tables.specs.Limits.{pdCount, cqCount, mrCount, qpCount, mostPlaces, mostWaiting, mostMemory, mostAddress, mostAccess, pageSize, mostPages}
+use Rattle.tables.specs.State.{QueueRows, RegionRows, PairRows, pagesNeeded, unread, posted}
 use Rattle.tables.specs.declared.QueueHead.{QueueHead}
 use Rattle.tables.specs.declared.Region.{Region}
 use Rattle.tables.specs.declared.WaitingHead.{WaitingHead}
-use Rattle.validate.specs.Accept.{accepts, memoryOk, completionOk, receiveOk, queueOk, accessOk, regionOk, pairOk, namesOk, receivesOk, pdOk, cqSound, cqOk, mrSound, mrOk, qpSound, qpOk}
+use Rattle.validate.specs.Accept.{accepts, memoryOk, completionOk, receiveOk, queueOk, accessOk, numbersOk, pagedOk, landOk, regionOk, pairOk, namesOk, receivesOk, pdOk, cqSound, cqOk, mrSound, mrOk, qpSound, qpOk}
 
 pub record Accepted (l : List ℕ) : Type 0 where
   pub sized : length l ≡ stateSize
@@ -113,14 +113,14 @@ module _ (r : QueueRows) where
 pub record Registered (pd : ℕ → Bool) (memory : ℕ) (r : RegionRows) : Type 0 where
   pub live : r .flag ≡ 1
   pub domain : pd (r .row .pd) ≡ true
-  pub limits : regionOk memory (r .row) ≡ true
+  pub limits : regionOk memory r ≡ true
 
 module _ (pd : ℕ → Bool) (memory : ℕ) (r : RegionRows) where
   pub registered : mrSound pd memory r ≡ true → (r .flag ≡ 0 → ⊥) → Registered pd memory r
   registered e live =
       let a : Bool = eqb (r .flag) 1 in
       let b : Bool = pd (r .row .pd) in
-      let w : Bool = regionOk memory (r .row) in
+      let w : Bool = regionOk memory r in
       let f : (a && b && w) ≡ true = rw (ne-eqb (r .flag) 0 live) at e in
       let g : (a && b) ≡ true = and-left (a && b) w f in
       record { live = eqb-true (r .flag) 1 (and-left a b g); domain = and-right a b g; limits = and-right (a && b) w f }
@@ -139,30 +139,55 @@ pub access-most : (a : ℕ) → accessOk a ≡ true → a ≤ mostAccess
 access-most a e = only-most a (and-left (only mostAccess a) _ e)
 
 -- the region's range, as whole numbers
-pub record Ranged (memory : ℕ) (r : Region) : Type 0 where
-  pub access : r .access ≤ mostAccess
-  pub variant : 1 ≤ r .variant
-  pub size : 1 ≤ r .length
-  pub inside : r .start + r .length ≤ memory
-  pub space : r .virt + r .length ≤ mostAddress
+pub record Paged (memory : ℕ) (r : RegionRows) : Type 0 where
+  pub offset : r .row .start < pageSize
+  pub most : r .row .start + r .row .length ≤ mostPages * pageSize
+  pub numbers : (k : ℕ) → k < pagesNeeded (r .row .start) (r .row .length) → getD (r .pages) k 0 < memory / pageSize
 
-pub ranged : (memory : ℕ) (r : Region) → regionOk memory r ≡ true → Ranged memory r
-ranged memory r e =
-    let a : Bool = accessOk (r .access) in
-    let b : Bool = leb 1 (r .variant) in
-    let c : Bool = leb 1 (r .length) in
-    let d : Bool = leb (r .start + r .length) memory in
-    let f : Bool = leb (r .virt + r .length) mostAddress in
-    let e3 : (a && b && c && d) ≡ true = and-left (a && b && c && d) f e in
-    let e2 : (a && b && c) ≡ true = and-left (a && b && c) d e3 in
-    let e1 : (a && b) ≡ true = and-left (a && b) c e2 in
-    record {
-      access = access-most (r .access) (and-left a b e1);
-      variant = leb-true 1 (r .variant) (and-right a b e1);
-      size = leb-true 1 (r .length) (and-right (a && b) c e2);
-      inside = leb-true (r .start + r .length) memory (and-right (a && b && c) d e3);
-      space = leb-true (r .virt + r .length) mostAddress (and-right (a && b && c && d) f e);
-    }
+pub record Ranged (memory : ℕ) (r : RegionRows) : Type 0 where
+  pub access : r .row .access ≤ mostAccess
+  pub variant : 1 ≤ r .row .variant
+  pub size : 1 ≤ r .row .length
+  pub space : r .row .virt + r .row .length ≤ mostAddress
+  pub flat : r .row .kind ≡ 0 → r .row .start + r .row .length ≤ memory
+  pub paged : (r .row .kind ≡ 0 → ⊥) → Paged memory r
+
+module _ (memory : ℕ) (r : RegionRows) where
+  abbrev row : Region
+  row = r .row
+
+  paging : pagedOk memory r ≡ true → Paged memory r
+  paging e =
+      let a : Bool = leb (row .start) (pageSize - 1) in
+      let b : Bool = leb (row .start + row .length) (mostPages * pageSize) in
+      let c : Bool = numbersOk memory (pagesNeeded (row .start) (row .length)) (r .pages) in
+      let e1 : (a && b) ≡ true = and-left (a && b) c e in
+      let x : row .start ≤ pageSize - 1 = leb-true (row .start) (pageSize - 1) (and-left a b e1) in
+      record {
+        offset = omega arith;
+        most = leb-true (row .start + row .length) (mostPages * pageSize) (and-right a b e1);
+        numbers = λ k h. ltb-true (getD (r .pages) k 0) (memory / pageSize)
+            (all-at (pagesNeeded (row .start) (row .length)) (λ k. ltb (getD (r .pages) k 0) (memory / pageSize)) k h (and-right (a && b) c e));
+      }
+
+  pub ranged : regionOk memory r ≡ true → Ranged memory r
+  ranged e =
+      let a : Bool = accessOk (row .access) in
+      let b : Bool = leb 1 (row .variant) in
+      let c : Bool = leb 1 (row .length) in
+      let d : Bool = leb (row .virt + row .length) mostAddress in
+      let e3 : (a && b && c && d) ≡ true = and-left (a && b && c && d) (landOk memory r) e in
+      let land : landOk memory r ≡ true = and-right (a && b && c && d) (landOk memory r) e in
+      let e2 : (a && b && c) ≡ true = and-left (a && b && c) d e3 in
+      let e1 : (a && b) ≡ true = and-left (a && b) c e2 in
+      record {
+        access = access-most (row .access) (and-left a b e1);
+        variant = leb-true 1 (row .variant) (and-right a b e1);
+        size = leb-true 1 (row .length) (and-right (a && b) c e2);
+        space = leb-true (row .virt + row .length) mostAddress (and-right (a && b && c) d e3);
+        flat = λ k. leb-true (row .start + row .length) memory (rw (eq-eqb (row .kind) 0 k) at land);
+        paged = λ k. paging (and-right (eqb (row .kind) 1) (pagedOk memory r) (rw (ne-eqb (row .kind) 0 k) at land));
+      }
 
 -- a queue pair
 pub record Paired (pd cq : ℕ → Bool) (n : ℕ) (r : PairRows) : Type 0 where

@@ -14,7 +14,7 @@ use Rattle.wire.specs.Table.{rowAt, finish}
 use Rattle.wire.proofs.ScanLaws.{any-here, or-true}
 use Rattle.wire.proofs.TableLaws.{outside, row-kept}
 use Rattle.tables.specs.Card.{Card, Cq, cqLive, freeCq}
-use Rattle.tables.specs.Layout.{memoryT, pdFlagT, cqFlagT, cqT, entryT, mrFlagT, mrT, qpFlagT, qpT, waitingT, receiveT, memoryCodec, flagCodec, queueCodec, regionCodec, pairCodec, waitingCodec}
+use Rattle.tables.specs.Layout.{memoryT, pdFlagT, cqFlagT, cqT, entryT, mrFlagT, mrT, pageT, pageCodec, qpFlagT, qpT, waitingT, receiveT, memoryCodec, flagCodec, queueCodec, regionCodec, pairCodec, waitingCodec}
 use Rattle.tables.specs.Records.{completionCodec, receiveCodec}
 use Rattle.tables.specs.Limits.{pdCount, cqCount, mrCount, qpCount}
 use Rattle.tables.specs.State.{RegionRows, PairRows, queueAt, regionAt, pairAt, card, cqOf, isLive, unread}
@@ -77,7 +77,7 @@ module _ {l l′ : List ℕ} {n : ℕ} (ok : Accepted l) where
       mrs i c (no x) = rw (o .others i c x) (ok .mrs i c)
 
   pub pair-accepted : PairsOnly l l′ n → qpSound (card l .pd) (cqLive (card l)) n (pairAt l′ n) ≡ true → Accepted l′
-  unfolding outside finish memoryT pdFlagT cqFlagT cqT entryT mrFlagT mrT flagCodec queueCodec completionCodec regionCodec memoryCodec pdOk cqOk mrOk qpOk
+  unfolding outside finish memoryT pdFlagT cqFlagT cqT entryT mrFlagT mrT pageT pageCodec flagCodec queueCodec completionCodec regionCodec memoryCodec pdOk cqOk mrOk qpOk
   pair-accepted o e =
       let b = o .block in
       record {
@@ -145,7 +145,7 @@ module _ (l : List ℕ) (n i : ℕ) where
 module _ {l l′ : List ℕ} {n : ℕ} (ok : Accepted l) where
   pub domain-accepted : n < pdCount → DomainsOnly l l′ n → flagOk (rowAt pdFlagT l′ n) ≡ true
       → (isLive (rowAt pdFlagT l′ n) ≡ true) ⊎ (pdInUse (card l) n ≡ false) → Accepted l′
-  unfolding outside finish memoryT cqFlagT cqT entryT mrFlagT mrT qpFlagT qpT waitingT receiveT flagCodec queueCodec completionCodec regionCodec pairCodec waitingCodec receiveCodec memoryCodec pdOk cqOk mrOk qpOk
+  unfolding outside finish memoryT cqFlagT cqT entryT mrFlagT mrT pageT pageCodec qpFlagT qpT waitingT receiveT flagCodec queueCodec completionCodec regionCodec pairCodec waitingCodec receiveCodec memoryCodec pdOk cqOk mrOk qpOk
   domain-accepted h o f u =
       let b = o .block in
       record {
@@ -177,7 +177,7 @@ module _ {l l′ : List ℕ} {n : ℕ} (ok : Accepted l) where
 
   pub queue-accepted : n < cqCount → QueuesOnly l l′ n → cqSound (queueAt l′ n) ≡ true
       → (isLive (queueAt l′ n .flag) ≡ true) ⊎ (cqInUse (card l) n ≡ false) → Accepted l′
-  unfolding outside finish memoryT pdFlagT mrFlagT mrT qpFlagT qpT waitingT receiveT flagCodec regionCodec pairCodec waitingCodec receiveCodec memoryCodec pdOk cqOk mrOk qpOk cqOf
+  unfolding outside finish memoryT pdFlagT mrFlagT mrT pageT pageCodec qpFlagT qpT waitingT receiveT flagCodec regionCodec pairCodec waitingCodec receiveCodec memoryCodec pdOk cqOk mrOk qpOk cqOf
   queue-accepted h o e u =
       let b = o .block in
       record {

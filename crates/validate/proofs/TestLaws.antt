@@ -2,7 +2,7 @@
 use mathlib.Core.Path.{_≡_, _∙_}
 use mathlib.Core.Bool.{Bool, true, false, _&&_, _||_}
 use mathlib.Core.List.{List}
-use Prim.Native.Nat.{ℕ, _+_, _*_, _≤_, _<_}
+use Prim.Native.Nat.{ℕ, _+_, _-_, _*_, _≤_, _<_}
 use native.Mathlib.Nat.{mul-one, add-zero}
 use native.Mathlib.Omega.{arith}
 use lib.Dec.{eqb, ltb, leb}
@@ -15,10 +15,11 @@ use Rattle.wire.proofs.LeLaws.{zero-word}
 use Rattle.wire.proofs.ScanLaws.{all-at, block-more, and-left, and-right}
 use Rattle.tables.specs.Card.{cqLive}
 use Rattle.tables.specs.Layout.{memoryT, mrFlagT, mrFlagBase, mrT, cqFlagT, cqT, qpFlagT, qpT, flagCodec}
-use Rattle.tables.specs.Limits.{mostPlaces, mostWaiting}
-use Rattle.tables.specs.State.{PairRows, card, queueAt, regionAt, pairAt, unread, posted}
+use Rattle.tables.specs.Limits.{mostPlaces, mostWaiting, pageSize, mostPages}
+use Rattle.tables.specs.State.{PairRows, card, queueAt, regionAt, pairAt, pagesAt, pagesNeeded, unread, posted}
 use Rattle.tables.specs.declared.QueueHead.{QueueHead}
-use Rattle.validate.specs.Accept.{cqOk, mrOk, qpOk, completionOk, receiveOk, queueOk, regionOk, pairOk, namesOk, receivesOk}
+use Rattle.tables.specs.declared.Region.{Region}
+use Rattle.validate.specs.Accept.{cqOk, mrOk, qpOk, completionOk, receiveOk, queueOk, fieldsOk, numbersOk, pagedOk, landOk, pairOk, namesOk, receivesOk}
 
 -- a flag, and the rest of the test
 module _ (flag : ℕ) (b : Bool) where
@@ -49,7 +50,7 @@ module _ (l : List ℕ) (n : ℕ) where
   mr-off e = rw (eq-eqb (rowAt mrFlagT l n) 0 e)
 
   pub mr-rest : (rowAt mrFlagT l n ≡ 0 → ⊥)
-      → mrOk l n ≡ (eqb (rowAt mrFlagT l n) 1 && card l .pd (rowAt mrT l n .pd) && regionOk (rowAt memoryT l 0) (rowAt mrT l n))
+      → mrOk l n ≡ (eqb (rowAt mrFlagT l n) 1 && card l .pd (rowAt mrT l n .pd) && (fieldsOk (rowAt mrT l n) && landOk (rowAt memoryT l 0) (regionAt l n)))
   unfolding mrOk regionAt
   mr-rest e = rw (ne-eqb (rowAt mrFlagT l n) 0 e)
 
@@ -66,6 +67,38 @@ module _ (l : List ℕ) (n : ℕ) where
       → qpOk l n ≡ (namesOk (card l .pd) (cqLive (card l)) (rowAt qpT l n) && pairOk n (rowAt qpT l n) && receivesOk (pairAt l n))
   unfolding qpOk pairAt
   qp-rest e = flag-live (rowAt qpFlagT l n) _ e
+
+-- where a region lies, from its row r
+pub need-most : (start size : ℕ) → start + size ≤ mostPages * pageSize → pagesNeeded start size ≤ mostPages
+unfolding pagesNeeded
+need-most start size h = omega arith
+
+module _ (l : List ℕ) (n memory : ℕ) (r : Region) (is : r ≡ rowAt mrT l n) where
+  pub paged-start : pageSize - 1 < r .start → pagedOk memory (regionAt l n) ≡ false
+  unfolding regionAt
+  paged-start h = rw (← is, lt-leb (r .start) (pageSize - 1) h)
+
+  module _ (offset : r .start ≤ pageSize - 1) where
+    pub paged-long : leb (r .start + r .length) (mostPages * pageSize) ≡ false → pagedOk memory (regionAt l n) ≡ false
+    unfolding regionAt
+    paged-long e = rw (← is, le-leb (r .start) (pageSize - 1) offset, e)
+
+    pub paged-rest : leb (r .start + r .length) (mostPages * pageSize) ≡ true
+        → pagedOk memory (regionAt l n) ≡ numbersOk memory (pagesNeeded (r .start) (r .length)) (pagesAt l n)
+    unfolding regionAt
+    paged-rest e = rw (← is, le-leb (r .start) (pageSize - 1) offset, e)
+
+  pub land-flat : r .kind ≡ 0 → landOk memory (regionAt l n) ≡ leb (r .start + r .length) memory
+  unfolding regionAt
+  land-flat e = rw (← is, eq-eqb (r .kind) 0 e)
+
+  pub land-wrong : (r .kind ≡ 0 → ⊥) → (r .kind ≡ 1 → ⊥) → landOk memory (regionAt l n) ≡ false
+  unfolding regionAt
+  land-wrong e f = rw (← is, ne-eqb (r .kind) 0 e, ne-eqb (r .kind) 1 f)
+
+  pub land-paged : (r .kind ≡ 0 → ⊥) → r .kind ≡ 1 → landOk memory (regionAt l n) ≡ pagedOk memory (regionAt l n)
+  unfolding regionAt
+  land-paged e f = rw (← is, ne-eqb (r .kind) 0 e, eq-eqb (r .kind) 1 f)
 
 -- where a sound queue's oldest completion stands
 pub head-first : (h : QueueHead) → queueOk h ≡ true → h .first < mostPlaces

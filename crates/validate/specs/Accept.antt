@@ -1,19 +1,19 @@
 -- The state test, document 01: "15 exactly if its length is wrong, a stored number, count, QP state, access or region range is outside
 -- this paper's limits (so is a QP that names itself as destination), or a live object names a PD or CQ that isn't live."
 -- What is not live is not looked at. Executable. Assumes nothing.
-use mathlib.Core.Bool.{Bool, not, _&&_, _||_}
+use mathlib.Core.Bool.{Bool, cond, not, _&&_, _||_}
 use mathlib.Core.List.{List}
-use Prim.Native.Nat.{ℕ, _+_}
-use lib.ListN.{length}
+use Prim.Native.Nat.{ℕ, _+_, _-_, _*_, _/_}
+use lib.ListN.{length, getD}
 use lib.Dec.{eqb, ltb, leb}
 use Rattle.wire.specs.Checks.{has, only}
 use Rattle.wire.specs.Scan.{all, allBelow}
 use Rattle.wire.specs.Table.{rowAt}
 use Rattle.tables.specs.Card.{cqLive}
-use Rattle.tables.specs.State.{QueueRows, RegionRows, PairRows, queueAt, regionAt, pairAt, unread, posted, card}
+use Rattle.tables.specs.State.{QueueRows, RegionRows, PairRows, queueAt, regionAt, pairAt, pagesNeeded, unread, posted, card}
 use Rattle.tables.specs.Layout.{stateSize, memoryT, pdFlagT}
 use Rattle.tables.specs.Limits.{pdCount, cqCount, mrCount, qpCount, mostPlaces, mostWaiting}
-use Rattle.tables.specs.Limits.{mostMemory, mostAddress, localWrite, remoteWrite, mostAccess, mostMessage, mostReceiveSges}
+use Rattle.tables.specs.Limits.{mostMemory, mostAddress, pageSize, mostPages, localWrite, remoteWrite, mostAccess, mostMessage, mostReceiveSges}
 use Rattle.tables.specs.declared.Completion.{Completion}
 use Rattle.tables.specs.declared.QueueHead.{QueueHead}
 use Rattle.tables.specs.declared.QueuePair.{QueuePair}
@@ -48,10 +48,26 @@ queueOk h = leb 1 (h .places) && leb (h .places) mostPlaces && ltb (h .first) mo
 abbrev pub accessOk : ℕ → Bool
 accessOk a = only mostAccess a && (not (has remoteWrite a) || has localWrite a)
 
--- a live region: its access (02: "A state with one gives 15"), its variant, its range in the memory and in the addresses
-abbrev pub regionOk : ℕ → Region → Bool
-regionOk memory r =
-    accessOk (r .access) && leb 1 (r .variant) && leb 1 (r .length) && leb (r .start + r .length) memory && leb (r .virt + r .length) mostAddress
+-- a live region's own fields: its access (02, M-102: "A state with one gives 15"), its variant, its range in the addresses
+abbrev pub fieldsOk : Region → Bool
+fieldsOk r = accessOk (r .access) && leb 1 (r .variant) && leb 1 (r .length) && leb (r .virt + r .length) mostAddress
+
+-- its page numbers, those that start + length needs: "with the whole page inside the memory"
+abbrev pub numbersOk : (memory count : ℕ) → (pages : List ℕ) → Bool
+numbersOk memory count ps = allBelow count (λ k. ltb (getD ps k 0) (memory / pageSize))
+
+-- 02, M-105, over pages: "Start is the offset into the first page, 0 to 4095", "exactly the pages that start + length needs, at most 16"
+abbrev pub pagedOk : ℕ → RegionRows → Bool
+pagedOk memory r =
+    leb (r .row .start) (pageSize - 1) && leb (r .row .start + r .row .length) (mostPages * pageSize)
+    && numbersOk memory (pagesNeeded (r .row .start) (r .row .length)) (r .pages)
+
+-- where it lies in the memory, by its kind
+abbrev pub landOk : ℕ → RegionRows → Bool
+landOk memory r = cond (eqb (r .row .kind) 0) (leb (r .row .start + r .row .length) memory) (eqb (r .row .kind) 1 && pagedOk memory r)
+
+abbrev pub regionOk : ℕ → RegionRows → Bool
+regionOk memory r = fieldsOk (r .row) && landOk memory r
 
 -- a live queue pair n: "QP state", its access flags (02, M-104: no bit above 2), and "(so is a QP that names itself as destination)"
 abbrev pub pairOk : ℕ → QueuePair → Bool
@@ -79,7 +95,7 @@ cqOk l n = cqSound (queueAt l n)
 
 -- pd tells the live domains
 abbrev pub mrSound : (pd : ℕ → Bool) → (memory : ℕ) → RegionRows → Bool
-mrSound pd memory r = eqb (r .flag) 0 || (eqb (r .flag) 1 && pd (r .row .pd) && regionOk memory (r .row))
+mrSound pd memory r = eqb (r .flag) 0 || (eqb (r .flag) 1 && pd (r .row .pd) && regionOk memory r)
 
 unfoldable pub mrOk : List ℕ → ℕ → Bool
 mrOk l n = mrSound (card l .pd) (rowAt memoryT l 0) (regionAt l n)

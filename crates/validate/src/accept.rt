@@ -6,6 +6,7 @@ use tables::Region;
 use tables::WaitingHead;
 use tables::limits::CQ_COUNT;
 use tables::limits::ERROR;
+use tables::limits::FLAT;
 use tables::limits::FLUSHED;
 use tables::limits::LOCAL_LENGTH;
 use tables::limits::LOCAL_PROTECTION;
@@ -14,10 +15,13 @@ use tables::limits::MOST_ACCESS;
 use tables::limits::MOST_ADDRESS;
 use tables::limits::MOST_MEMORY;
 use tables::limits::MOST_MESSAGE;
+use tables::limits::MOST_PAGES;
 use tables::limits::MOST_PLACES;
 use tables::limits::MOST_RECEIVE_SGES;
 use tables::limits::MOST_WAITING;
 use tables::limits::MR_COUNT;
+use tables::limits::PAGE_SIZE;
+use tables::limits::PAGED;
 use tables::limits::PD_COUNT;
 use tables::limits::QP_COUNT;
 use tables::limits::RECEIVED_WRITE;
@@ -34,10 +38,10 @@ ghost use Rattle.wire.specs.Scan.{all, allBelow};
 ghost use Rattle.wire.specs.Table.{rowAt};
 ghost use Rattle.tables.specs.Card.{cqLive};
 ghost use Rattle.wire.specs.Ring.{ringList};
-ghost use Rattle.tables.specs.State.{card, pairAt, ringAt, receivesAt, noCompletion, noRecord};
-ghost use Rattle.tables.specs.Layout.{stateSize, memoryT};
-ghost use Rattle.tables.specs.Limits.{pdCount, cqCount, mrCount, qpCount, mostPlaces, mostWaiting};
-ghost use Rattle.validate.specs.Accept.{accepts, isStatus, isState, completionOk, receiveOk, accessOk, regionOk, queueOk, pairOk, pdOk, cqOk, mrOk, qpOk, namesOk, receivesOk};
+ghost use Rattle.tables.specs.State.{card, regionAt, pairAt, ringAt, receivesAt, pagesAt, pagesNeeded, noCompletion, noRecord};
+ghost use Rattle.tables.specs.Layout.{stateSize, memoryT, mrT};
+ghost use Rattle.tables.specs.Limits.{pdCount, cqCount, mrCount, qpCount, mostPlaces, mostWaiting, mostPages};
+ghost use Rattle.validate.specs.Accept.{accepts, isStatus, isState, completionOk, receiveOk, accessOk, fieldsOk, numbersOk, pagedOk, landOk, queueOk, pairOk, pdOk, cqOk, mrOk, qpOk, namesOk, receivesOk};
 
 // Whether protection domain n is live.
 pub fn pd_live(state: &[u8], n: u32) -> bool
@@ -110,8 +114,9 @@ pub fn access_ok(access: u32) -> bool
     known & (!remote | local)
 }
 
-fn region_ok(memory: u64, r: Region) -> bool
-    ensures { λ x. ⌜ x ≡ regionOk memory r ⌝ }
+// A live region's own fields.
+fn fields_ok(r: Region) -> bool
+    ensures { λ x. ⌜ x ≡ fieldsOk r ⌝ }
 {
     if !access_ok(r.access as u32) {
         return false;
@@ -122,10 +127,59 @@ fn region_ok(memory: u64, r: Region) -> bool
     if r.length < 1 {
         return false;
     }
-    if !wire::sum_within(r.start, r.length, memory) {
+    wire::sum_within(r.virt, r.length, MOST_ADDRESS)
+}
+
+// The first count page numbers of region slot n.
+fn numbers_ok(state: &[u8], memory: u64, n: usize, count: usize) -> bool
+    requires { ⌜ (n < mrCount) × (count ≤ mostPages) × (length (now state) ≡ stateSize) ⌝ }
+    ensures { λ x. ⌜ x ≡ numbersOk memory count (pagesAt (now (state .entry)) n) ⌝ }
+{
+    let limit = memory / PAGE_SIZE;
+    let mut k = 0;
+    while k < count {
+        if limit <= rows::load_page(state, MOST_PAGES * n + k) as u64 {
+            return false;
+        }
+        k += 1;
+    }
+    true
+}
+
+// How many pages the bytes need from an offset into the first one on.
+pub fn pages_needed(start: u64, length: u64) -> u64
+    requires { ⌜ start + length ≤ 65536 ⌝ }
+    ensures { λ x. ⌜ x ≡ pagesNeeded start length ⌝ }
+{
+    (start + length + (PAGE_SIZE - 1)) / PAGE_SIZE
+}
+
+// Where a region over pages lies; r is the row of slot n.
+fn paged_ok(state: &[u8], memory: u64, n: usize, r: Region) -> bool
+    requires { ⌜ (n < mrCount) × (length (now state) ≡ stateSize) × (r ≡ rowAt mrT (now state) n) ⌝ }
+    ensures { λ x. ⌜ x ≡ pagedOk memory (regionAt (now (state .entry)) n) ⌝ }
+{
+    if PAGE_SIZE - 1 < r.start {
         return false;
     }
-    wire::sum_within(r.virt, r.length, MOST_ADDRESS)
+    if !wire::sum_within(r.start, r.length, 65536) {
+        return false;
+    }
+    numbers_ok(state, memory, n, pages_needed(r.start, r.length) as usize)
+}
+
+// Where a region lies in the memory; r is the row of slot n.
+fn land_ok(state: &[u8], memory: u64, n: usize, r: Region) -> bool
+    requires { ⌜ (n < mrCount) × (length (now state) ≡ stateSize) × (r ≡ rowAt mrT (now state) n) ⌝ }
+    ensures { λ x. ⌜ x ≡ landOk memory (regionAt (now (state .entry)) n) ⌝ }
+{
+    if r.kind == FLAT {
+        return wire::sum_within(r.start, r.length, memory);
+    }
+    if r.kind != PAGED {
+        return false;
+    }
+    paged_ok(state, memory, n, r)
 }
 
 pub fn is_state(s: u8) -> bool
@@ -229,7 +283,10 @@ fn mr_ok(state: &[u8], memory: u64, n: usize) -> bool
     if !pd_live(state, r.pd as u32) {
         return false;
     }
-    region_ok(memory, r)
+    if !fields_ok(r) {
+        return false;
+    }
+    land_ok(state, memory, n, r)
 }
 
 // The domain and the completion queues that a queue pair names are live.

@@ -7,8 +7,7 @@ use Rattle.tables.specs.State.{card}
 use mathlib.Core.List.{_++_}
 use Rattle.tables.specs.Records.{noSge}
 use Rattle.dma.specs.Moves.{places, readBytes}
-use Rattle.dma.proofs.RegionLaws.{lies}
-use Rattle.dma.proofs.MoveLaws.{room, Left, Turn, turn, gathered, gather-more}
+use Rattle.dma.proofs.MoveLaws.{Left, Turn, turn, gathered, gather-more}
 use Rattle.dma.proofs.transfer.gather.Statement.{statement}
 use Rattle.dma.proofs.transfer.gather.Tie as tie
 
@@ -39,27 +38,18 @@ mul-s c = omega arith
 array-copy-out-s : tie.Need-array-copy-out-s Inv-loop μ-loop
 array-copy-out-s c = omega arith
 
-cast-n : tie.Need-cast-n Inv-loop μ-loop
-cast-n c = omega arith
+copy-out-requires : tie.Need-copy-out-requires Inv-loop μ-loop
+copy-out-requires c κs =
+    let s = c .before .before .before .before .before .before .before in
+    let w = step (c .before .before) in
+    (s .pre .0, (w .maps, omega (arith, w .fits), omega (arith, w .fits)))
 
-place-of-requires : tie.Need-place-of-requires Inv-loop μ-loop
-place-of-requires c κs =
-    let b = c .before .before in
-    let s = b .before .before .before .before .before in
-    (s .pre .0 .accepted, s .pre .0 .size, step b .maps)
-
-copy-bytes-requires : tie.Need-copy-bytes-requires Inv-loop μ-loop
-copy-bytes-requires c κs =
-    let b = c .before .before .before .before in
-    let s = b .before .before .before .before .before in
-    let w = step b in
-    let e = lies (now (s .args .state)) (now (s .args .memory)) (s .pre .0) (getD (s .args .t3) (b .before .loop .i) noSge) (w .maps) in
-    let k = room (card (now (s .args .state))) (now (s .args .memory)) (getD (s .args .t3) (b .before .loop .i) noSge) e _ (c .before .place-of .ensures) in
-    (omega arith, k)
+cast-at : tie.Need-cast-at Inv-loop μ-loop
+cast-at c = omega arith
 
 add-at : tie.Need-add-at Inv-loop μ-loop
 add-at c =
-    let w = step (c .before .before .before .before .before .before .before) in
+    let w = step (c .before .before .before .before .before .before) in
     omega arith
 
 add-i : tie.Need-add-i Inv-loop μ-loop
@@ -70,16 +60,13 @@ loop-less c = omega arith
 
 loop-again : tie.Need-loop-again Inv-loop μ-loop
 loop-again c =
-    let b = c .before .before .before .before .before .before .before in
-    let s = b .before .before .before .before .before in
-    let l = b .before .loop in
-    let w = step b in
-    let p = getD (s .args .t3) (l .i) noSge in
-    let e = lies (now (s .args .state)) (now (s .args .memory)) (s .pre .0) p (w .maps) in (
+    let s = c .before .before .before .before .before .before .before .before .before .before .before in
+    let l = c .before .before .before .before .before .before .before .loop in
+    let w = step (c .before .before .before .before .before .before) in (
       w .next,
-      c .before .before .copy-bytes .kept .0 ∙ l .inv .1,
-      gather-more (card (now (s .args .state))) (now (s .args .memory)) p e _ (c .before .before .before .before .place-of .ensures) (l .staging) _ (l .at)
-          (drop (l .i + 1) (take (s .args .count) (s .args .t3))) _ (omega arith) (c .before .before .copy-bytes .ensures) (rw (w .cons) at (l .inv .2)),
+      c .before .before .before .copy-out .kept .1 .1 .1 .0 ∙ l .inv .1,
+      gather-more (card (now (s .args .state))) (now (s .args .memory)) (getD (s .args .t3) (l .i) noSge) (l .staging) _ (l .at)
+          (drop (l .i + 1) (take (s .args .count) (s .args .t3))) _ (c .before .before .before .copy-out .ensures) (rw (w .cons) at (l .inv .2)),
     )
 
 same-length : tie.Need-same-length Inv-loop μ-loop
@@ -100,9 +87,8 @@ gather-spec =
     loop-holds
     mul-s
     array-copy-out-s
-    cast-n
-    place-of-requires
-    copy-bytes-requires
+    copy-out-requires
+    cast-at
     add-at
     add-i
     loop-less

@@ -20,7 +20,7 @@ slice-aggregate-scatter c = search needs
 scatter-requires : tie.Need-scatter-requires
 scatter-requires c κs =
     let s = c .before .before .before .before .before .before .before .before in
-    (s .pre .0, (s .pre .1 .0, s .pre .1 .1, omega (arith, c .before .before .before .copy-bytes .kept .0)))
+    (s .pre .0, (s .pre .1 .0, s .pre .1 .1, omega (arith, c .before .before .before .copy-bytes .kept .0), omega arith))
 
 same-length : tie.Need-same-length
 same-length c = search needs

@@ -7,8 +7,7 @@ use Rattle.tables.specs.State.{card}
 use Rattle.rules.specs.Lists.{stored}
 use Rattle.tables.specs.Records.{noSge}
 use Rattle.dma.specs.Moves.{places}
-use Rattle.dma.proofs.RegionLaws.{Lies, lies}
-use Rattle.dma.proofs.MoveLaws.{room, Left, Turn, turn, scattered, scatter-more}
+use Rattle.dma.proofs.MoveLaws.{Left, Turn, turn, scattered, scatter-more}
 use Rattle.dma.proofs.transfer.scatter.Statement.{statement}
 use Rattle.dma.proofs.transfer.scatter.Tie as tie
 
@@ -30,14 +29,6 @@ step b =
     let four : length (s .args .t3) ≡ 4 = s .good .1 .1 .0 .1 .0 .1 in
     turn (card (now (s .args .state))) (s .args .t3) (s .args .count) (l .i) (l .at) (l .inv .0) (omega arith) (omega arith)
 
--- the entry of the turn lies in memory
-entry : (b : tie.In-loop Inv-loop μ-loop)
-    → Lies (card (now (b .before .before .before .before .before .args .state))) (length (b .before .loop .memory)) (getD (b .before .before .before .before .before .args .t3) (b .before .loop .i) noSge)
-entry b =
-    let s = b .before .before .before .before .before in
-    let l = b .before .loop in
-    lies (now (s .args .state)) (l .memory) (record { accepted = s .pre .0 .accepted; size = s .pre .0 .size; whole = l .inv .1 ∙ s .pre .0 .whole }) (getD (s .args .t3) (l .i) noSge) (step b .maps)
-
 loop-holds : tie.Need-loop-holds Inv-loop μ-loop
 loop-holds c = (record { turns = omega arith; sum = omega arith; maps = c .before .before .before .pre .1 .1 }, refl, refl)
 
@@ -47,27 +38,20 @@ mul-s c = omega arith
 array-copy-out-s : tie.Need-array-copy-out-s Inv-loop μ-loop
 array-copy-out-s c = omega arith
 
-cast-n : tie.Need-cast-n Inv-loop μ-loop
-cast-n c = omega arith
+copy-in-requires : tie.Need-copy-in-requires Inv-loop μ-loop
+copy-in-requires c κs =
+    let s = c .before .before .before .before .before .before .before in
+    let w = step (c .before .before) in (
+      record { accepted = s .pre .0 .accepted; size = s .pre .0 .size; whole = c .before .before .before .loop .inv .1 ∙ s .pre .0 .whole },
+      (w .maps, omega (arith, w .fits), omega (arith, w .fits)),
+    )
 
-place-of-requires : tie.Need-place-of-requires Inv-loop μ-loop
-place-of-requires c κs =
-    let b = c .before .before in
-    let s = b .before .before .before .before .before in
-    (s .pre .0 .accepted, s .pre .0 .size, step b .maps)
-
-copy-bytes-requires : tie.Need-copy-bytes-requires Inv-loop μ-loop
-copy-bytes-requires c κs =
-    let b = c .before .before .before .before in
-    let s = b .before .before .before .before .before in
-    let l = b .before .loop in
-    let w = step b in
-    let k = room (card (now (s .args .state))) (l .memory) (getD (s .args .t3) (l .i) noSge) (entry b) _ (c .before .place-of .ensures) in
-    (k, omega arith)
+cast-at : tie.Need-cast-at Inv-loop μ-loop
+cast-at c = omega arith
 
 add-at : tie.Need-add-at Inv-loop μ-loop
 add-at c =
-    let w = step (c .before .before .before .before .before .before .before) in
+    let w = step (c .before .before .before .before .before .before) in
     omega arith
 
 add-i : tie.Need-add-i Inv-loop μ-loop
@@ -78,14 +62,13 @@ loop-less c = omega arith
 
 loop-again : tie.Need-loop-again Inv-loop μ-loop
 loop-again c =
-    let b = c .before .before .before .before .before .before .before in
-    let s = b .before .before .before .before .before in
-    let l = b .before .loop in
-    let w = step b in (
+    let s = c .before .before .before .before .before .before .before .before .before .before .before in
+    let l = c .before .before .before .before .before .before .before .loop in
+    let w = step (c .before .before .before .before .before .before) in (
       w .next,
-      c .before .before .copy-bytes .kept .0 ∙ l .inv .1,
-      scatter-more (card (now (s .args .state))) (l .memory) (getD (s .args .t3) (l .i) noSge) (entry b) _ (c .before .before .before .before .place-of .ensures) _ (now (s .args .staging)) (l .at)
-          (drop (l .i + 1) (take (s .args .count) (s .args .t3))) _ (omega arith) (c .before .before .copy-bytes .ensures) (rw (w .cons) at (l .inv .2)),
+      c .before .before .before .copy-in .kept .1 .0 ∙ l .inv .1,
+      scatter-more (card (now (s .args .state))) (l .memory) (getD (s .args .t3) (l .i) noSge) _ (now (s .args .staging)) (l .at)
+          (drop (l .i + 1) (take (s .args .count) (s .args .t3))) _ (omega arith) (c .before .before .before .copy-in .ensures) (rw (w .cons) at (l .inv .2)),
     )
 
 same-length : tie.Need-same-length Inv-loop μ-loop
@@ -106,9 +89,8 @@ scatter-spec =
     loop-holds
     mul-s
     array-copy-out-s
-    cast-n
-    place-of-requires
-    copy-bytes-requires
+    copy-in-requires
+    cast-at
     add-at
     add-i
     loop-less

@@ -20,7 +20,8 @@ slice-aggregate-scatter c = search needs
 scatter-requires : tie.Need-scatter-requires
 scatter-requires c κs =
     let s = c .before .before .before .before .before .before .before .before in
-    (s .pre .0, (s .pre .1 .1, s .pre .1 .2 .targets, omega (arith, c .before .before .before .gather .kept .1 .1 .1 .1 .0, s .pre .1 .2 .total, s .pre .1 .2 .most)))
+    let m = s .pre .1 .2 in
+    (s .pre .0, (s .pre .1 .1, m .targets, omega (arith, c .before .before .before .gather .kept .1 .1 .1 .1 .0, m .total, m .most), omega (arith, m .total, m .most)))
 
 same-length : tie.Need-same-length
 same-length c = search needs

@@ -27,6 +27,9 @@ array-read-t12 c = search needs
 array-read-t15 : tie.Need-array-read-t15
 array-read-t15 c = search needs
 
+array-read-t18 : tie.Need-array-read-t18
+array-read-t18 c = search needs
+
 add-get64 : tie.Need-add-get64
 add-get64 c = search needs
 
@@ -59,6 +62,7 @@ load-mr-spec =
     array-read-t9
     array-read-t12
     array-read-t15
+    array-read-t18
     add-get64
     get64-requires
     add-get64-2

@@ -5,6 +5,7 @@ use denote.Ref.{now}
 use Rattle.wire.specs.Table.{rowAt}
 use Rattle.tables.specs.Layout.{mrFlagT, mrT}
 use Rattle.tables.specs.State.{card}
+use Rattle.validate.specs.Accept.{fieldsOk}
 use Rattle.validate.proofs.TestLaws.{mr-off, mr-rest}
 use borrow.Author.Needs.{needs}
 use Rattle.validate.proofs.accept.mr_ok.Statement.{statement}
@@ -42,17 +43,34 @@ returns-3 c =
     let d : card (now (a .state)) .pd (rowAt mrT (now (a .state)) (a .n) .pd) ≡ false = rw (← c .before .before .before .load-mr .ensures) (sym (c .before .pd-live .ensures) ∙ not-true _ (c .if3 .taken)) in
     rw (mr-rest (now (a .state)) (a .n) e, eq-eqb (rowAt mrFlagT (now (a .state)) (a .n)) 1 f, d)
 
-region-ok-requires : tie.Need-region-ok-requires
-region-ok-requires c κs = search needs
+fields-ok-requires : tie.Need-fields-ok-requires
+fields-ok-requires c κs = search needs
 
 returns-4 : tie.Need-returns-4
 returns-4 c =
-    let a = c .before .before .before .before .before .before .before .before .before .args in
-    let q = c .before .before .before .before .before .before .before .load-mr-flag .ensures in
-    let e : rowAt mrFlagT (now (a .state)) (a .n) ≡ 0 → ⊥ = rw q at (c .before .before .before .before .before .before .if1 .left) in
+    let a = c .before .before .before .before .before .before .before .before .before .before .args in
+    let q = c .before .before .before .before .before .before .before .before .load-mr-flag .ensures in
+    let m = c .before .before .before .before .before .load-mr .ensures in
+    let e : rowAt mrFlagT (now (a .state)) (a .n) ≡ 0 → ⊥ = rw q at (c .before .before .before .before .before .before .before .if1 .left) in
     let f : rowAt mrFlagT (now (a .state)) (a .n) ≡ 1 = (cc) in
-    let d : card (now (a .state)) .pd (rowAt mrT (now (a .state)) (a .n) .pd) ≡ true = rw (← c .before .before .before .before .load-mr .ensures) (sym (c .before .before .pd-live .ensures) ∙ not-false _ (c .before .if3 .left)) in
-    rw (mr-rest (now (a .state)) (a .n) e, eq-eqb (rowAt mrFlagT (now (a .state)) (a .n)) 1 f, d) (cc)
+    let d : card (now (a .state)) .pd (rowAt mrT (now (a .state)) (a .n) .pd) ≡ true = rw (← m) (sym (c .before .before .before .pd-live .ensures) ∙ not-false _ (c .before .before .if3 .left)) in
+    let g : fieldsOk (rowAt mrT (now (a .state)) (a .n)) ≡ false = rw (← m) (sym (c .before .fields-ok .ensures) ∙ not-true _ (c .if4 .taken)) in
+    rw (mr-rest (now (a .state)) (a .n) e, eq-eqb (rowAt mrFlagT (now (a .state)) (a .n)) 1 f, d, g)
+
+land-ok-requires : tie.Need-land-ok-requires
+land-ok-requires c κs = search needs
+
+returns-5 : tie.Need-returns-5
+returns-5 c =
+    let s = c .before .before .before .before .before .before .before .before .before .before .before in
+    let a = s .args in
+    let q = c .before .before .before .before .before .before .before .before .before .load-mr-flag .ensures in
+    let m = c .before .before .before .before .before .before .load-mr .ensures in
+    let e : rowAt mrFlagT (now (a .state)) (a .n) ≡ 0 → ⊥ = rw q at (c .before .before .before .before .before .before .before .before .if1 .left) in
+    let f : rowAt mrFlagT (now (a .state)) (a .n) ≡ 1 = (cc) in
+    let d : card (now (a .state)) .pd (rowAt mrT (now (a .state)) (a .n) .pd) ≡ true = rw (← m) (sym (c .before .before .before .before .pd-live .ensures) ∙ not-false _ (c .before .before .before .if3 .left)) in
+    let g : fieldsOk (rowAt mrT (now (a .state)) (a .n)) ≡ true = rw (← m) (sym (c .before .before .fields-ok .ensures) ∙ not-false _ (c .before .if4 .left)) in
+    rw (mr-rest (now (a .state)) (a .n) e, eq-eqb (rowAt mrFlagT (now (a .state)) (a .n)) 1 f, d, g) (c .land-ok .ensures ∙ rw (s .pre .2))
 
 pub mr-ok-spec : {M : Type 1} → statement M
 mr-ok-spec =
@@ -65,5 +83,7 @@ mr-ok-spec =
     cast-pd-live
     pd-live-requires
     returns-3
-    region-ok-requires
-    returns-4)
+    fields-ok-requires
+    returns-4
+    land-ok-requires
+    returns-5)

@@ -1,0 +1,87 @@
+use borrow.Author.Needs.{needs}
+use denote.Ref.{now}
+use Prim.Native.Nat.{ℕ, _≤_, _<_, _-_, _/_}
+use mathlib.Core.Path.{_≡_, refl, sym, ap, _∙_}
+use mathlib.Core.Bool.{Bool, true, false}
+use native.Mathlib.Omega.{arith}
+use lib.Dec.{ltb}
+use lib.ListN.{getD}
+use borrow.Author.Tests.{lt-ltb, le-ltb}
+use Rattle.wire.specs.Scan.{allBelow}
+use Rattle.wire.proofs.ScanLaws.{all-none, all-more, all-fails}
+use Rattle.tables.specs.Limits.{pageSize, mostPages}
+use Rattle.tables.specs.State.{pagesAt}
+use Rattle.tables.proofs.ObjectLaws.{page-at}
+use Rattle.validate.proofs.accept.numbers_ok.Statement.{statement}
+use Rattle.validate.proofs.accept.numbers_ok.Tie as tie
+use Rattle.validate.proofs.accept.numbers_ok.Reads as reads
+use Rattle.validate.proofs.accept.numbers_ok.Lts as lts
+use Rattle.tables.proofs.rows.load_page.Reads as load-page-reads
+
+abbrev Inv-loop : tie.InvT-loop
+Inv-loop state memory n count limit k₀ k =
+    (k ≤ count) × (limit ≡ memory / pageSize) × (allBelow k (λ j. ltb (getD (pagesAt state n) j 0) (memory / pageSize)) ≡ true)
+
+abbrev μ-loop : tie.MeasureT-loop
+μ-loop state memory n count limit k₀ k = count - k
+
+loop-holds : tie.Need-loop-holds Inv-loop μ-loop
+loop-holds c = (search needs, search needs, all-none _)
+
+mul-load-page : tie.Need-mul-load-page Inv-loop μ-loop
+mul-load-page c = search needs
+
+add-load-page : tie.Need-add-load-page Inv-loop μ-loop
+add-load-page c = search needs
+
+load-page-requires : tie.Need-load-page-requires Inv-loop μ-loop
+load-page-requires c κs = search needs
+
+cast-if1 : tie.Need-cast-if1 Inv-loop μ-loop
+cast-if1 c = search needs
+
+returns : tie.Need-returns Inv-loop μ-loop
+returns c =
+    let a = c .before .before .before .before .before .args in
+    let h = c .before .before .before .loop in
+    let p : ℕ → Bool = λ j. ltb (getD (pagesAt (now (a .state)) (a .n)) j 0) (a .memory / pageSize) in
+    let g : getD (pagesAt (now (a .state)) (a .n)) (h .k) 0 ≡ c .before .load-page .result =
+    page-at (now (a .state)) (a .n) (h .k) (search needs) ∙ sym (c .before .load-page .ensures) in
+    let e : p (h .k) ≡ false = ap (λ (x : ℕ). ltb x (a .memory / pageSize)) g ∙ le-ltb _ _ (c .if1 .taken) in
+    sym (all-fails (a .count) p (h .k) (search needs) e)
+
+add-k : tie.Need-add-k Inv-loop μ-loop
+add-k c = search needs
+
+loop-less : tie.Need-loop-less Inv-loop μ-loop
+loop-less c = search needs
+
+loop-again : tie.Need-loop-again Inv-loop μ-loop
+loop-again c =
+    let a = c .before .before .before .before .before .args in
+    let h = c .before .before .before .loop in
+    let p : ℕ → Bool = λ j. ltb (getD (pagesAt (now (a .state)) (a .n)) j 0) (a .memory / pageSize) in
+    let g : getD (pagesAt (now (a .state)) (a .n)) (h .k) 0 ≡ c .before .load-page .result =
+    page-at (now (a .state)) (a .n) (h .k) (search needs) ∙ sym (c .before .load-page .ensures) in
+    let e : p (h .k) ≡ true = ap (λ (x : ℕ). ltb x (a .memory / pageSize)) g ∙ lt-ltb _ _ (c .if1 .left) in
+    (search needs, refl, all-more (h .k) p (h .inv .2) e)
+
+returns-2 : tie.Need-returns-2 Inv-loop μ-loop
+returns-2 c = let h = c .before .loop in let e : h .k ≡ c .before .before .before .args .count = omega arith in sym (rw e at (h .inv .2))
+
+pub numbers-ok-spec : {M : Type 1} → statement M
+numbers-ok-spec =
+    tie.close
+    (tie.spec
+    Inv-loop
+    μ-loop
+    loop-holds
+    mul-load-page
+    add-load-page
+    load-page-requires
+    cast-if1
+    returns
+    add-k
+    loop-less
+    loop-again
+    returns-2)
