@@ -34,11 +34,16 @@ unfolding pagedChecks pagesNeeded all lowest lowestFrom
 accepted = refl
 
 -- no page; a page too few, and one too many; a start past the first page; no multiple; a last part page; an end that would wrap
-pub refused : asked 8192 0 1 [] ∷ asked 8192 4095 2 (0 ∷ []) ∷ asked 8192 0 4096 (0 ∷ 4096 ∷ []) ∷ asked 8192 4096 1 (0 ∷ []) ∷
+pub refused : asked 8192 0 1 [] ∷ asked 8192 4095 2 (0 ∷ []) ∷ asked 8192 0 4096 (0 ∷ 4096 ∷ []) ∷ asked 8192 4096 1 (0 ∷ 4096 ∷ []) ∷
     asked 8192 0 1 (1 ∷ []) ∷ asked 5000 0 1 (4096 ∷ []) ∷ asked 8192 0 1 ((2 ^ 64 - 4096) ∷ []) ∷ []
     ≡ some 11 ∷ some 11 ∷ some 11 ∷ some 11 ∷ some 11 ∷ some 11 ∷ some 11 ∷ []
 unfolding pagedChecks pagesNeeded all lowest lowestFrom
 refused = refl
+
+-- no byte, with no page and with one
+pub empty : asked 8192 0 0 [] ∷ asked 8192 1 0 (0 ∷ []) ∷ [] ≡ some 11 ∷ some 11 ∷ []
+unfolding pagedChecks pagesNeeded all lowest lowestFrom
+empty = refl
 
 -- a need of 17 pages, with 17; a length whose sum with the start passes 2^64, with the pages that a sum that wraps would need
 pub too-long : asked 8192 1 65536 (replicate 17 0) ∷ asked 8192 4095 (2 ^ 64 - 1) (0 ∷ []) ∷ asked 8192 1 (2 ^ 64 - 1) [] ∷ []
