@@ -19,6 +19,7 @@ use Rattle.judge.specs.Log.{Log, Note, KeyNote, PairNote}
 pub record Standing : Type 0 where
   pub mrn : ℕ
   pub reg : Registration
+  -- the first bytes of its pages; none where its bytes are adjacent
   pub pages : List ℕ
 
 abbrev pub unless : (mrn : ℕ) → Option Standing → Option Standing
@@ -176,7 +177,7 @@ abbrev pub placeBy : Option Standing → (a : ℕ) → ℕ
 placeBy none a = 0
 placeBy (some h) a = byteOf (h .pages) (h .reg) a
 
--- "It is then memory byte start + (address − virt)."
+-- "It is then memory byte start + (address − virt)."; 02, M-105: "Start is the offset into the first page", by the one definition of both kinds
 unfoldable pub placed : Log → Byte → ℕ
 placed l b = placeBy (standing l (b .key)) (b .address)
 
@@ -262,6 +263,7 @@ abbrev pub valueOf : Log → (m : List ℕ) → Source → ℕ
 valueOf l m (literal v) = v
 valueOf l m (byte b) = getD m (placed l b) 0
 
--- the memory after the request: "Success writes message bytes 0, 1, .. in turn .. with the values before the call"
+-- the memory after the request: "Success writes message bytes 0, 1, .. in turn .. with the values before the call"; 02, M-105: "the later byte
+-- of the message wins, inside one piece too; demand 3 reads so"
 unfoldable pub judgedMemory : Log → Work → (m : List ℕ) → List ℕ
 judgedMemory l w m = cond (moves l w) (stored m (map (placed l) (writtenSide l w .bytes)) (map (valueOf l m) (sources l w))) m

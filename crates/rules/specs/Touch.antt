@@ -119,6 +119,7 @@ targetBytes r w = cond (reads (r .opcode)) (ownBytes r) (farBytes r w)
 unfoldable pub message : (at : Byte → ℕ) → Request → Receive → (m : List ℕ) → List ℕ
 message at r w m = cond (r .inline) (r .bytes) (map (λ b. getD m (at b) 0) (sourceBytes r w))
 
--- "All source bytes are read before any is written; pieces fill in list order, a later one overwriting"
+-- "All source bytes are read before any is written; pieces fill in list order, a later one overwriting"; 02, M-105: "the later byte of the
+-- message wins, inside one piece too"
 unfoldable pub delivered : (at : Byte → ℕ) → Request → Receive → (m : List ℕ) → List ℕ
 delivered at r w m = stored m (map at (targetBytes r w)) (message at r w m)
