@@ -57,7 +57,7 @@ register d s v = command (7 ∷ (four d ++ four 7 ++ eight s ++ eight 4 ++ eight
 
 -- a region over pages in domain 0 with all rights: start 4094, so that two bytes of the first page are its own, 8,194 bytes, virt 200
 abbrev pub registerPages : (pages : List ℕ) → Call
-registerPages ps = Call.pages (6 ∷ 7 ∷ (four 0 ++ four 7 ++ eightOf 254 15 ++ eightOf 2 32 ++ eight 200)) ps (replicate 13 9)
+registerPages ps = Call.registerPages (6 ∷ 7 ∷ (four 0 ++ four 7 ++ eightOf 254 15 ++ eightOf 2 32 ++ eight 200)) ps (replicate 13 9)
 
 abbrev pub deregister : (mrn : ℕ) → Call
 deregister n = command (8 ∷ four n)

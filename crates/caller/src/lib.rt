@@ -18,7 +18,7 @@ pub fn control(state: &mut [u8], command: &[u8], ack: &mut [u8]) -> u32
 }
 
 pub fn register_pages(state: &mut [u8], command: &[u8], pages: &[u64], ack: &mut [u8]) -> u32
-    ensures { λ r. ⌜ FromC (now (state .entry)) (seen (Call.pages (now (command .entry)) (now (pages .entry)) (now (ack .entry))) r (now (state .exit)) [] (now (ack .exit))) ⌝ }
+    ensures { λ r. ⌜ FromC (now (state .entry)) (seen (Call.registerPages (now (command .entry)) (now (pages .entry)) (now (ack .entry))) r (now (state .exit)) [] (now (ack .exit))) ⌝ }
 {
     engine::lesungkap_register_pages(state, command, pages, ack)
 }
@@ -77,7 +77,7 @@ pub fn run(
 ) -> Results
     ensures { λ r. ⌜ Served (now (state .entry)) (turn (Call.reset size) (r .reset) [] [])
         (turn (Call.control (now (command .entry)) (now (ack .entry))) (r .control) [] (now (ack .exit))
-        ∷ turn (Call.pages (now (region .entry)) (now (pages .entry)) (now (keys .entry))) (r .pages) [] (now (keys .exit))
+        ∷ turn (Call.registerPages (now (region .entry)) (now (pages .entry)) (now (keys .entry))) (r .pages) [] (now (keys .exit))
         ∷ turn (Call.receive receiver (now (posted .entry))) (r .receive) [] []
         ∷ turn (Call.send sender (now (sent .entry)) (now (memory .entry))) (r .send) (now (memory .exit)) []
         ∷ turn (Call.flush receiver) (r .flush) [] []

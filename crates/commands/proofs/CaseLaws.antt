@@ -25,8 +25,7 @@ use Rattle.tables.specs.declared.Registration.{Registration}
 use Rattle.rules.specs.Permit.{keyOf}
 use Rattle.rules.proofs.Variants.{new-small}
 use Rattle.rules.specs.Control.{commandChecks, commandAck, deviceOf, portOf, newVariant}
-use Rattle.rules.specs.Bytes.{commandBytes}
-use Rattle.rules.specs.Pages.{regionBytes}
+use Rattle.rules.specs.Bytes.{commandBytes, regionBytes}
 use Rattle.commands.specs.Control.{Ran, bare, inRange, destroyOf, liveOf, usedOf}
 use Rattle.commands.specs.declared.Kind.{Kind}
 use Rattle.commands.specs.declared.Kind.the-variants.{Pd, Cq, Mr, Qp}

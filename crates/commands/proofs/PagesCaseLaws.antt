@@ -24,9 +24,10 @@ use Rattle.tables.proofs.ObjectLaws.{memory-is}
 use Rattle.validate.specs.Accept.{accepts, accessOk}
 use Rattle.validate.proofs.AcceptedLaws.{accepted, memory-most}
 use Rattle.validate.specs.Search.{freeMrn}
+use Rattle.rules.specs.Bytes.{regionBytes, putPages, pagedBytes}
 use Rattle.rules.specs.Call.{registrationIn}
 use Rattle.rules.specs.Control.{newVariant}
-use Rattle.rules.specs.Pages.{entriesOk, pagedChecks, regionBytes, putPages, pagedBytes}
+use Rattle.rules.specs.Pages.{entriesOk, pageListChecks}
 use Rattle.rules.specs.Permit.{keyOf}
 use Rattle.rules.proofs.Tests.{refusal-append}
 use Rattle.commands.specs.Pages.{countOk, inPages, Listed, Recorded, recordChecks}
@@ -93,11 +94,11 @@ module _ (l ps : List ℕ) where
   listed-wrong = record { outcome = refl; bytes = refl }
 
   module _ (g : Registration) where
-    refused : (n : ℕ) → refusal (pagedChecks (card l) g ps) ≡ some n → Listed l (register.Value g) ps (Refused n) l
+    refused : (n : ℕ) → refusal (pageListChecks (card l) g ps) ≡ some n → Listed l (register.Value g) ps (Refused n) l
     refused n e = record { outcome = rw e; bytes = rw e }
 
     pub listed-access : accessOk (g .access) ≡ false → Listed l (register.Value g) ps (Refused 4) l
-    unfolding pagedChecks
+    unfolding pageListChecks
     listed-access e = refused 4 (rw e)
 
     -- the tests of answer 11 are one
@@ -114,15 +115,15 @@ module _ (l ps : List ℕ) where
 
     module _ (known : accessOk (g .access) ≡ true) where
       pub listed-dead : card l .pd (g .pd) ≡ false → Listed l (register.Value g) ps (Refused 2) l
-      unfolding pagedChecks
+      unfolding pageListChecks
       listed-dead e = refused 2 (rw (known, e))
 
       module _ (live : card l .pd (g .pd) ≡ true) where
         abbrev memory : ℕ
         memory = rowAt memoryT l 0
 
-        tests : refusal (pagedChecks (card l) g ps) ≡ cond (inPages memory g ps) (refusal (8 if leb mrCount (freeMrn (card l)) ∷ [])) (some 11)
-        unfolding pagedChecks
+        tests : refusal (pageListChecks (card l) g ps) ≡ cond (inPages memory g ps) (refusal (8 if leb mrCount (freeMrn (card l)) ∷ [])) (some 11)
+        unfolding pageListChecks
         tests =
             rw (known, live, memory-is l, over mostAddress (g .virt + g .length), over mostPages (need g ps))
             (six (eqb (g .length) 0) (leb (g .virt + g .length) mostAddress) (leb pageSize (g .start)) (leb (need g ps) mostPages) (eqb (length ps) (need g ps))
@@ -139,7 +140,7 @@ module _ (l ps : List ℕ) where
               → x ≡ regionBytes l 1 g → l′ ≡ putPages x n 0 ps → Listed l (register.Value g) ps (Done (ack.Keys n key)) l′
           unfolding pagedBytes
           listed-done h v e key f x l′ s t =
-              let p : refusal (pagedChecks (card l) g ps) ≡ none = tests ∙ rw (inside, lt-leb mrCount (freeMrn (card l)) (omega arith)) in
+              let p : refusal (pageListChecks (card l) g ps) ≡ none = tests ∙ rw (inside, lt-leb mrCount (freeMrn (card l)) (omega arith)) in
               record {
                 outcome = rw p (ap (λ (y : ℕ). Done (ack.Keys n y)) f ∙ ap₂ (λ (y z : ℕ). Done (ack.Keys y (keyOf y z))) is e);
                 bytes = rw p (t ∙ ap₂ (λ (y : List ℕ) (i : ℕ). putPages y i 0 ps) s is);
@@ -149,7 +150,7 @@ module _ (l ps : List ℕ) where
 
   module _ (k : List ℕ) where
     abbrev later : (number : ℕ) → List Check
-    later n = 13 if not (eqb n 7) ∷ 1 if not (eqb (length k) (2 + registerCodec .size)) ∷ pagedChecks (card l) (registrationIn k) ps
+    later n = 13 if not (eqb n 7) ∷ 1 if not (eqb (length k) (2 + registerCodec .size)) ∷ pageListChecks (card l) (registrationIn k) ps
 
     pub recorded-stopped : (n : ℕ) → refusal (headChecks k) ≡ some n → Recorded l k ps (Refused n) l
     recorded-stopped n e =
@@ -171,7 +172,7 @@ module _ (l ps : List ℕ) where
           go : (b : Bool) → eqb (length k) (2 + registerCodec .size) ≡ b
               → Listed l (cond b (register.Value (registrationIn k)) register.Wrong) ps r l′ → Recorded l k ps r l′
           go true q y =
-              let z : refusal (recordChecks (card l) k ps) ≡ refusal (pagedChecks (card l) (registrationIn k) ps) = rest ∙ rw (eq-eqb n 7 h, q) in
+              let z : refusal (recordChecks (card l) k ps) ≡ refusal (pageListChecks (card l) (registrationIn k) ps) = rest ∙ rw (eq-eqb n 7 h, q) in
               record { outcome = rw z (y .outcome); bytes = rw z (y .bytes) }
           go false q y =
               let z : refusal (recordChecks (card l) k ps) ≡ some 1 = rest ∙ rw (eq-eqb n 7 h, q) in

@@ -19,7 +19,8 @@ use Rattle.tables.specs.Limits.{mrCount, pageSize, mostPages, mostMemory}
 use Rattle.tables.specs.State.{RegionRows, regionAt}
 use Rattle.tables.proofs.KindLaws.{RegionsOnly, only-then}
 use Rattle.tables.proofs.StoreLaws as store
-use Rattle.rules.specs.Pages.{entryOk, entriesOk, putPages}
+use Rattle.rules.specs.Bytes.{putPages}
+use Rattle.rules.specs.Pages.{entryOk, entriesOk}
 use Rattle.commands.proofs.PagesLaws.{entry-inside}
 
 -- ---- stored

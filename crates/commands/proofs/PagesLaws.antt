@@ -14,7 +14,8 @@ use Rattle.wire.specs.Table.{putRow}
 use Rattle.wire.proofs.ScanLaws.{all-nil, all-cons, and-left, and-right}
 use Rattle.tables.specs.Layout.{pageT}
 use Rattle.tables.specs.Limits.{pageSize, mostPages, mostMemory}
-use Rattle.rules.specs.Pages.{entryOk, entriesOk, putPages}
+use Rattle.rules.specs.Bytes.{putPages}
+use Rattle.rules.specs.Pages.{entryOk, entriesOk}
 
 first-left : (ps : List ℕ) (i : ℕ) → i < length ps → drop i ps ≡ getD ps i 0 ∷ drop (i + 1) ps
 first-left ps i h = rw (add-one i, drop-cons ps i 0 h)

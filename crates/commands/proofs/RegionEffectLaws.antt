@@ -32,9 +32,9 @@ use Rattle.tables.proofs.StoreLaws as store
 use Rattle.tables.specs.declared.Region.{Region}
 use Rattle.tables.specs.declared.Registration.{Registration}
 use Rattle.rules.proofs.Variants.{new-small}
-use Rattle.rules.specs.Bytes.{commandBytes}
+use Rattle.rules.specs.Bytes.{commandBytes, regionRow, regionBytes, pagedBytes}
 use Rattle.rules.specs.Control.{commandChecks, commandEffect, newVariant, registered}
-use Rattle.rules.specs.Pages.{pagedChecks, regionRow, regionBytes, pagedBytes, entriesOk}
+use Rattle.rules.specs.Pages.{pageListChecks, entriesOk}
 use Rattle.commands.proofs.EffectLaws.{Kept}
 use Rattle.commands.proofs.PagesEffectLaws.{setNumbers, put-then, put-at, entries-most, pages-back, number-inside}
 
@@ -160,14 +160,14 @@ record Listing (c : Card) (g : Registration) (ps : List ℕ) : Type 0 where
   count : length ps ≡ pagesNeeded (g .start) (g .length)
   entries : entriesOk (c .memory) ps ≡ true
 
-module _ (l : List ℕ) (ok : Accepted l) (g : Registration) (ps : List ℕ) (e : refusal (pagedChecks (card l) g ps) ≡ none) where
+module _ (l : List ℕ) (ok : Accepted l) (g : Registration) (ps : List ℕ) (e : refusal (pageListChecks (card l) g ps) ≡ none) where
   abbrev need : ℕ
   need = pagesNeeded (g .start) (g .length)
 
   listing : Listing (card l) g ps
-  unfolding pagedChecks
+  unfolding pageListChecks
   listing =
-      let t = passed (pagedChecks (card l) g ps) e in
+      let t = passed (pageListChecks (card l) g ps) e in
       let o : g .start < pageSize = leb-false pageSize (g .start) (t .1 .1 .1 .1 .0) in
       record {
         allowed = record {

@@ -44,11 +44,10 @@ ghost use Rattle.tables.specs.State.{card};
 ghost use Rattle.tables.specs.Layout.{stateSize};
 ghost use Rattle.tables.specs.Limits.{cqCount, mrCount, mostPlaces};
 ghost use Rattle.tables.specs.Commands.{Command, ackNeed};
-ghost use Rattle.rules.specs.Bytes.{commandBytes};
+ghost use Rattle.rules.specs.Bytes.{commandBytes, regionBytes};
 ghost use Rattle.rules.specs.Call.{Call};
 ghost use Rattle.rules.specs.Contract.{Owes};
 ghost use Rattle.rules.specs.Control.{newVariant};
-ghost use Rattle.rules.specs.Pages.{regionBytes};
 ghost use Rattle.rules.specs.Permit.{keyOf};
 ghost use Rattle.commands.specs.Control.{Ran, Chosen, Classed, numbered, registering, bare, inRange, outcomeAck, outcomeAnswer};
 

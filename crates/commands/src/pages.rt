@@ -35,7 +35,8 @@ ghost use Rattle.tables.specs.Limits.{mrCount, mostPages, mostMemory};
 ghost use Rattle.validate.specs.Accept.{accepts};
 ghost use Rattle.rules.specs.Call.{Call};
 ghost use Rattle.rules.specs.Contract.{Owes};
-ghost use Rattle.rules.specs.Pages.{entryOk, entriesOk, putPages};
+ghost use Rattle.rules.specs.Bytes.{putPages};
+ghost use Rattle.rules.specs.Pages.{entryOk, entriesOk};
 ghost use Rattle.commands.specs.Pages.{countOk, inPages, Listed, Recorded};
 
 // The bytes of 16 pages.
@@ -145,7 +146,7 @@ fn choose(state: &mut [u8], command: &[u8], pages: &[u64]) -> Outcome
 
 // A registration over a page list: its answer, and what it leaves in the state and in the ack buffer.
 pub fn register_pages(state: &mut [u8], command: &[u8], pages: &[u64], ack: &mut [u8]) -> Answer
-    ensures { λ r. ⌜ Owes (now (state .entry)) (Call.pages (now (command .entry)) (now (pages .entry)) (now (ack .entry))) r (now (state .exit)) [] (now (ack .exit)) ⌝ }
+    ensures { λ r. ⌜ Owes (now (state .entry)) (Call.registerPages (now (command .entry)) (now (pages .entry)) (now (ack .entry))) r (now (state .exit)) [] (now (ack .exit)) ⌝ }
 {
     if !accept::accepted(state) {
         return Answer::Refused(BAD_STATE);

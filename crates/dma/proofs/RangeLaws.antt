@@ -13,7 +13,7 @@ use Rattle.tables.specs.Card.{Card}
 use Rattle.tables.specs.State.{registrationOf}
 use Rattle.tables.specs.declared.Region.{Region}
 use Rattle.tables.specs.declared.Registration.{Registration}
-use Rattle.rules.specs.Pages.{regionRow}
+use Rattle.rules.specs.Bytes.{regionRow}
 use Rattle.rules.specs.Lists.{maybe}
 use Rattle.rules.specs.Permit.{lookup}
 use Rattle.rules.specs.Touch.{Byte, range}

@@ -8,7 +8,7 @@ use Rattle.wire.specs.Checks.{has}
 use Rattle.wire.specs.Scan.{all}
 use Rattle.tables.specs.Card.{Card, Mr}
 use Rattle.tables.specs.declared.Registration.{Registration}
-use Rattle.rules.specs.Pages.{regionRow}
+use Rattle.rules.specs.Bytes.{regionRow}
 use Rattle.rules.specs.Lists.{maybe}
 use Rattle.rules.specs.Permit.{lookup}
 use Rattle.rules.specs.Touch.{Byte}

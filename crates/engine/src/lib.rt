@@ -33,7 +33,7 @@ pub extern "C" fn lesungkap_register_pages(
     pages: &[u64],
     ack: &mut [u8],
 ) -> u32
-    ensures { λ r. ⌜ Exports (now (state .entry)) (Call.pages (now (command .entry)) (now (pages .entry)) (now (ack .entry))) r (now (state .exit)) [] (now (ack .exit)) ⌝ }
+    ensures { λ r. ⌜ Exports (now (state .entry)) (Call.registerPages (now (command .entry)) (now (pages .entry)) (now (ack .entry))) r (now (state .exit)) [] (now (ack .exit)) ⌝ }
 {
     rules::code(pages::register_pages(state, command, pages, ack))
 }

@@ -22,7 +22,7 @@ use Rattle.rules.specs.Lists.{isSome, isEmpty, names, orElse, maybe}
 use Rattle.rules.specs.Touch.{Request, requestOf, receiveIn, takes, fills, total, sgeTotal, ownBytes, farBytes}
 use Rattle.rules.specs.Permit.{permitsAll}
 use Rattle.rules.specs.Control.{commandChecks, commandAck, commandEffect, registered}
-use Rattle.rules.specs.Pages.{pagesChecks, pagedChecks}
+use Rattle.rules.specs.Pages.{pageRecordChecks, pageListChecks}
 use Rattle.validate.specs.Search.{freeMrn, freeQpn}
 use Rattle.rules.specs.Send.{pairChecks, readyChecks, holdChecks, deliveryChecks, isInError, peerOf, takenBy, ready, consumes, fails, errorIf, consumeIf, putAll, ownUse, farUse, statusBy, runStatus, sendStatus, sendQps, sendEffect}
 use Rattle.rules.specs.Queues.{flushesAtOnce, joinStatus, joinPuts, joined, received, flushChecks, flushed, polled}
@@ -94,9 +94,9 @@ module _ (c : Card) (l : Log) (a : Agree c l) where
       record { keys = a .keys; pairs = split q _ (rw same (λ e. absurd (false≢true e))) (λ j e. rw e (a .pairs j)) }
 
   -- one over pages, by the numbers that the judge reads out of its ack
-  paged : (g : Registration) (ps b : List ℕ) → ackLeast ≤ length b → Passed (pagedChecks c g ps) →
+  paged : (g : Registration) (ps b : List ℕ) → ackLeast ≤ length b → Passed (pageListChecks c g ps) →
       Agree (registered c g ps) (noteRegistration (ackData (Command.register g) (encodeAck (commandAck c (Command.register g)) b)) g ps ∷ l)
-  unfolding pagedChecks
+  unfolding pageListChecks
   paged g ps b wide p =
       let i : freeMrn c < mrCount = has-slot-paged c g ps p in
       rw (keys-back b wide c g i)
@@ -268,7 +268,7 @@ posted-agrees c q w l a = record { keys = go (flushesAtOnce c q); pairs = posted
 -- ---- every accepted call
 
 pub accepted-call : (c : Card) (k : Call) (l : Log) → Passed (checks c k) → Agree c l → Agree (effect c k) (fed l k (Done (statusOf c k)) (bufferAfter c k))
-unfolding checks controlChecks pagesChecks flushChecks effect sendEffect flushed polled statusOf bufferAfter fed standing dropped handed Distinct told domain peer accepted taken toldOfBoth errored rights
+unfolding checks controlChecks pageRecordChecks flushChecks effect sendEffect flushed polled statusOf bufferAfter fed standing dropped handed Distinct told domain peer accepted taken toldOfBoth errored rights
 accepted-call c (Call.reset n) l p a = start n
 accepted-call c (Call.control k b) l p a =
     known (commandOf k) (passed-after (controlChecks k b) (maybe [] (commandChecks c) (commandOf k)) p)
@@ -284,9 +284,9 @@ accepted-call c (Call.control k b) l p a =
         (maybe Note.other (λ x. noteCommand x (maybe [] (λ y. ackData y (maybe b (λ q. encodeAck (commandAck c q) b) o)) o)) o ∷ l)
     known none t = a
     known (some x) t = rw (ack-back b wide c x t) (command c l a x t)
-accepted-call c (Call.pages k ps b) l p a =
+accepted-call c (Call.registerPages k ps b) l p a =
     paged c l a (registrationIn k) ps b (ltb-false (length b) ackLeast (p .0))
-    (passed-after (pagesChecks k b) (pagedChecks c (registrationIn k) ps) p)
+    (passed-after (pageRecordChecks k b) (pageListChecks c (registrationIn k) ps) p)
 accepted-call c (Call.send q x m) l p a =
     record { keys = a .keys; pairs = sent-pairs c q (requestOf x) l (sendable c q x m p) a }
 accepted-call c (Call.receive q x) l p a = posted-agrees c q (receiveIn x) l a

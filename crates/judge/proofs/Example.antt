@@ -85,7 +85,7 @@ setup = opened 0 7
 abbrev says : Log → Call → Bool
 says l (Call.reset n) = true
 says l (Call.control k a) = true
-says l (Call.pages k ps a) = true
+says l (Call.registerPages k ps a) = true
 says l (Call.send q x m) = judge l (record { qpn = q; request = requestOf x })
 says l (Call.receive q x) = not (flushesAtOnce l q)
 says l (Call.flush q) = true

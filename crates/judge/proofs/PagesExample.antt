@@ -17,7 +17,7 @@ use Rattle.rules.specs.declared.Answer.{Answer}
 use Rattle.rules.specs.declared.Answer.the-variants.{Done}
 use Rattle.rules.specs.Lists.{stored}
 use Rattle.rules.specs.Touch.{requestOf, receiveIn, range, sgeBytes, sgeTotal, total, ownBytes, farBytes, byteIn, byteOf, message, delivered}
-use Rattle.rules.specs.Pages.{pagesChecks, pagedChecks}
+use Rattle.rules.specs.Pages.{pageRecordChecks, pageListChecks}
 use Rattle.rules.specs.Permit.{permits, permitsAll, place, lookup, covers}
 use Rattle.rules.specs.Control.{commandChecks, commandAck, commandEffect}
 use Rattle.rules.specs.Send.{pairChecks, readyChecks, holdChecks, deliveryChecks, runStatus, sendStatus, sendPuts, putAll, sendQps, sendEffect, sendMemory}
@@ -35,7 +35,7 @@ mem = 1 ∷ 2 ∷ 3 ∷ 4 ∷ 5 ∷ 6 ∷ replicate 8186 0
 -- a region that starts 2 bytes before the end of its first page, over the pages listed
 abbrev paged : (pages : List ℕ) → Call
 paged ps =
-    Call.pages (encode registerCodec (command 7 32) 2 (record { pd = 0; access = 7; start = 4094; length = 8194; virt = 4096 })) ps (replicate 13 9)
+    Call.registerPages (encode registerCodec (command 7 32) 2 (record { pd = 0; access = 7; start = 4094; length = 8194; virt = 4096 })) ps (replicate 13 9)
 
 -- so many bytes from 100 on, which is memory byte 2; the remote address is the first of the region over pages
 abbrev posted : (opcode count : ℕ) → Call
@@ -85,14 +85,14 @@ pub works : map shown (drop 11 (run (fresh 8192) [] (setup ++ (posted 0 4 ∷ po
     ∷ (Done 0, ([], true))
     ∷ (Done 8, (1 ∷ 2 ∷ 3 ∷ 4 ∷ 5 ∷ 6 ∷ 0 ∷ 0 ∷ [], false))
     ∷ []
-unfolding run fieldsAt putFields leAt putLe rows rowsFrom lowest lowestFrom anyBelow commandOf dataSize ackNeed numberCodec registerCodec createQpCodec modifyQpCodec sendCodec sgeCodec receiveCodec completionCodec sendChecks receiveChecks receiveSges receiveOf sendSge inlineBytes inlineLength pagesNeeded pagesChecks pagedChecks all stored requestOf receiveIn range sgeBytes sgeTotal total ownBytes farBytes byteIn byteOf message delivered permits permitsAll place lookup covers commandChecks commandAck commandEffect pairChecks readyChecks holdChecks deliveryChecks runStatus sendStatus sendPuts putAll sendQps sendEffect sendMemory joinChecks joinStatus joinPuts joined received checks controlChecks statusOf effect memoryAfter bufferAfter step fed ackData judge nearPasses farPasses near far passes filled waiting standing told toldOfBoth domain peer accepted taken errored rights
+unfolding run fieldsAt putFields leAt putLe rows rowsFrom lowest lowestFrom anyBelow commandOf dataSize ackNeed numberCodec registerCodec createQpCodec modifyQpCodec sendCodec sgeCodec receiveCodec completionCodec sendChecks receiveChecks receiveSges receiveOf sendSge inlineBytes inlineLength pagesNeeded pageRecordChecks pageListChecks all stored requestOf receiveIn range sgeBytes sgeTotal total ownBytes farBytes byteIn byteOf message delivered permits permitsAll place lookup covers commandChecks commandAck commandEffect pairChecks readyChecks holdChecks deliveryChecks runStatus sendStatus sendPuts putAll sendQps sendEffect sendMemory joinChecks joinStatus joinPuts joined received checks controlChecks statusOf effect memoryAfter bufferAfter step fed ackData judge nearPasses farPasses near far passes filled waiting standing told toldOfBoth domain peer accepted taken errored rights
 works = refl
 
 -- ack, mrn, lkey, rkey; a page too few, and a create PD: the ack byte 1, and later bytes stay
-pub acks : drop 3 (buffers (fresh 8192) (take 4 setup ++ (paged (4096 ∷ 0 ∷ []) ∷ Call.pages (command 4 0) [] (replicate 13 9) ∷ [])))
+pub acks : drop 3 (buffers (fresh 8192) (take 4 setup ++ (paged (4096 ∷ 0 ∷ []) ∷ Call.registerPages (command 4 0) [] (replicate 13 9) ∷ [])))
     ≡ (0 ∷ 1 ∷ 0 ∷ 0 ∷ 0 ∷ 1 ∷ 1 ∷ 0 ∷ 0 ∷ 1 ∷ 1 ∷ 0 ∷ 0 ∷ [])
     ∷ (1 ∷ 9 ∷ 9 ∷ 9 ∷ 9 ∷ 9 ∷ 9 ∷ 9 ∷ 9 ∷ 9 ∷ 9 ∷ 9 ∷ 9 ∷ [])
     ∷ (1 ∷ 9 ∷ 9 ∷ 9 ∷ 9 ∷ 9 ∷ 9 ∷ 9 ∷ 9 ∷ 9 ∷ 9 ∷ 9 ∷ 9 ∷ [])
     ∷ []
-unfolding buffers fieldsAt putFields leAt putLe rows rowsFrom lowest lowestFrom anyBelow commandOf dataSize ackNeed numberCodec registerCodec pagesNeeded pagesChecks pagedChecks all commandChecks commandAck commandEffect checks controlChecks statusOf effect memoryAfter bufferAfter step
+unfolding buffers fieldsAt putFields leAt putLe rows rowsFrom lowest lowestFrom anyBelow commandOf dataSize ackNeed numberCodec registerCodec pagesNeeded pageRecordChecks pageListChecks all commandChecks commandAck commandEffect checks controlChecks statusOf effect memoryAfter bufferAfter step
 acks = refl

@@ -50,7 +50,8 @@ unfoldable pub source : Log → Work → (m : List ℕ) → (i : ℕ) → ℕ
 source l w m i = valueOf l m (sourceAt l w i)
 
 pub record Bytewise (l : Log) (w : Work) (s : ℕ) (m m′ : List ℕ) : Type 0 where
-  -- "On success each byte written takes the value its source had before the call, the later piece winning,"
+  -- "On success each byte written takes the value its source had before the call, the later piece winning,"; 02, M-105: "the later byte of the
+  -- message wins, inside one piece too; demand 3 reads so"
   pub written : s ≡ 0 → (i : ℕ) → i < total (w .request) → ((j : ℕ) → i < j → j < total (w .request) → target l w j ≢ target l w i) →
       getD m′ (target l w i) 0 ≡ source l w m i
   -- "and no other changes;"
@@ -93,7 +94,7 @@ stateAfter st (x ∷ xs) = stateAfter (x .left .state) xs
 abbrev pub workBy : Log → Call → Outcome → Option Work
 workBy l (Call.reset n) o = none
 workBy l (Call.control k a) o = none
-workBy l (Call.pages k ps a) o = none
+workBy l (Call.registerPages k ps a) o = none
 workBy l (Call.send q x m) o = some (record { qpn = q; request = requestOf x })
 workBy l (Call.receive q x) o = none
 workBy l (Call.flush q) o = none
@@ -122,7 +123,7 @@ OfWork P st l x = Ran (λ w s. P l w s (memoryOf (x .call)) (x .left .memory)) (
 abbrev pub postedOn : Call → Option ℕ
 postedOn (Call.reset n) = none
 postedOn (Call.control k a) = none
-postedOn (Call.pages k ps a) = none
+postedOn (Call.registerPages k ps a) = none
 postedOn (Call.send q x m) = none
 postedOn (Call.receive q x) = some q
 postedOn (Call.flush q) = none

@@ -46,7 +46,7 @@ ackData k b = drop 1 (fieldsAt (take (1 + ackNumbers k) ackFields) b 0)
 abbrev pub ackOf : Call → (b : List ℕ) → List ℕ
 ackOf (Call.reset n) b = []
 ackOf (Call.control k a) b = maybe [] (λ c. ackData c b) (commandOf k)
-ackOf (Call.pages k ps a) b = ackData (Command.register (registrationIn k)) b
+ackOf (Call.registerPages k ps a) b = ackData (Command.register (registrationIn k)) b
 ackOf (Call.send q x m) b = []
 ackOf (Call.receive q x) b = []
 ackOf (Call.flush q) b = []
@@ -104,7 +104,7 @@ noteCommand (Command.destroyQp q) a = Note.other
 abbrev pub noteCall : Call → (status : ℕ) → (ack : List ℕ) → Note
 noteCall (Call.reset n) s a = Note.other
 noteCall (Call.control k b) s a = maybe Note.other (λ c. noteCommand c a) (commandOf k)
-noteCall (Call.pages k ps b) s a = noteRegistration a (registrationIn k) ps
+noteCall (Call.registerPages k ps b) s a = noteRegistration a (registrationIn k) ps
 noteCall (Call.send q x m) s a = Note.ofPair q (PairNote.sent (requestOf x) s)
 noteCall (Call.receive q x) s a = Note.ofPair q (PairNote.posted (receiveIn x) s)
 noteCall (Call.flush q) s a = Note.ofPair q PairNote.flushed
@@ -118,7 +118,7 @@ note l e = noteCall (e .call) (e .status) (e .ack)
 abbrev pub begins : Call → Option Log
 begins (Call.reset n) = some []
 begins (Call.control k a) = none
-begins (Call.pages k ps a) = none
+begins (Call.registerPages k ps a) = none
 begins (Call.send q x m) = none
 begins (Call.receive q x) = none
 begins (Call.flush q) = none

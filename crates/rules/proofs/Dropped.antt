@@ -8,7 +8,7 @@ use native.Mathlib.Omega.{arith}
 use lib.Dec.{eqb, leb}
 use lib.ListN.{length, getD}
 use borrow.Author.Tests.{ne-eqb, eqb-true, leb-true, leb-false, le-leb}
-use Rattle.wire.specs.Checks.{refusal, Passed}
+use Rattle.wire.specs.Checks.{Check, refusal, Passed}
 use Rattle.wire.proofs.ScanLaws.{and-left, and-right, both-true}
 use Rattle.wire.specs.Scan.{all}
 use Rattle.wire.specs.Slots.{upd}
@@ -24,10 +24,11 @@ use Rattle.rules.specs.Call.{Call}
 use Rattle.rules.specs.Calls.{checks, effect, statusOf, memoryAfter, settled, step}
 use Rattle.rules.specs.Touch.{Request, requestOf, fills, takes, total, sgeTotal, farBytes}
 use Rattle.rules.specs.Permit.{keyOf, found, lookup, covers, permits, permitsAll}
-use Rattle.rules.specs.Control.{commandChecks, commandEffect, newVariant, registered}
-use Rattle.rules.specs.Pages.{pagedChecks}
+use Rattle.rules.specs.Control.{rangeChecks, registrationChecks, commandChecks, commandEffect, newVariant, registered}
+use Rattle.rules.specs.Pages.{pageRangeChecks, pageListChecks}
 use Rattle.rules.specs.Send.{deliveryChecks, ready, peerOf, takenBy, farUse, errorIf, consumeIf, sendStatus, sendMemory, sendQps, sendPuts, sendEffect, pairChecks, readyChecks, placeChecks, holdChecks, runStatus}
 use Rattle.rules.proofs.Answers.{answered-not-done}
+use Rattle.rules.proofs.Tests.{passed-after}
 use Rattle.rules.proofs.Variants.{slot-free, new-small, slot}
 use Rattle.rules.specs.Dropped.{Fails, Denied, LostBy, Lost, Reaches, farKey, StaleFails, DroppedRegion, HeldStays, KeysDropped, HandedOut, Spent, DropSpends, OldKeysGone, DropRetires, StaysRetired, LargestKey, OldKeyStale, NewKeyStands}
 
@@ -246,15 +247,18 @@ stays-deregisters c n i live =
     (λ h. absurd (true≢false (sym (and-left (not (c .mr i .live)) (leb lastVariant (c .mr i .variant)) h) ∙ live)))
     (λ j e h. rw e h) n
 
+slot-of : (c : Card) (g : Registration) (range : List Check) → Passed (registrationChecks c g range) → freeMrn c < mrCount
+slot-of c g range p = let b = leb-false _ (freeMrn c) (passed-after range _ (p .1 .1) .0) in omega arith
+
 -- a registration that passes its tests has a slot
 pub has-slot : (c : Card) (g : Registration) → Passed (commandChecks c (Command.register g)) → freeMrn c < mrCount
 unfolding commandChecks
-has-slot c g p = let b = leb-false _ (freeMrn c) (p .1 .1 .1 .1 .1 .0) in omega arith
+has-slot c g p = slot-of c g (rangeChecks c g) p
 
 -- and so has one over pages
-pub has-slot-paged : (c : Card) (g : Registration) (ps : List ℕ) → Passed (pagedChecks c g ps) → freeMrn c < mrCount
-unfolding pagedChecks
-has-slot-paged c g ps p = let b = leb-false _ (freeMrn c) (p .1 .1 .1 .1 .1 .1 .1 .1 .0) in omega arith
+pub has-slot-paged : (c : Card) (g : Registration) (ps : List ℕ) → Passed (pageListChecks c g ps) → freeMrn c < mrCount
+unfolding pageListChecks
+has-slot-paged c g ps p = slot-of c g (pageRangeChecks c g ps) p
 
 stays-command : (c : Card) (n : ℕ) (x : Command) → Passed (commandChecks c x) → retired (c .mr n) ≡ true → retired (commandEffect c x .mr n) ≡ true
 unfolding commandChecks commandEffect

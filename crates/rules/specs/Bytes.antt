@@ -1,26 +1,27 @@
 -- The state's bytes after each call that passes its tests: which rows are stored, with what, in which order. Assumes nothing.
 use mathlib.Core.Bool.{Bool, cond}
 use mathlib.Core.List.{List, [], _∷_}
-use Prim.Native.Nat.{ℕ}
+use Prim.Native.Nat.{ℕ, _+_, _*_, _/_}
 use lib.Dec.{eqb}
 use Rattle.wire.specs.Table.{rowAt, putRow}
 use Rattle.tables.specs.State.{card}
-use Rattle.tables.specs.Layout.{pdFlagT, mrFlagT, cqT, qpT, waitingT, cqFlagT, qpFlagT}
-use Rattle.tables.specs.Limits.{qpCount}
+use Rattle.tables.specs.Layout.{pdFlagT, mrFlagT, mrT, pageT, cqT, qpT, waitingT, cqFlagT, qpFlagT}
+use Rattle.tables.specs.Limits.{qpCount, pageSize, mostPages}
 use Rattle.tables.specs.Queue.{pushBytes, popBytes, postBytes, takeBytes}
 use Rattle.tables.specs.Commands.{Command, commandOf}
 use Rattle.tables.specs.Records.{receiveCodec}
 use Rattle.tables.specs.Reset.{resetBytes}
-use Rattle.validate.specs.Search.{freePdn, freeCqn, freeQpn}
+use Rattle.validate.specs.Search.{freePdn, freeCqn, freeMrn, freeQpn}
 use Rattle.tables.specs.declared.CreateQp.{CreateQp}
 use Rattle.tables.specs.declared.ModifyQp.{ModifyQp}
 use Rattle.tables.specs.declared.QueueHead.{QueueHead}
 use Rattle.tables.specs.declared.QueuePair.{QueuePair}
 use Rattle.tables.specs.declared.ReceiveRecord.{ReceiveRecord}
+use Rattle.tables.specs.declared.Region.{Region}
+use Rattle.tables.specs.declared.Registration.{Registration}
 use Rattle.tables.specs.declared.WaitingHead.{WaitingHead}
 use Rattle.rules.specs.Call.{Call, registrationIn}
-use Rattle.rules.specs.Control.{rightsAfter}
-use Rattle.rules.specs.Pages.{regionBytes, pagedBytes}
+use Rattle.rules.specs.Control.{newVariant, rightsAfter}
 use Rattle.rules.specs.Queues.{flushedPut, flushesAtOnce}
 use Rattle.rules.specs.Send.{Put, peerOf, oldest, sendStatus, sendPuts, consumes, fails}
 use Rattle.rules.specs.Touch.{Request, requestOf}
@@ -32,6 +33,16 @@ use Rattle.wire.specs.Codec.{decode}
 -- a completion queue with no completion
 abbrev pub emptyQueue : ℕ → QueueHead
 emptyQueue places = record { places = places; first = 0; count = 0 }
+
+-- the kinds of region: of adjacent bytes, and 02, M-105, over pages
+abbrev pub flatKind : ℕ
+flatKind = 0
+
+abbrev pub pagedKind : ℕ
+pagedKind = 1
+
+abbrev pub regionRow : (kind : ℕ) → Registration → (variant : ℕ) → Region
+regionRow kind g v = record { access = g .access; variant = v; pd = g .pd; kind = kind; start = g .start; length = g .length; virt = g .virt }
 
 -- a new queue pair, in state 0, with no destination and no right
 abbrev pub newPair : CreateQp → QueuePair
@@ -58,6 +69,20 @@ movedPair p r =
 abbrev pub movedHead : WaitingHead → (t : ℕ) → WaitingHead
 movedHead h t = record { first = h .first; count = cond (eqb t 0) 0 (h .count) }
 
+-- ---- a registration
+
+-- the slot that it takes, of either kind
+abbrev pub regionBytes : List ℕ → (kind : ℕ) → Registration → List ℕ
+regionBytes l kind g = let n = freeMrn (card l) in putRow mrFlagT (putRow mrT l n (regionRow kind g (newVariant (card l)))) n 1
+
+-- the numbers of the pages, from place k of the slot n on
+unfoldable pub putPages : List ℕ → (n k : ℕ) → (pages : List ℕ) → List ℕ
+putPages l n k [] = l
+putPages l n k (p ∷ ps) = putPages (putRow pageT l (mostPages * n + k) (p / pageSize)) n (k + 1) ps
+
+unfoldable pub pagedBytes : List ℕ → Registration → (pages : List ℕ) → List ℕ
+pagedBytes l g ps = putPages (regionBytes l pagedKind g) (freeMrn (card l)) 0 ps
+
 -- ---- control commands
 
 unfoldable pub commandBytes : List ℕ → Command → List ℕ
@@ -67,7 +92,7 @@ commandBytes l (Command.createCq n) = let k = freeCqn (card l) in putRow cqFlagT
 commandBytes l (Command.destroyCq n) = putRow cqFlagT l n 0
 commandBytes l Command.createPd = putRow pdFlagT l (freePdn (card l)) 1
 commandBytes l (Command.destroyPd n) = putRow pdFlagT l n 0
-commandBytes l (Command.register g) = regionBytes l 0 g
+commandBytes l (Command.register g) = regionBytes l flatKind g
 commandBytes l (Command.deregister n) = putRow mrFlagT l n 0
 commandBytes l (Command.createQp r) =
     let n = freeQpn (card l) in putRow qpFlagT (putRow qpT (putRow waitingT l n noneWait) n (newPair r)) n 1
@@ -119,7 +144,7 @@ flushBytes l q = takeBytes (flushedBytes l q (oldest (card l .qp q .waiting) .wr
 unfoldable pub effectBytes : List ℕ → Call → List ℕ
 effectBytes l (Call.reset n) = resetBytes n
 effectBytes l (Call.control k a) = maybe l (commandBytes l) (commandOf k)
-effectBytes l (Call.pages k ps a) = pagedBytes l (registrationIn k) ps
+effectBytes l (Call.registerPages k ps a) = pagedBytes l (registrationIn k) ps
 effectBytes l (Call.send q x m) = sendBytes l q (requestOf x)
 effectBytes l (Call.receive q x) = receiveBytes l q (decode receiveCodec x 0)
 effectBytes l (Call.flush q) = flushBytes l q

@@ -12,7 +12,7 @@ pub data Call : Type 0 where
   -- the command, and the ack buffer as it was
   control : (command ack : List ℕ) → Call
   -- 02, M-105, "a second registration call": the record of command 7, "the page list lent beside it as 64-bit numbers", and the ack buffer as it was
-  pages : (command pages ack : List ℕ) → Call
+  registerPages : (command pages ack : List ℕ) → Call
   -- post send: the send record, and the memory as it was
   send : (qpn : ℕ) (sent memory : List ℕ) → Call
   -- post receive: the receive record
@@ -25,7 +25,7 @@ pub data Call : Type 0 where
 abbrev pub memoryOf : Call → List ℕ
 memoryOf (reset n) = []
 memoryOf (control k a) = []
-memoryOf (pages k ps a) = []
+memoryOf (registerPages k ps a) = []
 memoryOf (send q x m) = m
 memoryOf (receive q x) = []
 memoryOf (flush q) = []

@@ -2,7 +2,7 @@
 -- ack, and the card after it.
 -- Assumes nothing.
 use mathlib.Core.Bool.{Bool, true, false, cond, not, _&&_, _||_}
-use mathlib.Core.List.{List, [], _∷_}
+use mathlib.Core.List.{List, [], _∷_, _++_}
 use mathlib.Core.Option.{none, some}
 use Prim.Native.Nat.{ℕ, _+_}
 use lib.Dec.{eqb, ltb, leb}
@@ -45,6 +45,21 @@ destBit = 32768
 
 -- ---- the tests of each command, in the order 4, 2, 11, 3, 10, 8
 
+-- "Range (11): length 0; start + length over the memory length; virt + length over 2^64 − 1"
+abbrev pub rangeChecks : Card → Registration → List Check
+rangeChecks c g =
+    11 if eqb (g .length) 0 ∷
+    11 if ltb (c .memory) (g .start + g .length) ∷
+    11 if ltb mostAddress (g .virt + g .length) ∷
+    []
+
+-- a registration of either kind, each with its own range tests; 02, M-105: "command 7's record, tests and ack as before"
+abbrev pub registrationChecks : Card → Registration → (range : List Check) → List Check
+registrationChecks c g range =
+    4 if not (accessOk (g .access)) ∷
+    2 if not (c .pd (g .pd)) ∷
+    (range ++ (8 if leb mrCount (freeMrn c) ∷ []))
+
 unfoldable pub commandChecks : Card → Command → List Check
 commandChecks c Command.queryDevice = []
 commandChecks c Command.queryPort = []
@@ -52,14 +67,7 @@ commandChecks c (Command.createCq n) = 4 if not (leb 1 n && leb n mostPlaces) �
 commandChecks c (Command.destroyCq n) = 2 if not (cqLive c n) ∷ 10 if cqInUse c n ∷ []
 commandChecks c Command.createPd = 8 if leb pdCount (freePdn c) ∷ []
 commandChecks c (Command.destroyPd n) = 2 if not (c .pd n) ∷ 10 if pdInUse c n ∷ []
-commandChecks c (Command.register g) =
-    4 if not (accessOk (g .access)) ∷
-    2 if not (c .pd (g .pd)) ∷
-    11 if eqb (g .length) 0 ∷
-    11 if ltb (c .memory) (g .start + g .length) ∷
-    11 if ltb mostAddress (g .virt + g .length) ∷
-    8 if leb mrCount (freeMrn c) ∷
-    []
+commandChecks c (Command.register g) = registrationChecks c g (rangeChecks c g)
 commandChecks c (Command.deregister n) = 2 if not (c .mr n .live) ∷ []
 commandChecks c (Command.createQp r) =
     4 if not (eqb (r .kind) 2) ∷
@@ -99,6 +107,10 @@ deviceOf c =
 unfoldable pub portOf : Card → Port
 portOf c = record { gids = 0; message = mostMessage }
 
+-- "mrn, lkey, rkey", of either registration
+abbrev pub newKeys : Card → Ack
+newKeys c = ack.Keys (freeMrn c) (keyOf (freeMrn c) (newVariant c))
+
 unfoldable pub commandAck : Card → Command → Ack
 commandAck c Command.queryDevice = ack.Device (deviceOf c)
 commandAck c Command.queryPort = ack.Port (portOf c)
@@ -106,7 +118,7 @@ commandAck c (Command.createCq n) = ack.Number (freeCqn c)
 commandAck c (Command.destroyCq n) = ack.Done
 commandAck c Command.createPd = ack.Number (freePdn c)
 commandAck c (Command.destroyPd n) = ack.Done
-commandAck c (Command.register g) = ack.Keys (freeMrn c) (keyOf (freeMrn c) (newVariant c))
+commandAck c (Command.register g) = newKeys c
 commandAck c (Command.deregister n) = ack.Done
 commandAck c (Command.createQp r) = ack.Number (freeQpn c)
 commandAck c (Command.modifyQp r) = ack.Done

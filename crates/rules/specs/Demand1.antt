@@ -18,7 +18,7 @@ ackLeft n a = cond (eqb n 12 || eqb n 15) a (set a 0 1)
 abbrev pub bufferLeft : (n : ℕ) → Call → List ℕ
 bufferLeft n (Call.reset k) = []
 bufferLeft n (Call.control k a) = ackLeft n a
-bufferLeft n (Call.pages k ps a) = ackLeft n a
+bufferLeft n (Call.registerPages k ps a) = ackLeft n a
 bufferLeft n (Call.send q x m) = []
 bufferLeft n (Call.receive q x) = []
 bufferLeft n (Call.flush q) = []

@@ -21,7 +21,7 @@ use Rattle.rules.specs.Answer.{isDone}
 use Rattle.rules.specs.Touch.{Request, requestOf, fills, total, sgeTotal, ownBytes, farBytes}
 use Rattle.rules.specs.Permit.{keyOf, lookup, permitsAll}
 use Rattle.rules.specs.Control.{commandChecks, commandEffect, newVariant, registered}
-use Rattle.rules.specs.Pages.{pagedChecks}
+use Rattle.rules.specs.Pages.{pageListChecks}
 use Rattle.rules.specs.Send.{peerOf, takenBy, ownUse, senderPut, receiverPut, putAll, isInError}
 use Rattle.rules.specs.Call.{Call}
 use Rattle.rules.specs.Calls.{step}
@@ -133,13 +133,13 @@ unfoldable pub StaysRetired : Type 0
 StaysRetired =
     (c : Card) (n : ℕ) → retired (c .mr n) ≡ true →
     ((x : Command) → Passed (commandChecks c x) → retired (commandEffect c x .mr n) ≡ true) ×
-    ((g : Registration) (ps : List ℕ) → Passed (pagedChecks c g ps) → retired (registered c g ps .mr n) ≡ true)
+    ((g : Registration) (ps : List ℕ) → Passed (pageListChecks c g ps) → retired (registered c g ps .mr n) ≡ true)
 
 -- 02, M-106: "The largest key is 65,535", of a registration of either kind that passes its tests
 unfoldable pub LargestKey : Type 0
 LargestKey =
     (c : Card) (g : Registration) → let k = keyOf (freeMrn c) (newVariant c) in
-    (Passed (commandChecks c (Command.register g)) → k ≤ 65535) × ((ps : List ℕ) → Passed (pagedChecks c g ps) → k ≤ 65535)
+    (Passed (commandChecks c (Command.register g)) → k ≤ 65535) × ((ps : List ℕ) → Passed (pageListChecks c g ps) → k ≤ 65535)
 
 -- another region in the slot, of either kind, has the new key alone
 unfoldable pub OldKeyStale : Type 0

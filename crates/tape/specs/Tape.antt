@@ -85,7 +85,7 @@ callOf k n b m =
 abbrev pub memoryLeft : (l m : List ℕ) → Call → List ℕ
 memoryLeft l m (Call.reset n) = m
 memoryLeft l m (Call.control k a) = m
-memoryLeft l m (Call.pages k ps a) = m
+memoryLeft l m (Call.registerPages k ps a) = m
 memoryLeft l m (Call.send q x n) = owed card accepts l (Call.send q x n) .memory
 memoryLeft l m (Call.receive q x) = m
 memoryLeft l m (Call.flush q) = m
@@ -103,7 +103,7 @@ ackWritten (Refused n) c k = cond (eqb n 12 || eqb n 15) 0 1
 abbrev pub writtenBy : Answer → Card → Call → ℕ
 writtenBy r c (Call.reset n) = 0
 writtenBy r c (Call.control k a) = ackWritten r c k
-writtenBy r c (Call.pages k ps a) = ackWritten r c k
+writtenBy r c (Call.registerPages k ps a) = ackWritten r c k
 writtenBy r c (Call.send q x m) = 0
 writtenBy r c (Call.receive q x) = 0
 writtenBy r c (Call.flush q) = 0

@@ -4,7 +4,7 @@ use native.Mathlib.Omega.{arith}
 use Prim.Native.Nat.{_≤_, _-_}
 use mathlib.Core.Path.{_≡_, refl, sym, _∙_}
 use lib.ListN.{length, drop}
-use Rattle.rules.specs.Pages.{putPages}
+use Rattle.rules.specs.Bytes.{putPages}
 use Rattle.commands.proofs.PagesLaws.{number-small, put-more, put-done}
 use Rattle.commands.proofs.pages.put_pages.Statement.{statement}
 use Rattle.commands.proofs.pages.put_pages.Tie as tie
