@@ -3,6 +3,7 @@
 
 mod coverage;
 mod guarded;
+mod pages;
 mod side;
 
 use cards::{Call, Card, Reference};
@@ -57,7 +58,7 @@ impl Run {
         self.card = Listing::of(&held);
         self.step(&Call::Reset { memory_length });
         if self.generator.rng().percent(2) {
-            for call in self.generator.many_variants() {
+            for call in self.generator.many_variants(memory_length) {
                 self.step(&call);
             }
         }
