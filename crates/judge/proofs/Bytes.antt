@@ -10,7 +10,6 @@ use lib.ListN.{length, getD, take, length-map, List·getD-map}
 use lib.Seq.{length-take-le}
 use borrow.Author.Tests.{leb-true, eq-eqb, ne-eqb}
 use Rattle.wire.proofs.ScanLaws.{and-left, and-right}
-use Rattle.wire.specs.Scan.{all}
 use Rattle.tables.specs.Limits.{mostMessage}
 use Rattle.rules.specs.Lists.{stored}
 use Rattle.rules.specs.Touch.{Request, Byte, fills, total, sgeTotal, sgeBytes, range, ownBytes, farBytes}

@@ -14,7 +14,7 @@ use Rattle.tables.specs.Commands.{commandOf, dataSize, numberCodec, registerCod
 use Rattle.tables.specs.Records.{sendCodec, sgeCodec, receiveCodec, sendChecks, receiveChecks, receiveSges, sendSge, inlineBytes, inlineLength, completionCodec}
 use Rattle.tables.specs.State.{pagesNeeded}
 use Rattle.rules.specs.declared.Answer.{Answer}
-use Rattle.rules.specs.declared.Answer.the-variants.{Done, Refused}
+use Rattle.rules.specs.declared.Answer.the-variants.{Done}
 use Rattle.rules.specs.Lists.{stored}
 use Rattle.rules.specs.Touch.{requestOf, receiveIn, range, sgeBytes, sgeTotal, total, ownBytes, farBytes, byteIn, byteOf, message, delivered}
 use Rattle.rules.specs.Pages.{pagesChecks, pagedChecks}
