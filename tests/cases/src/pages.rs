@@ -246,8 +246,8 @@ fn entries() -> Vec<Case> {
     let inside = bad_entries(&[20480, 24576, 1 << 16, 1 << 24, 1 << 28, 1 << 32, 4096 << 16, (4096 << 16) + 4096, 1 << 63]);
     let wrapped = bad_entries(&[u64::MAX - 4095, u64::MAX - 8191, u64::MAX - 4094, u64::MAX, u64::MAX - 65535]);
     vec![
-        multiple.named("pages-entry-is-a-multiple-of-4096"),
-        inside.named("pages-entry-lies-in-the-memory"),
+        multiple.named("pages-entry-is-a-multiple"),
+        inside.named("pages-entry-in-the-memory"),
         wrapped.named("pages-entry-does-not-wrap"),
     ]
 }
@@ -255,14 +255,14 @@ fn entries() -> Vec<Case> {
 /// The last page that fits, and the first that does not, of memories with a part page and without.
 fn memories() -> Vec<Case> {
     let rows: [(&str, usize, &[u64], &[u64]); 8] = [
-        ("pages-in-a-memory-of-4096", 4096, &[0], &[4096]),
-        ("pages-in-a-memory-of-5000", 5000, &[0], &[4096, 5000]),
-        ("pages-in-a-memory-of-8191", 8191, &[0], &[4096, 8192]),
-        ("pages-in-a-memory-of-8192", 8192, &[0, 4096], &[8192]),
-        ("pages-in-a-memory-of-8193", 8193, &[0, 4096], &[8192]),
-        ("pages-in-a-memory-of-1048576", 1 << 20, &[0, 1_044_480], &[1 << 20]),
-        ("pages-in-a-memory-of-16777215", 16_777_215, &[0, 16_769_024], &[16_773_120, 1 << 24]),
-        ("pages-in-a-memory-of-16777216", 16_777_216, &[0, 16_769_024, 16_773_120], &[1 << 24, (1 << 24) + 4096]),
+        ("pages-memory-of-4096", 4096, &[0], &[4096]),
+        ("pages-memory-of-5000", 5000, &[0], &[4096, 5000]),
+        ("pages-memory-of-8191", 8191, &[0], &[4096, 8192]),
+        ("pages-memory-of-8192", 8192, &[0, 4096], &[8192]),
+        ("pages-memory-of-8193", 8193, &[0, 4096], &[8192]),
+        ("pages-memory-of-1048576", 1 << 20, &[0, 1_044_480], &[1 << 20]),
+        ("pages-memory-of-16777215", 16_777_215, &[0, 16_769_024], &[16_773_120, 1 << 24]),
+        ("pages-memory-of-16777216", 16_777_216, &[0, 16_769_024, 16_773_120], &[1 << 24, (1 << 24) + 4096]),
     ];
     let mut cases = Vec::new();
     for (name, memory, inside, outside) in rows {
@@ -281,7 +281,7 @@ fn memories() -> Vec<Case> {
     let mut none = Script::over(4095);
     none.create(create_domain(), 0).pages_refused(region(0, 1), &[0], 11).pages_refused(region(0, 1), &[], 11);
     none.register(0, 7, 0, 4095, VIRT, 1);
-    cases.push(none.named("pages-in-a-memory-without-one"));
+    cases.push(none.named("pages-memory-without-one"));
     cases
 }
 
@@ -433,8 +433,8 @@ fn slots() -> Vec<Case> {
     }
     refused.pages_refused(register(0, 2, 0, 1, 0), &[0], 4).pages_refused(vec![6, 7], &[0], 1).register(0, 7, 0, 1, VIRT, 2);
     vec![
-        full.named("pages-full-table-by-both-registrations"),
-        retired.named("pages-255-registrations-of-a-slot-by-both"),
+        full.named("pages-full-table"),
+        retired.named("pages-255-registrations-of-a-slot"),
         refused.named("pages-refused-takes-no-variant"),
     ]
 }

@@ -257,8 +257,8 @@ fn repeats() -> Vec<Case> {
         source.named("pages-repeated-in-a-source"),
         target.named("pages-repeated-in-a-target"),
         one.named("pages-repeated-under-one-piece"),
-        pieces.named("pages-repeated-later-piece-of-a-read-wins"),
-        list.named("pages-repeated-later-piece-of-a-receive-wins"),
+        pieces.named("pages-later-piece-of-a-read-wins"),
+        list.named("pages-later-piece-of-a-receive-wins"),
     ]
 }
 
