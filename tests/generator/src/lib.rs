@@ -65,9 +65,18 @@ impl Generator {
         match self.rng.below(20) {
             0 => 1 + self.rng.below(64),
             1 if self.rng.percent(10) => MOST_MEMORY - self.rng.below(2),
-            1 => (1 << 20) - self.rng.below(2),
+            1 => (1 << 20) - self.rng.below(2) + self.more_pages(),
             2..=7 => 4096,
             _ => 4096 + self.rng.below(12288),
+        }
+    }
+
+    /// Where page lists are made, some pages behind the 256th, in bytes.
+    fn more_pages(&mut self) -> u64 {
+        if self.pages {
+            PAGE_BYTES * self.rng.below(256)
+        } else {
+            0
         }
     }
 

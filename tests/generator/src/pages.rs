@@ -69,6 +69,9 @@ impl Generator {
                 }
             }
         }
+        if self.rng.percent(8) {
+            pages.resize(self.rng.index(21), 0);
+        }
         if self.rng.percent(15) {
             ack = self.ack_length(ACK_BYTES);
         }
@@ -85,6 +88,7 @@ impl Generator {
             2 => pages.resize(self.rng.index(21), 0),
             3 => pages[place] = pages[place].wrapping_add(self.rng.pick(&[1, 8, 2048, 4095, u64::MAX])),
             4 | 5 => pages[place] = past,
+            6 if self.rng.percent(50) => pages[place] += 1 << (24 + self.rng.below(40)),
             6 => pages[place] = past + PAGE_BYTES * (1 + self.rng.below(1 << 20)),
             7 => pages[place] = 0u64.wrapping_sub(PAGE_BYTES * (1 + self.rng.below(2))),
             8 => pages[place] = self.rng.word(),
