@@ -14,8 +14,9 @@
  *            LESUNGKAP_BAD_STATE where they break a limit of docs/STATE.md; any other change it cannot notice. A copy of them is a copy
  *            of the card's tables. lesungkap_state.h looks into them.
  *   memory   the guest memory, of the length told to lesungkap_reset. The guest may write it between calls.
- *   command, record
- *            read only, and not looked at after the call. lesungkap_commands.h and lesungkap_records.h write and read them.
+ *   command, record, pages
+ *            read only, and not looked at after the call. lesungkap_commands.h and lesungkap_records.h write and read the first two; pages
+ *            is a list of numbers, and its length how many there are.
  *   ack, buffer
  *            written by the call as far as each function says; all later bytes stay as they are.
  *
@@ -23,8 +24,8 @@
  * cards may be called at the same time if they share no byte.
  *
  * No length and no content is the caller's duty: every call with any bytes, numbers and lengths ends with an answer. Any answer but
- * LESUNGKAP_DONE leaves state, memory and buffers as they were, except that a refused control command writes 1 as the first ack byte
- * (but not with LESUNGKAP_BUFFER_TOO_SHORT and LESUNGKAP_BAD_STATE).
+ * LESUNGKAP_DONE leaves state, memory and buffers as they were, except that a refused control command or page list writes 1 as the first
+ * ack byte (but not with LESUNGKAP_BUFFER_TOO_SHORT and LESUNGKAP_BAD_STATE).
  *
  *     uint8_t command[LESUNGKAP_COMMAND_MOST_BYTES], ack[LESUNGKAP_ACK_MOST_BYTES];
  *     struct lesungkap_create_cq wanted = {8};
@@ -68,6 +69,26 @@ uint32_t lesungkap_reset(uint8_t *state, size_t state_len, uint64_t memory_len);
  *   DONE              the one object that it names or makes has changed, by a query nothing; the ack has 0 and its data */
 uint32_t lesungkap_control(uint8_t *state, size_t state_len, const uint8_t *command, size_t command_len, uint8_t *ack,
                            size_t ack_len);
+
+/* Registers a region over pages of the memory, for guests whose memory is scattered. command is that of register MR; pages lists the first
+ * memory byte of each page, in the order of the region's bytes. start is the offset of its first byte into the first page: with
+ * k = start + (address - virt), an address is memory byte pages[k / LESUNGKAP_PAGE_BYTES] + k % LESUNGKAP_PAGE_BYTES. A page may be listed
+ * again: then two addresses are one byte, and the later byte of a message wins. Number, key, access, deregister MR and what is in use are
+ * those of any region.
+ *   BAD_STATE         the state is not acceptable
+ *   BUFFER_TOO_SHORT  ack_len is under LESUNGKAP_ACK_BYTES, whatever the command is
+ *   RECORD_LENGTH     the command has fewer than two bytes
+ *   UNKNOWN           class, or another command than register MR
+ *   RECORD_LENGTH     it hasn't LESUNGKAP_REGISTER_MR_BYTES
+ *   BAD_FIELD, NOT_LIVE
+ *                     as register MR
+ *   RANGE             length 0; virt + length over 2^64 - 1; start not below LESUNGKAP_PAGE_BYTES; pages_len not exactly the number of pages
+ *                     that start + length needs, or that number over LESUNGKAP_MR_MOST_PAGES; an entry that is no multiple of
+ *                     LESUNGKAP_PAGE_BYTES, or whose page isn't whole in the memory. A region may be longer than the memory
+ *   FULL              as register MR
+ *   DONE              the region is made; the ack has 0 and the data of register MR's */
+uint32_t lesungkap_register_pages(uint8_t *state, size_t state_len, const uint8_t *command, size_t command_len, const uint64_t *pages,
+                                  size_t pages_len, uint8_t *ack, size_t ack_len);
 
 /* Runs a work request to its end. A write moves the local bytes (the entries in order, or the inline bytes) to the remote range, a read the
  * remote range to the local entries, a send the local bytes to the entries of the peer's oldest waiting receive. Sends and writes with

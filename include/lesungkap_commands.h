@@ -143,7 +143,8 @@ struct lesungkap_destroy_pd {
 
 /* Memory bytes start to start + length - 1, known under the addresses from virt on. BAD_FIELD: another access bit than LESUNGKAP_LOCAL_WRITE,
  * LESUNGKAP_REMOTE_WRITE, LESUNGKAP_REMOTE_READ, or LESUNGKAP_REMOTE_WRITE without LESUNGKAP_LOCAL_WRITE. NOT_LIVE: the domain. RANGE:
- * length 0, start + length over the memory's length, virt + length over 2^64 - 1. FULL. */
+ * length 0, start + length over the memory's length, virt + length over 2^64 - 1. FULL. lesungkap_register_pages takes the same record for a
+ * region over pages, with a RANGE of its own. */
 struct lesungkap_register_mr {
     uint32_t pdn;
     uint32_t access;

@@ -11,9 +11,9 @@
 /* The minor number grows by one with each landing that changes what a call answers or does, a record or the state's layout, its length
  * included; a state and a tape belong to one minor number. */
 #define LESUNGKAP_VERSION_MAJOR 0
-#define LESUNGKAP_VERSION_MINOR 7
+#define LESUNGKAP_VERSION_MINOR 8
 #define LESUNGKAP_VERSION_PATCH 0
-#define LESUNGKAP_VERSION "0.7.0"
+#define LESUNGKAP_VERSION "0.8.0"
 
 #ifdef __cplusplus
 extern "C" {
@@ -25,13 +25,15 @@ enum {
     LESUNGKAP_CQ_COUNT = 8,
     LESUNGKAP_CQ_MOST_PLACES = 16,
     LESUNGKAP_MR_COUNT = 256,
+    LESUNGKAP_MR_MOST_PAGES = 16,   /* of a region over pages */
     LESUNGKAP_QP_COUNT = 8,
     LESUNGKAP_QP_MOST_RECEIVES = 4, /* waiting on one queue pair */
     LESUNGKAP_SEND_MOST_SGES = 4,
     LESUNGKAP_RECEIVE_MOST_SGES = 2,
     LESUNGKAP_MOST_INLINE = 512,
     LESUNGKAP_MOST_MESSAGE = 4096,
-    LESUNGKAP_MOST_MEMORY = 16777216
+    LESUNGKAP_MOST_MEMORY = 16777216,
+    LESUNGKAP_PAGE_BYTES = 4096
 };
 
 /* Answers. Held calls did nothing and may be made again later. */

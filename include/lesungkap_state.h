@@ -4,7 +4,7 @@
  *   unsigned lesungkap_peek_X(const uint8_t *state, size_t state_len, uint32_t number, .., struct lesungkap_X *x)
  *       reads object `number` into x and returns LESUNGKAP_DONE; else x stays as it was, and the answer is LESUNGKAP_BAD_STATE where
  *       state_len isn't LESUNGKAP_STATE_BYTES, LESUNGKAP_NOT_LIVE where there is no such object, LESUNGKAP_NOTHING where a ring has no
- *       entry of this index.
+ *       entry, or a region no page, of this index.
  *
  * A peek writes nothing but x, and never reads outside the state. It makes no test of the content: what it says is true of a state that
  * a call has left.
@@ -25,6 +25,7 @@ enum {
     LESUNGKAP_STATE_CQ_ROW = 4,
     LESUNGKAP_STATE_COMPLETION_ROW = LESUNGKAP_COMPLETION_BYTES, /* a completion */
     LESUNGKAP_STATE_MR_ROW = 32,
+    LESUNGKAP_STATE_PAGE_ROW = 2, /* a page's number: its first byte over LESUNGKAP_PAGE_BYTES */
     LESUNGKAP_STATE_QP_ROW = 8,
     LESUNGKAP_STATE_WAITING_ROW = 2,
     LESUNGKAP_STATE_RECEIVE_ROW = LESUNGKAP_RECEIVE_MOST_BYTES, /* a receive record */
@@ -37,7 +38,8 @@ enum {
     LESUNGKAP_STATE_MR_LIVE_AT =
         LESUNGKAP_STATE_COMPLETIONS_AT + LESUNGKAP_CQ_COUNT * LESUNGKAP_CQ_MOST_PLACES * LESUNGKAP_STATE_COMPLETION_ROW,
     LESUNGKAP_STATE_MRS_AT = LESUNGKAP_STATE_MR_LIVE_AT + LESUNGKAP_MR_COUNT,
-    LESUNGKAP_STATE_QP_LIVE_AT = LESUNGKAP_STATE_MRS_AT + LESUNGKAP_MR_COUNT * LESUNGKAP_STATE_MR_ROW,
+    LESUNGKAP_STATE_PAGES_AT = LESUNGKAP_STATE_MRS_AT + LESUNGKAP_MR_COUNT * LESUNGKAP_STATE_MR_ROW,
+    LESUNGKAP_STATE_QP_LIVE_AT = LESUNGKAP_STATE_PAGES_AT + LESUNGKAP_MR_COUNT * LESUNGKAP_MR_MOST_PAGES * LESUNGKAP_STATE_PAGE_ROW,
     LESUNGKAP_STATE_QPS_AT = LESUNGKAP_STATE_QP_LIVE_AT + LESUNGKAP_QP_COUNT,
     LESUNGKAP_STATE_WAITING_AT = LESUNGKAP_STATE_QPS_AT + LESUNGKAP_QP_COUNT * LESUNGKAP_STATE_QP_ROW,
     LESUNGKAP_STATE_RECEIVES_AT = LESUNGKAP_STATE_WAITING_AT + LESUNGKAP_QP_COUNT * LESUNGKAP_STATE_WAITING_ROW,
@@ -50,6 +52,7 @@ enum {
     LESUNGKAP_STATE_MR_ACCESS_AT = 0,
     LESUNGKAP_STATE_MR_VARIANT_AT = 1,
     LESUNGKAP_STATE_MR_PDN_AT = 2,
+    LESUNGKAP_STATE_MR_KIND_AT = 3,
     LESUNGKAP_STATE_MR_START_AT = 8,
     LESUNGKAP_STATE_MR_LENGTH_AT = 16,
     LESUNGKAP_STATE_MR_VIRT_AT = 24,
@@ -64,6 +67,12 @@ enum {
     LESUNGKAP_STATE_WAITING_COUNT_AT = 1
 };
 
+/* A region's kind. */
+enum {
+    LESUNGKAP_MR_ADJACENT = 0, /* by lesungkap_control: adjacent bytes of the memory */
+    LESUNGKAP_MR_PAGED = 1     /* by lesungkap_register_pages */
+};
+
 /* A queue pair's destination where it has none. */
 enum { LESUNGKAP_NO_QP = LESUNGKAP_QP_COUNT };
 
@@ -75,8 +84,10 @@ struct lesungkap_cq {
 struct lesungkap_mr {
     uint32_t pdn;
     uint32_t access;
-    uint32_t key; /* lkey and rkey */
-    uint64_t start;
+    uint32_t key;   /* lkey and rkey */
+    uint8_t kind;   /* LESUNGKAP_MR_ADJACENT or LESUNGKAP_MR_PAGED */
+    uint8_t pages;  /* how many it lies over; 0 where it is of adjacent bytes */
+    uint64_t start; /* of its first byte: in the memory; over pages, in the first of them */
     uint64_t length;
     uint64_t virt;
 };
@@ -148,6 +159,13 @@ static inline unsigned lesungkap_peek_completion(const uint8_t *state, size_t st
                                     LESUNGKAP_STATE_COMPLETION_ROW, completion);
 }
 
+/* How many pages a region lies over. */
+static inline uint8_t lesungkap_pages_of_(uint64_t start, uint64_t length)
+{
+    const uint64_t pages = (start + length + LESUNGKAP_PAGE_BYTES - 1) / LESUNGKAP_PAGE_BYTES;
+    return (uint8_t)(pages < LESUNGKAP_MR_MOST_PAGES ? pages : (uint64_t)LESUNGKAP_MR_MOST_PAGES);
+}
+
 static inline unsigned lesungkap_peek_mr(const uint8_t *state, size_t state_len, uint32_t mrn, struct lesungkap_mr *mr)
 {
     const unsigned answer = lesungkap_peek_live_(state, state_len, LESUNGKAP_STATE_MR_LIVE_AT, LESUNGKAP_MR_COUNT, mrn);
@@ -156,11 +174,30 @@ static inline unsigned lesungkap_peek_mr(const uint8_t *state, size_t state_len,
         mr->pdn = row[LESUNGKAP_STATE_MR_PDN_AT];
         mr->access = row[LESUNGKAP_STATE_MR_ACCESS_AT];
         mr->key = 256 * mrn + row[LESUNGKAP_STATE_MR_VARIANT_AT];
+        mr->kind = row[LESUNGKAP_STATE_MR_KIND_AT];
         mr->start = lesungkap_get_le_(row + LESUNGKAP_STATE_MR_START_AT, 8);
         mr->length = lesungkap_get_le_(row + LESUNGKAP_STATE_MR_LENGTH_AT, 8);
         mr->virt = lesungkap_get_le_(row + LESUNGKAP_STATE_MR_VIRT_AT, 8);
+        mr->pages = mr->kind == LESUNGKAP_MR_ADJACENT ? 0 : lesungkap_pages_of_(mr->start, mr->length);
     }
     return answer;
+}
+
+/* The first memory byte of page `index` of a region over pages. */
+static inline unsigned lesungkap_peek_page(const uint8_t *state, size_t state_len, uint32_t mrn, uint32_t index, uint64_t *page)
+{
+    struct lesungkap_mr mr;
+    const unsigned answer = lesungkap_peek_mr(state, state_len, mrn, &mr);
+    if (answer != LESUNGKAP_DONE) {
+        return answer;
+    }
+    if (index >= mr.pages) {
+        return LESUNGKAP_NOTHING;
+    }
+    const size_t place = (size_t)LESUNGKAP_MR_MOST_PAGES * mrn + index;
+    *page = LESUNGKAP_PAGE_BYTES *
+            lesungkap_get_le_(state + LESUNGKAP_STATE_PAGES_AT + LESUNGKAP_STATE_PAGE_ROW * place, LESUNGKAP_STATE_PAGE_ROW);
+    return LESUNGKAP_DONE;
 }
 
 static inline unsigned lesungkap_peek_qp(const uint8_t *state, size_t state_len, uint32_t qpn, struct lesungkap_qp *qp)

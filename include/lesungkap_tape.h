@@ -12,7 +12,8 @@
  *
  * Some calls no tape can hold: those with a record over LESUNGKAP_TAPE_MOST_BODY bytes or a number over 255, and those answered
  * LESUNGKAP_MEMORY_LENGTH, LESUNGKAP_BUFFER_TOO_SHORT or LESUNGKAP_BAD_STATE. Each of them is refused and changes nothing, so the tapes
- * leave them out, and the other calls are answered as they were.
+ * leave them out, and the other calls are answered as they were. A page list no tape can hold either: lesungkap_register_pages is left out
+ * where it is refused, and where it is done the tapes end, since the calls after it would be answered otherwise.
  */
 #ifndef LESUNGKAP_TAPE_H
 #define LESUNGKAP_TAPE_H
@@ -54,7 +55,7 @@ struct lesungkap_recorder {
     struct lesungkap_tape answers;
     uint64_t recorded; /* calls on the tapes */
     uint64_t left_out; /* calls that no tape can hold */
-    int failed;        /* a record could not be written; nothing was recorded from there on */
+    int failed;        /* a record could not be written, or a page list was registered; nothing was recorded from there on */
 };
 
 static inline struct lesungkap_recorder lesungkap_record_to_files(FILE *calls, FILE *answers)
@@ -152,6 +153,20 @@ static inline uint32_t lesungkap_recorded_control(struct lesungkap_recorder *rec
 {
     const uint32_t result = lesungkap_control(state, state_len, command, command_len, ack, ack_len);
     lesungkap_record(recorder, LESUNGKAP_TAPE_CONTROL, 0, command, command_len, result, ack, lesungkap_ack_written(result, command));
+    return result;
+}
+
+/* Made, and never recorded: refused, it is left out; done, it ends the tapes. */
+static inline uint32_t lesungkap_recorded_register_pages(struct lesungkap_recorder *recorder, uint8_t *state, size_t state_len,
+                                                         const uint8_t *command, size_t command_len, const uint64_t *pages,
+                                                         size_t pages_len, uint8_t *ack, size_t ack_len)
+{
+    const uint32_t result = lesungkap_register_pages(state, state_len, command, command_len, pages, pages_len, ack, ack_len);
+    if (lesungkap_answer(result) == LESUNGKAP_DONE) {
+        recorder->failed = 1;
+    } else if (!recorder->failed) {
+        recorder->left_out++;
+    }
     return result;
 }
 

@@ -1,4 +1,4 @@
-//! Cards to time: thin ones with what a write needs, and full ones.
+//! Cards to time: thin ones with what a write needs, and full ones; their regions are of adjacent bytes, or over 16 pages each.
 
 use cards::build::*;
 use cards::{Card, Reference};
@@ -11,16 +11,23 @@ pub const REMOTE_VIRT: u64 = 0x20_0000;
 pub const LOCAL_KEY: u32 = 1;
 pub const REMOTE_KEY: u32 = 257;
 
+/// What the regions of a card lie in.
+#[derive(Clone, Copy, Debug, PartialEq, Eq)]
+pub enum Regions {
+    Adjacent,
+    Paged,
+}
+
 /// Two domains with a queue, a region and a queue pair each; the pairs are joined, and only flagged successes complete.
-pub fn thin() -> Vec<u8> {
+pub fn thin(regions: Regions) -> Vec<u8> {
     let mut state = vec![0; STATE_BYTES];
     assert_eq!(Reference.reset(&mut state, MEMORY as u64).answer, 0);
     for _ in 0..2 {
         run(&mut state, create_domain());
         run(&mut state, create_queue(MOST_PLACES as u32));
     }
-    run(&mut state, register(0, 7, 0, 8192, LOCAL_VIRT));
-    run(&mut state, register(1, 7, 32768, 8192, REMOTE_VIRT));
+    add_region(&mut state, regions, 0, 0, 8192, LOCAL_VIRT);
+    add_region(&mut state, regions, 1, 32768, 8192, REMOTE_VIRT);
     for n in 0..2 {
         run(&mut state, create_pair(n, 2, 1, n, n));
     }
@@ -28,16 +35,27 @@ pub fn thin() -> Vec<u8> {
     state
 }
 
+/// A region of adjacent bytes, or of all pages from the one with its first byte on, in steps of seven.
+fn add_region(state: &mut [u8], regions: Regions, domain: u32, start: u64, length: u64, virt: u64) {
+    if regions == Regions::Adjacent {
+        return run(state, register(domain, 7, start, length, virt));
+    }
+    let whole = MEMORY as u64 / PAGE_BYTES;
+    let pages: Vec<u64> = (0..MOST_PAGES as u64).map(|k| PAGE_BYTES * ((start / PAGE_BYTES + 7 * k) % whole)).collect();
+    let command = register(domain, 7, 0, PAGE_BYTES * MOST_PAGES as u64, virt);
+    assert_eq!(Reference.register_pages(state, &command, &pages, &mut [0; ACK_BYTES]).answer, 0);
+}
+
 /// Every domain, queue, region and pair is live, and four receives wait on each pair.
-pub fn full() -> Vec<u8> {
-    let mut state = thin();
+pub fn full(regions: Regions) -> Vec<u8> {
+    let mut state = thin(regions);
     for n in 2..PAIRS as u32 {
         run(&mut state, create_domain());
         run(&mut state, create_queue(MOST_PLACES as u32));
         run(&mut state, create_pair(n, 2, 1, n, n));
     }
     for n in 2..REGIONS as u64 {
-        run(&mut state, register((n % DOMAINS as u64) as u32, 7, n * 1024 % MEMORY as u64, 1024, n << 32));
+        add_region(&mut state, regions, (n % DOMAINS as u64) as u32, n * 1024 % MEMORY as u64, 1024, n << 32);
     }
     for n in (2..PAIRS as u32).step_by(2) {
         join_pairs(&mut state, n, n + 1);
@@ -52,7 +70,7 @@ pub fn full() -> Vec<u8> {
 
 /// Full tables but for the last region.
 pub fn all_but_one_region() -> Vec<u8> {
-    let mut state = full();
+    let mut state = full(Regions::Adjacent);
     run(&mut state, deregister(REGIONS as u32 - 1));
     state
 }
@@ -96,7 +114,13 @@ pub fn write(length: u32, pieces: u32) -> Vec<u8> {
     send.bytes()
 }
 
-/// The same with `length` inline bytes.
+/// A write of one piece of 4,096 bytes, source and target from this offset on: with pages, over an end of one on both sides.
+pub fn write_from(offset: u64) -> Vec<u8> {
+    let length = MOST_MESSAGE as u32;
+    Send::new(1, 0).remote(REMOTE_VIRT + offset, REMOTE_KEY).piece(LOCAL_VIRT + offset, length, LOCAL_KEY).bytes()
+}
+
+/// A write of `length` inline bytes.
 pub fn inline_write(length: usize) -> Vec<u8> {
     Send::new(1, 0).remote(REMOTE_VIRT, REMOTE_KEY).inline(&vec![7; length]).bytes()
 }

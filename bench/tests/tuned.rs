@@ -1,7 +1,7 @@
 //! The tuned engine answers as the reference does, and leaves the same bytes: on the calls that are timed, and after any one byte of the state
 //! has changed.
 
-use bench::fixture;
+use bench::fixture::{self, Regions};
 use bench::tuned::Tuned;
 use cards::{Card, Outcome, Reference};
 use reference::layout::*;
@@ -22,10 +22,14 @@ fn lent(state: &[u8]) -> Lent {
     Lent { state: state.to_vec(), memory, buffer: [9; COMPLETION_BYTES] }
 }
 
-fn states() -> [Vec<u8>; 3] {
-    let mut unread = fixture::full();
-    fixture::fill_queues(&mut unread);
-    [fixture::thin(), fixture::full(), unread]
+/// Thin, full, and full with unread completions, of regions of each kind.
+fn states() -> Vec<Vec<u8>> {
+    let states = [Regions::Adjacent, Regions::Paged].map(|regions| {
+        let mut unread = fixture::full(regions);
+        fixture::fill_queues(&mut unread);
+        [fixture::thin(regions), fixture::full(regions), unread]
+    });
+    states.concat()
 }
 
 /// The call's outcome, the same of both.
@@ -59,13 +63,16 @@ fn tuned_engine_writes_as_the_reference() {
         for record in [fixture::write(4096, 4), fixture::inline_write(64), vec![0; 592], vec![0; 576], vec![]] {
             same(&mut lent(&state), |card, lent| write(card, lent, 0, &record));
         }
+        for offset in [1, 2047, 4095, 4096, 4097, 8191, 61440, 61441, 65535] {
+            same(&mut lent(&state), |card, lent| write(card, lent, 0, &fixture::write_from(offset)));
+        }
     }
 }
 
 #[test]
 fn tuned_engine_follows_every_byte_of_a_write() {
     let record = fixture::write(64, 1);
-    for state in [fixture::thin(), fixture::full()] {
+    for state in [fixture::thin(Regions::Adjacent), fixture::full(Regions::Adjacent), fixture::thin(Regions::Paged)] {
         let base = lent(&state);
         for at in (0..48).chain(556..record.len()) {
             for value in VALUES {
@@ -89,16 +96,35 @@ fn tuned_engine_polls_as_the_reference() {
     }
 }
 
+/// The bytes to change: all of a state whose regions are of adjacent bytes, but few of the page numbers that nobody looks at; the regions' of
+/// one whose regions lie over pages, and few others.
+fn changed(state: &[u8], at: usize) -> bool {
+    let paged = state[region_row(0) + REGION_KIND] == PAGED;
+    let numbers = (PAGE_ROWS..PAIR_FLAGS).contains(&at);
+    at % 61 == 0 || if paged { (REGION_FLAGS..PAGE_ROWS).contains(&at) || numbers && at % 5 == 0 } else { !numbers }
+}
+
 #[test]
 fn tuned_engine_accepts_as_the_reference() {
     let record = fixture::write(64, 1);
     let (mut accepted, mut refused) = (0, 0);
     // Where no region is live, only the pairs name domains.
-    let mut pairs_alone = fixture::full();
+    let mut pairs_alone = fixture::full(Regions::Adjacent);
     pairs_alone[REGION_FLAGS..REGION_FLAGS + REGIONS].fill(0);
-    for state in states().into_iter().chain([pairs_alone]) {
+    // Page numbers past the memory that some regions do not need, and a region of each kind among eight.
+    let mut mixed = fixture::full(Regions::Paged);
+    for n in (0..REGIONS).step_by(3) {
+        put64(&mut mixed, region_row(n) + REGION_LENGTH, 1 + 4096 * (n as u64 % 16));
+        mixed[page_row(n, 1 + n % 16)..page_row(n + 1, 0)].fill(0xff);
+    }
+    for n in (0..REGIONS).step_by(5) {
+        put64(&mut mixed, region_row(n) + REGION_LENGTH, 1024);
+        mixed[region_row(n) + REGION_KIND] = ADJACENT;
+    }
+    for state in states().into_iter().chain([pairs_alone, mixed]) {
+        assert!(reference::accepts(&state));
         let mut lent = Lent { memory: vec![0; fixture::MEMORY], ..lent(&state) };
-        for at in 0..STATE_BYTES {
+        for at in (0..STATE_BYTES).filter(|&at| changed(&state, at)) {
             for value in VALUES {
                 lent.state[at] = value;
                 let outcome = same_in_place(&mut lent, |card, lent| write(card, lent, 0, &record));

@@ -1,5 +1,6 @@
 /* Each function of the header, called from C: receives wait, their queue pair fails, and they are flushed one by one; what is posted then
- * is flushed at once. A call that gives anything else than this file expects is a line; the exit status is then 1. */
+ * is flushed at once; a message goes from one region over pages to another. A call that gives anything else than this file expects is a
+ * line; the exit status is then 1. */
 #include "lesungkap.h"
 
 #include <stdio.h>
@@ -173,11 +174,125 @@ static void posted_in_error(void)
     refused_flush(PAIR, LESUNGKAP_NOTHING, "a flush of a receive that was flushed at once");
 }
 
+/* ---- regions over pages, on a card with a memory of three pages and a part of one */
+
+enum { PAGE = LESUNGKAP_PAGE_BYTES, PAGED_BYTES = 3 * PAGE + 100, VIRT = 1 << 20 };
+
+static uint8_t paged[PAGED_BYTES + 1];
+
+/* The list is as it was after each call. */
+static uint32_t register_pages(uint64_t start, uint64_t length, const uint64_t *pages, size_t count, uint8_t *ack, size_t ack_len)
+{
+    const struct lesungkap_register_mr data = {0, 7, start, length, VIRT};
+    uint8_t command[LESUNGKAP_REGISTER_MR_BYTES];
+    uint64_t lent[20];
+    memcpy(lent, pages, count * sizeof *pages);
+    lesungkap_put_register_mr(command, sizeof command, &data);
+    const uint32_t result = lesungkap_register_pages(state, LESUNGKAP_STATE_BYTES, command, sizeof command, lent, count, ack, ack_len);
+    expect(memcmp(lent, pages, count * sizeof *pages) == 0, "a page list that is written");
+    return result;
+}
+
+/* A refused list changes the ack byte alone. */
+static void refused_list(uint64_t start, uint64_t length, const uint64_t *pages, size_t count, const char *what)
+{
+    uint8_t before[sizeof state], ack[LESUNGKAP_ACK_BYTES], wanted[LESUNGKAP_ACK_BYTES];
+    memcpy(before, state, sizeof state);
+    memset(ack, 0xa5, sizeof ack);
+    memset(wanted, 0xa5, sizeof wanted);
+    expect(register_pages(start, length, pages, count, ack, sizeof ack - 1) == LESUNGKAP_BUFFER_TOO_SHORT, "a page list with 12 ack bytes");
+    expect(memcmp(ack, wanted, sizeof ack) == 0, "an ack byte of a page list that is answered 12");
+    wanted[LESUNGKAP_ACK_BYTE_AT] = LESUNGKAP_ACK_ERROR;
+    expect(register_pages(start, length, pages, count, ack, sizeof ack) == LESUNGKAP_RANGE, what);
+    expect(memcmp(ack, wanted, sizeof ack) == 0, "the ack of a page list that is refused");
+    expect(memcmp(before, state, sizeof state) == 0, "a refused page list that changes the state");
+}
+
+/* A region over the listed pages: its key, and what the state says of it. */
+static uint32_t region(uint64_t start, uint64_t length, const uint64_t *pages, uint8_t count)
+{
+    uint8_t ack[LESUNGKAP_ACK_BYTES + 1];
+    struct lesungkap_register_mr_ack made = {0};
+    struct lesungkap_mr mr = {0};
+    uint64_t page = 1;
+    ack[LESUNGKAP_ACK_BYTES] = 0xa5;
+    expect(register_pages(start, length, pages, count, ack, sizeof ack) == LESUNGKAP_DONE, "a page list");
+    expect(ack[LESUNGKAP_ACK_BYTES] == 0xa5, "a byte past the ack of a page list");
+    expect(lesungkap_get_register_mr_ack(ack, sizeof ack, &made) == LESUNGKAP_DONE && made.lkey == made.rkey, "the ack of a page list");
+    expect(lesungkap_peek_mr(state, LESUNGKAP_STATE_BYTES, made.mrn, &mr) == LESUNGKAP_DONE, "a region over pages in the state");
+    expect(mr.kind == LESUNGKAP_MR_PAGED && mr.pages == count && mr.start == start && mr.length == length && mr.key == made.rkey,
+           "what the state says of a region over pages");
+    for (uint32_t n = 0; n < count; n++) {
+        expect(lesungkap_peek_page(state, LESUNGKAP_STATE_BYTES, made.mrn, n, &page) == LESUNGKAP_DONE && page == pages[n], "a page");
+    }
+    expect(lesungkap_peek_page(state, LESUNGKAP_STATE_BYTES, made.mrn, count, &page) == LESUNGKAP_NOTHING, "a page past the last");
+    return made.rkey;
+}
+
+static void join(uint32_t qpn)
+{
+    for (uint8_t to = LESUNGKAP_QP_INIT; to <= LESUNGKAP_QP_RTS; to++) {
+        struct lesungkap_modify_qp data = {qpn, LESUNGKAP_MASK_STATE | LESUNGKAP_MASK_ACCESS_FLAGS, to, {0}, 1 - qpn, 7};
+        uint8_t command[LESUNGKAP_MODIFY_QP_BYTES];
+        data.mask |= to == LESUNGKAP_QP_RTR ? LESUNGKAP_MASK_DESTINATION : 0;
+        expect(control(command, lesungkap_put_modify_qp(command, sizeof command, &data)) == LESUNGKAP_DONE, "a queue pair that is joined");
+    }
+}
+
+/* Writes `length` bytes of one region, from an offset on, to another. */
+static void write_over_pages(uint32_t from, uint64_t at, uint32_t to, uint64_t far_at, uint32_t length)
+{
+    struct lesungkap_send send = {0};
+    uint8_t record[LESUNGKAP_SEND_MOST_BYTES];
+    send.opcode = LESUNGKAP_WRITE;
+    send.count = 1;
+    send.sges[0].address = VIRT + at;
+    send.sges[0].length = length;
+    send.sges[0].key = from;
+    send.remote_address = VIRT + far_at;
+    send.remote_key = to;
+    const size_t whole = lesungkap_put_send(record, sizeof record, &send);
+    expect(lesungkap_post_send(state, LESUNGKAP_STATE_BYTES, paged, PAGED_BYTES, PAIR, record, whole) == LESUNGKAP_DONE, "a write over pages");
+}
+
+static void page_lists(void)
+{
+    static const uint64_t two[] = {2 * PAGE, 0}, again[] = {PAGE, PAGE}, odd[] = {2 * PAGE + 1}, part[] = {3 * PAGE}, last[] = {(uint64_t)0 - PAGE};
+    const uint8_t query[] = {LESUNGKAP_CONTROL_CLASS, LESUNGKAP_QUERY_DEVICE};
+    uint8_t ack[LESUNGKAP_ACK_BYTES];
+    expect(lesungkap_reset(state, LESUNGKAP_STATE_BYTES, PAGED_BYTES) == LESUNGKAP_DONE, "a reset");
+    expect(create_domain() == LESUNGKAP_DONE && create_queue(16) == LESUNGKAP_DONE, "a domain and a queue");
+    expect(create_pair() == LESUNGKAP_DONE && create_pair() == LESUNGKAP_DONE, "two queue pairs");
+    expect(lesungkap_register_pages(state, LESUNGKAP_STATE_BYTES, query, sizeof query, two, 2, ack, sizeof ack) == LESUNGKAP_UNKNOWN,
+           "a query with a page list");
+    refused_list(PAGE, 1, two, 1, "a start past the first page");
+    refused_list(PAGE - 1, 2, two, 1, "a page too few");
+    refused_list(0, 1, two, 2, "a page too many");
+    refused_list(0, 1, two, 0, "no page");
+    refused_list(0, 1, odd, 1, "an entry that is no multiple");
+    refused_list(0, 1, part, 1, "a page that the memory has a part of");
+    refused_list(0, 1, last, 1, "an entry whose end wraps");
+    const uint32_t own = region(100, 2 * PAGE - 100, two, 2), far = region(0, 2 * PAGE, again, 2);
+    join(0);
+    join(1);
+    for (size_t n = 0; n < sizeof paged; n++) {
+        paged[n] = (uint8_t)(n % 251);
+    }
+    write_over_pages(own, PAGE - 110, far, PAGE - 5, 20);
+    for (uint64_t n = 0; n < 20; n++) {
+        const size_t source = n < 10 ? 3 * PAGE - 10 + n : n - 10, target = n < 5 ? 2 * PAGE - 5 + n : PAGE + n - 5;
+        expect(paged[target] == source % 251, "a byte that was written over pages");
+    }
+    expect(paged[PAGE + 15] == (PAGE + 15) % 251 && paged[2 * PAGE] == 2 * PAGE % 251, "a byte beside those written over pages");
+    expect(paged[PAGED_BYTES] == PAGED_BYTES % 251, "a byte past the memory");
+}
+
 int main(void)
 {
     resets();
     queries();
     flushes();
     posted_in_error();
+    page_lists();
     return faults != 0;
 }

@@ -100,7 +100,7 @@ static void try_state(void)
     struct lesungkap_qp qp;
     struct lesungkap_completion completion;
     struct lesungkap_receive receive;
-    uint64_t memory;
+    uint64_t memory, page;
     size_t length = word() % 8 ? LESUNGKAP_STATE_BYTES : word() % (2 * LESUNGKAP_STATE_BYTES);
     uint8_t *state = random_bytes(length);
     for (int n = 0; n < 100; n++) {
@@ -110,6 +110,7 @@ static void try_state(void)
         TRY(lesungkap_peek_pd(state, length, number));
         TRY(lesungkap_peek_cq(state, length, number, &cq));
         TRY(lesungkap_peek_mr(state, length, number, &mr));
+        TRY(lesungkap_peek_page(state, length, number, index, &page));
         TRY(lesungkap_peek_qp(state, length, number, &qp));
         TRY(lesungkap_peek_completion(state, length, number, index, &completion));
         TRY(lesungkap_peek_receive(state, length, number, index, &receive));

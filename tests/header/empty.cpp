@@ -26,6 +26,22 @@ int main()
     expect(LESUNGKAP_BAD_STATE, lesungkap_control(nullptr, 0, nullptr, 0, nullptr, 0), "control of nothing");
     expect(LESUNGKAP_BUFFER_TOO_SHORT, lesungkap_control(state.data(), state.size(), nullptr, 0, nullptr, 0), "control without ack");
     expect(LESUNGKAP_RECORD_LENGTH, lesungkap_control(state.data(), state.size(), none.data(), 0, ack.data(), ack.size()), "no command");
+    // A page list of no entries, too: it is refused for its record, and for its count where the record is a registration.
+    std::vector<uint64_t> pages;
+    std::vector<uint8_t> registration(LESUNGKAP_COMMAND_MOST_BYTES), pd(LESUNGKAP_CREATE_PD_BYTES);
+    const struct lesungkap_register_mr data = {0, 0, 0, 1, 0};
+    const size_t length = lesungkap_put_register_mr(registration.data(), registration.size(), &data);
+    expect(LESUNGKAP_BAD_STATE, lesungkap_register_pages(nullptr, 0, nullptr, 0, nullptr, 0, nullptr, 0), "page list of nothing");
+    expect(LESUNGKAP_BUFFER_TOO_SHORT,
+           lesungkap_register_pages(state.data(), state.size(), nullptr, 0, pages.data(), pages.size(), none.data(), 0), "page list without ack");
+    expect(LESUNGKAP_RECORD_LENGTH,
+           lesungkap_register_pages(state.data(), state.size(), none.data(), 0, pages.data(), pages.size(), ack.data(), ack.size()),
+           "page list without a command");
+    lesungkap_put_create_pd(pd.data(), pd.size());
+    expect(LESUNGKAP_DONE, lesungkap_control(state.data(), state.size(), pd.data(), pd.size(), ack.data(), ack.size()), "a domain");
+    expect(LESUNGKAP_RANGE,
+           lesungkap_register_pages(state.data(), state.size(), registration.data(), length, pages.data(), pages.size(), ack.data(), ack.size()),
+           "an empty page list");
     expect(LESUNGKAP_BAD_STATE, lesungkap_post_send(nullptr, 0, nullptr, 0, 0, nullptr, 0), "post send of nothing");
     expect(LESUNGKAP_MEMORY_LENGTH, lesungkap_post_send(state.data(), state.size(), none.data(), 0, 0, none.data(), 0), "no memory");
     expect(LESUNGKAP_RECORD_LENGTH,
@@ -45,6 +61,8 @@ int main()
     expect(LESUNGKAP_SEND_BYTES & 255, static_cast<uint32_t>(lesungkap_put_send(record.data(), record.size(), &send)), "no inline bytes");
     expect(LESUNGKAP_RECORD_LENGTH, lesungkap_get_send(none.data(), none.size(), &send), "get out of nothing");
     expect(LESUNGKAP_BAD_STATE, lesungkap_peek_pd(none.data(), none.size(), 0), "peek at nothing");
+    uint64_t page = 0;
+    expect(LESUNGKAP_BAD_STATE, lesungkap_peek_page(none.data(), none.size(), 0, 0, &page), "peek at a page of nothing");
     struct lesungkap_recorder recorder = lesungkap_record_to_buffers(calls.data(), calls.size(), answers.data(), answers.size());
     expect(LESUNGKAP_NOT_LIVE, lesungkap_recorded_flush(&recorder, state.data(), state.size(), 0), "a recorded flush");
     expect(1, static_cast<uint32_t>(recorder.failed), "a recorder without room");

@@ -53,4 +53,6 @@ unsigned wrap_get_create_pd(const uint8_t *bytes, size_t length) { return lesung
 size_t wrap_put_ack(uint8_t *bytes, size_t length, uint8_t ack) { return lesungkap_put_ack(bytes, length, ack); }
 unsigned wrap_get_ack(const uint8_t *bytes, size_t length) { return lesungkap_get_ack(bytes, length); }
 unsigned wrap_peek_pd(const uint8_t *state, size_t length, uint32_t pdn) { return lesungkap_peek_pd(state, length, pdn); }
+unsigned wrap_peek_page(const uint8_t *state, size_t length, uint32_t mrn, uint32_t index, uint64_t *page)
+{ return lesungkap_peek_page(state, length, mrn, index, page); }
 unsigned wrap_peek_memory(const uint8_t *state, size_t length, uint64_t *memory) { return lesungkap_peek_memory(state, length, memory); }

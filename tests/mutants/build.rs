@@ -7,12 +7,13 @@ use std::fs;
 use std::path::Path;
 
 /// The files of the reference that an edit may change, each with the calls that it makes public.
-const FILES: [(&str, &[&str]); 9] = [
+const FILES: [(&str, &[&str]); 10] = [
     ("accept", &[]),
     ("answer", &[]),
     ("card", &[]),
     ("control", &["control"]),
     ("layout", &[]),
+    ("pages", &["register_pages"]),
     ("query", &[]),
     ("queues", &["reset", "post_receive", "flush", "poll"]),
     ("record", &[]),

@@ -1,6 +1,6 @@
 /* Random calls on one card, recorded: to two files, and by hand to two buffers, which must hold the same bytes. Calls that no tape can
- * hold are mixed in and must be left out. A recorder whose buffers are full keeps whole records only. After every hundredth call the
- * state is appended to a third file.
+ * hold are mixed in and must be left out, refused page lists among them. A recorder whose buffers are full keeps whole records only, and
+ * so does one whose card registers a page list. After every hundredth call the state is appended to a third file.
  *
  * usage: record CALLS ANSWERS STATES
  */
@@ -163,6 +163,50 @@ static void poll(void)
     odd += lent < sizeof buffer || cqn > 255;
 }
 
+/* How many whole records a tape holds; none if its bytes end inside one. */
+static uint64_t records_of(const struct lesungkap_tape *tape)
+{
+    uint64_t records = 0;
+    size_t at = 0;
+    while (at < tape->used) {
+        at += LESUNGKAP_TAPE_HEADER_BYTES + (size_t)lesungkap_get_le_(tape->bytes + at + LESUNGKAP_TAPE_LENGTH_AT, 2);
+        records++;
+    }
+    return at == tape->used ? records : 0;
+}
+
+/* A page list that is refused: for its count, its entry or its command. */
+static void refused_pages(void)
+{
+    const struct lesungkap_register_mr mr = {below(3), below(9), below(2), 1 + below(4096), 0};
+    const uint64_t pages[2] = {below(2) ? 4096 : 1, 0};
+    const size_t length = below(4) ? lesungkap_put_register_mr(record, sizeof record, &mr) : lesungkap_put_create_pd(record, sizeof record);
+    const uint32_t result = lesungkap_recorded_register_pages(&files, state, sizeof state, record, length, pages, below(3), ack, sizeof ack);
+    expect(result != LESUNGKAP_DONE, "a page list that isn't one");
+    odd++;
+}
+
+/* A page list that is done ends the tapes of its recorder, and no call after it is recorded. */
+static void ends_the_tapes(void)
+{
+    static uint8_t other[LESUNGKAP_STATE_BYTES], calls[1000], answers[1000];
+    const struct lesungkap_register_mr mr = {0, 7, 0, 4096, 0};
+    const uint64_t pages[1] = {0};
+    struct lesungkap_recorder ended = lesungkap_record_to_buffers(calls, sizeof calls, answers, sizeof answers);
+    expect(lesungkap_reset(other, sizeof other, sizeof memory) == LESUNGKAP_DONE, "a reset");
+    const size_t create = lesungkap_put_create_pd(record, sizeof record);
+    expect(lesungkap_recorded_control(&ended, other, sizeof other, record, create, ack, sizeof ack) == LESUNGKAP_DONE, "a domain");
+    const size_t length = lesungkap_put_register_mr(record, sizeof record, &mr);
+    expect(lesungkap_recorded_register_pages(&ended, other, sizeof other, record, length, pages, 0, ack, sizeof ack) == LESUNGKAP_RANGE,
+           "an empty page list");
+    expect(ended.left_out == 1 && !ended.failed, "a refused page list left out");
+    expect(lesungkap_recorded_register_pages(&ended, other, sizeof other, record, length, pages, 1, ack, sizeof ack) == LESUNGKAP_DONE,
+           "a page list");
+    expect(lesungkap_recorded_control(&ended, other, sizeof other, record, create, ack, sizeof ack) != LESUNGKAP_BAD_STATE, "a call after it");
+    expect(ended.failed && ended.recorded == 1 && ended.left_out == 1 && records_of(&ended.calls) == 1 && records_of(&ended.answers) == 1,
+           "tapes that end with a page list");
+}
+
 static void one_call(void)
 {
     switch (below(16)) {
@@ -177,7 +221,7 @@ static void one_call(void)
     case 8: post_send(); break;
     case 9:
     case 10: post_receive(); break;
-    case 11: flush(); break;
+    case 11: below(20) ? flush() : refused_pages(); break;
     default: poll(); break;
     }
 }
@@ -196,18 +240,6 @@ static int same(const char *name, const struct lesungkap_tape *tape)
     return byte == EOF && n == tape->used;
 }
 
-/* How many whole records a tape holds; none if its bytes end inside one. */
-static uint64_t records_of(const struct lesungkap_tape *tape)
-{
-    uint64_t records = 0;
-    size_t at = 0;
-    while (at < tape->used) {
-        at += LESUNGKAP_TAPE_HEADER_BYTES + (size_t)lesungkap_get_le_(tape->bytes + at + LESUNGKAP_TAPE_LENGTH_AT, 2);
-        records++;
-    }
-    return at == tape->used ? records : 0;
-}
-
 int main(int count, char **words)
 {
     static uint8_t calls_bytes[TAPE_BYTES], answers_bytes[TAPE_BYTES], small_calls[TAPE_BYTES], small_answers[SMALL_BYTES];
@@ -224,6 +256,7 @@ int main(int count, char **words)
             expect(fwrite(state, 1, sizeof state, states) == sizeof state, "a state that can't be written");
         }
     }
+    ends_the_tapes();
     expect(fclose(calls) == 0 && fclose(answers) == 0 && fclose(states) == 0, "a file that can't be written");
     expect(!files.failed && !buffers.failed && files.recorded == buffers.recorded, "a record that was lost");
     expect(files.left_out == odd && odd > 100, "calls left out");

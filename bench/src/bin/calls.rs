@@ -2,6 +2,7 @@
 //!
 //! usage: calls [CALLS]
 
+use bench::fixture::Regions;
 use bench::work::{polls, writes};
 use bench::{compare, fixture, heading};
 use cards::{proved, Card, Reference};
@@ -10,7 +11,7 @@ fn main() {
     let calls = std::env::args().nth(1).and_then(|word| word.parse().ok()).unwrap_or(1_000_000);
     let first: &dyn Card = proved().unwrap_or(&Reference);
     heading(first.name(), Reference.name());
-    for (tables, state) in [("thin", fixture::thin()), ("full", fixture::full())] {
+    for (tables, state) in [("thin", fixture::thin(Regions::Adjacent)), ("full", fixture::full(Regions::Adjacent))] {
         for (name, record) in [
             ("64 bytes", fixture::write(64, 1)),
             ("4,096 bytes", fixture::write(4096, 1)),

@@ -3,6 +3,7 @@
 //!
 //! usage: state [CALLS]
 
+use bench::fixture::Regions;
 use bench::work::state_tests;
 use bench::{compare, fixture, heading};
 use cards::{proved, Card, Reference};
@@ -11,10 +12,13 @@ fn main() {
     let calls = std::env::args().nth(1).and_then(|word| word.parse().ok()).unwrap_or(1_000_000);
     let first: &dyn Card = proved().unwrap_or(&Reference);
     heading(first.name(), Reference.name());
-    let mut unread = fixture::full();
+    let mut unread = fixture::full(Regions::Adjacent);
     fixture::fill_queues(&mut unread);
-    for (name, state) in [("thin tables", fixture::thin()), ("full tables", fixture::full()), ("full tables, 128 unread", unread)]
-    {
+    for (name, state) in [
+        ("thin tables", fixture::thin(Regions::Adjacent)),
+        ("full tables", fixture::full(Regions::Adjacent)),
+        ("full tables, 128 unread", unread),
+    ] {
         compare(&format!("state test, {name}"), calls, state_tests(first, &state), state_tests(&Reference, &state));
     }
     println!("The states are made once, before the timing; nothing is cleared or copied in it.");

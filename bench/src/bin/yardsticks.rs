@@ -1,9 +1,10 @@
 //! Times the proved library (libengine.a) against both yardsticks in one run, for the figures that document 02 asks for in M-107: unsignaled writes of 64 and
-//! 4,096 bytes with status 0, and polls answered 0; and the state test alone, which also stands against a 4,096-byte copy. The yardsticks are the reference
-//! and the tuned engine. A call that is not answered as it should be ends the run.
+//! 4,096 bytes with status 0, and polls answered 0; and the state test alone, which also stands against a 4,096-byte copy. All of it with regions of adjacent
+//! bytes, and with regions over 16 pages each. The yardsticks are the reference and the tuned engine. A call that is not answered as it should be ends the run.
 //!
 //! usage: yardsticks [CALLS]
 
+use bench::fixture::Regions;
 use bench::tuned::Tuned;
 use bench::{fixture, ratios, work, Work};
 use cards::{proved, Card, Reference};
@@ -13,21 +14,31 @@ fn main() {
     let first: &dyn Card = proved().unwrap_or(&Reference);
     let cards = [first, &Reference, &Tuned];
     println!("first: {}, second: {}, third: {}, fourth: a 4,096-byte copy", first.name(), Reference.name(), Tuned.name());
-    println!("{:<30}{:>9}  {:<32}first over each other, with the middle half", "work", "calls", "nanoseconds, medians");
-    for (tables, state) in [("thin", fixture::thin()), ("full", fixture::full())] {
-        let mut unread = state.clone();
-        fixture::fill_queues(&mut unread);
-        state_line(&format!("state test, {tables}"), calls, cards, &state);
-        if tables == "full" {
-            state_line("state test, full, 128 unread", calls, cards, &unread);
+    println!("{:<36}{:>9}  {:<32}first over each other, with the middle half", "work", "calls", "nanoseconds, medians");
+    for regions in [Regions::Adjacent, Regions::Paged] {
+        for (tables, state) in [("thin", fixture::thin(regions)), ("full", fixture::full(regions))] {
+            lines(calls, cards, regions, tables, &state);
         }
-        for (name, length) in [("64 bytes", 64), ("4,096 bytes", 4096)] {
-            let record = fixture::write(length, 1);
-            line(&format!("write {name}, {tables}"), calls, cards.map(|card| work::writes(card, &state, &record)));
-        }
-        line(&format!("poll, {tables}"), calls, cards.map(|card| work::polls(card, &unread)));
     }
     println!("Lent buffers are made once and never cleared in the timing; refilling the queues before polls isn't timed.");
+}
+
+fn lines(calls: u32, cards: [&dyn Card; 3], regions: Regions, tables: &str, state: &[u8]) {
+    let pages = if regions == Regions::Paged { ", pages" } else { "" };
+    let mut unread = state.to_vec();
+    fixture::fill_queues(&mut unread);
+    state_line(&format!("state test, {tables}{pages}"), calls, cards, state);
+    if tables == "full" {
+        state_line(&format!("state test, full, 128 unread{pages}"), calls, cards, &unread);
+    }
+    let mut records = vec![("64 bytes", fixture::write(64, 1)), ("4,096 bytes", fixture::write(4096, 1))];
+    if regions == Regions::Paged {
+        records.push(("4,096 over ends", fixture::write_from(2048)));
+    }
+    for (name, record) in records {
+        line(&format!("write {name}, {tables}{pages}"), calls, cards.map(|card| work::writes(card, state, &record)));
+    }
+    line(&format!("poll, {tables}{pages}"), calls, cards.map(|card| work::polls(card, &unread)));
 }
 
 fn state_line(name: &str, calls: u32, cards: [&dyn Card; 3], state: &[u8]) {
@@ -40,5 +51,5 @@ fn line<const N: usize>(name: &str, calls: u32, mut works: [Work; N]) {
     let (times, over) = ratios(calls, &mut works);
     let times: String = times.iter().map(|time| format!("{time:<8.1}")).collect();
     let over: String = over[1..].iter().map(|[low, middle, high]| format!("{middle:<6.2}{low:.2} to {high:<8.2}")).collect();
-    println!("{name:<30}{calls:>9}  {times:<32}{over}");
+    println!("{name:<36}{calls:>9}  {times:<32}{over}");
 }

@@ -1,5 +1,5 @@
-//! The test of answer 15. Flags and rows are read as words; eight live regions pass by a test that is enough for them, and where it fails
-//! each is tested by itself.
+//! The test of answer 15. Flags and rows are read as words; eight live regions of one kind pass by a test that is enough for them, and where it
+//! fails each is tested by itself. Sixteen page numbers of a region are tested together, and where that fails those that it needs.
 
 use super::{byte, get32, get64, part, State};
 use reference::layout::*;
@@ -11,9 +11,10 @@ type Ring = [u8; MOST_PLACES * COMPLETION_BYTES];
 
 const REGION_ROW: usize = region_row(1) - region_row(0);
 const RECEIVE_ROW: usize = receive_row(0, 1) - receive_row(0, 0);
+const PAGE_NUMBERS: usize = MOST_PAGES * PAGE_ROW;
 
-/// The bits that access and domain of a region can't have.
-const REGION_OUTSIDE: u32 = 0xf8 << (8 * REGION_ACCESS) | 0xf8 << (8 * REGION_DOMAIN);
+/// The bits that access, domain and kind of a region can't have.
+const REGION_OUTSIDE: u32 = 0xf8 << (8 * REGION_ACCESS) | 0xf8 << (8 * REGION_DOMAIN) | 0xfe << (8 * REGION_KIND);
 
 /// The bits that a queue pair's row can't have: numbers up to 7, signal up to 1, state up to 7, destination up to 15, access
 /// flags up to 7.
@@ -107,41 +108,58 @@ const _: () = assert!(COMPLETION_OPCODE == COMPLETION_STATUS + 1 && COMPLETION_L
 fn regions_ok(state: &State, memory: u64, all_domains: bool) -> bool {
     let flags: &[u8; REGIONS] = part(state, REGION_FLAGS);
     let rows: &[u8; REGIONS * REGION_ROW] = part(state, REGION_ROWS);
+    let numbers: &[u8; REGIONS * PAGE_NUMBERS] = part(state, PAGE_ROWS);
     for eight in 0..REGIONS / 8 {
         let live = get64(flags, 8 * eight);
         if live == 0 {
             continue;
         }
         let rows: &[u8; 8 * REGION_ROW] = part(rows, 8 * REGION_ROW * eight);
-        if live == ONES && all_domains && eight_ok(rows, memory) {
+        let numbers: &[u8; 8 * PAGE_NUMBERS] = part(numbers, 8 * PAGE_NUMBERS * eight);
+        if live == ONES && all_domains && eight_ok(rows, numbers, memory) {
             continue;
         }
-        if live & !ONES != 0 || !each_ok(state, rows, live, memory) {
+        if live & !ONES != 0 || !each_ok(state, rows, numbers, live, memory) {
             return false;
         }
     }
     true
 }
 
-/// Enough for eight live regions while every domain is live.
+/// Enough for eight live regions of one kind while every domain is live.
 #[inline(always)]
-fn eight_ok(rows: &[u8; 8 * REGION_ROW], memory: u64) -> bool {
+fn eight_ok(rows: &[u8; 8 * REGION_ROW], numbers: &[u8; 8 * PAGE_NUMBERS], memory: u64) -> bool {
+    if rows[REGION_KIND] == ADJACENT {
+        eight_alike(rows, ADJACENT, |_, row| range_ok(row, memory))
+    } else {
+        eight_paged(rows, numbers, memory / PAGE_BYTES)
+    }
+}
+
+#[inline(never)]
+fn eight_paged(rows: &[u8; 8 * REGION_ROW], numbers: &[u8; 8 * PAGE_NUMBERS], whole: u64) -> bool {
+    eight_alike(rows, PAGED, |n, row| pages_ok(row, part(numbers, n * PAGE_NUMBERS), whole))
+}
+
+#[inline(always)]
+fn eight_alike(rows: &[u8; 8 * REGION_ROW], kind: u8, lies: impl Fn(usize, &[u8; REGION_ROW]) -> bool) -> bool {
     let (mut any, mut all) = (0, !0);
     for n in 0..8 {
         let row: &[u8; REGION_ROW] = part(rows, n * REGION_ROW);
         any |= get32(row, 0);
         all &= get32(row, 0);
-        if row[REGION_VARIANT] == 0 || !range_ok(row, memory) {
+        if row[REGION_VARIANT] == 0 || !lies(n, row) {
             return false;
         }
     }
-    any & REGION_OUTSIDE == 0 && (byte(any, REGION_ACCESS) & 2 == 0 || byte(all, REGION_ACCESS) & 1 == 1)
+    let alike = byte(any, REGION_KIND) == kind.into() && byte(all, REGION_KIND) == kind.into();
+    alike && any & REGION_OUTSIDE == 0 && (byte(any, REGION_ACCESS) & 2 == 0 || byte(all, REGION_ACCESS) & 1 == 1)
 }
 
 #[inline(never)]
-fn each_ok(state: &State, rows: &[u8; 8 * REGION_ROW], live: u64, memory: u64) -> bool {
+fn each_ok(state: &State, rows: &[u8; 8 * REGION_ROW], numbers: &[u8; 8 * PAGE_NUMBERS], live: u64, memory: u64) -> bool {
     for n in 0..8 {
-        if live >> (8 * n) & 1 == 1 && !region_ok(state, part(rows, n * REGION_ROW), memory) {
+        if live >> (8 * n) & 1 == 1 && !region_ok(state, part(rows, n * REGION_ROW), part(numbers, n * PAGE_NUMBERS), memory) {
             return false;
         }
     }
@@ -149,19 +167,50 @@ fn each_ok(state: &State, rows: &[u8; 8 * REGION_ROW], live: u64, memory: u64) -
 }
 
 #[inline(always)]
-fn region_ok(state: &State, row: &[u8; REGION_ROW], memory: u64) -> bool {
+fn region_ok(state: &State, row: &[u8; REGION_ROW], numbers: &[u8; PAGE_NUMBERS], memory: u64) -> bool {
     let head = get32(row, 0);
+    let lies = |kind| if kind == u32::from(PAGED) { pages_ok(row, numbers, memory / PAGE_BYTES) } else { range_ok(row, memory) };
     head & REGION_OUTSIDE == 0
         && byte(head, REGION_ACCESS) & 3 != 2
         && byte(head, REGION_VARIANT) != 0
         && state[DOMAIN_FLAGS + byte(head, REGION_DOMAIN) as usize % DOMAINS] == 1
-        && range_ok(row, memory)
+        && lies(byte(head, REGION_KIND))
 }
 
+/// Of adjacent bytes.
 #[inline(always)]
 fn range_ok(row: &[u8; REGION_ROW], memory: u64) -> bool {
     let (start, length, virt) = (get64(row, REGION_START), get64(row, REGION_LENGTH), get64(row, REGION_VIRT));
     start <= memory && length.wrapping_sub(1) < memory - start && virt.checked_add(length).is_some()
+}
+
+/// Over pages of a memory with so many whole ones.
+#[inline(always)]
+fn pages_ok(row: &[u8; REGION_ROW], numbers: &[u8; PAGE_NUMBERS], whole: u64) -> bool {
+    let (start, length, virt) = (get64(row, REGION_START), get64(row, REGION_LENGTH), get64(row, REGION_VIRT));
+    let most = PAGE_BYTES * MOST_PAGES as u64;
+    start < PAGE_BYTES
+        && length.wrapping_sub(1) < most - start
+        && virt.checked_add(length).is_some()
+        && (largest(numbers) < whole || needed_ok(numbers, start + length, whole))
+}
+
+/// The largest of all sixteen numbers.
+#[inline(always)]
+fn largest(numbers: &[u8; PAGE_NUMBERS]) -> u64 {
+    let mut most = 0;
+    for k in 0..MOST_PAGES {
+        most = most.max(u16::from_le_bytes(*part(numbers, k * PAGE_ROW)));
+    }
+    most.into()
+}
+
+/// The numbers of the pages up to `end`.
+#[cold]
+#[inline(never)]
+fn needed_ok(numbers: &[u8; PAGE_NUMBERS], end: u64, whole: u64) -> bool {
+    let need = ((end + PAGE_BYTES - 1) / PAGE_BYTES) as usize;
+    (0..need).all(|k| u64::from(u16::from_le_bytes(*part(numbers, k * PAGE_ROW))) < whole)
 }
 
 // ---- queue pairs

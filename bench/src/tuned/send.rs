@@ -41,10 +41,38 @@ fn quick_write(state: &[u8], memory: &mut [u8], qpn: u32, record: &[u8]) -> Opti
     }
     let from = place(state, own, 0, piece.address, length, piece.key)?;
     let to = place(state, far, REMOTE_WRITE, get64(record, 16), length, get32(record, 24))?;
-    if from.max(to) + length > memory.len() {
+    if from.run < length || to.run < length {
+        return staged(memory, from, to, length);
+    }
+    if from.start.max(to.start) + length > memory.len() {
         return None;
     }
-    memory.copy_within(from..from + length, to);
+    memory.copy_within(from.start..from.start + length, to.start);
+    Some(())
+}
+
+/// Where a range begins in memory, how many of its bytes stand there, and where the others do if a page ends between them.
+#[derive(Clone, Copy)]
+struct Place {
+    start: usize,
+    run: usize,
+    then: usize,
+}
+
+/// All bytes are read before any is written; a page ends among them on one side or on both.
+#[inline(never)]
+fn staged(memory: &mut [u8], from: Place, to: Place, length: usize) -> Option<()> {
+    let mut staging = [0; MOST_MESSAGE];
+    let bytes = staging.get_mut(..length)?;
+    let (first, others) = bytes.split_at_mut(from.run.min(length));
+    first.copy_from_slice(memory.get(from.start..from.start + first.len())?);
+    others.copy_from_slice(memory.get(from.then..from.then + others.len())?);
+    let (first, others) = bytes.split_at(to.run.min(length));
+    if to.start + first.len() > memory.len() || to.then + others.len() > memory.len() {
+        return None;
+    }
+    memory[to.start..to.start + first.len()].copy_from_slice(first);
+    memory[to.then..to.then + others.len()].copy_from_slice(others);
     Some(())
 }
 
@@ -77,7 +105,7 @@ fn field(pair: u64, at: usize) -> u32 {
 
 /// Where a range that isn't empty stands in memory, if every byte of it is permitted.
 #[inline(always)]
-fn place(state: &State, domain: u32, right: u8, address: u64, length: usize, key: u32) -> Option<usize> {
+fn place(state: &State, domain: u32, right: u8, address: u64, length: usize, key: u32) -> Option<Place> {
     let slot = (key >> 8) as usize;
     if slot >= REGIONS || state[REGION_FLAGS + slot] != 1 {
         return None;
@@ -89,5 +117,18 @@ fn place(state: &State, domain: u32, right: u8, address: u64, length: usize, key
     if !fits || offset >= room || length as u64 > room - offset {
         return None;
     }
-    Some((get64(row, REGION_START) + offset) as usize)
+    let offset = get64(row, REGION_START) + offset;
+    if row[REGION_KIND] == ADJACENT {
+        return Some(Place { start: offset as usize, run: length, then: 0 });
+    }
+    let (at, place) = (offset % PAGE_BYTES, (offset / PAGE_BYTES) as usize % MOST_PAGES);
+    let run = (PAGE_BYTES - at) as usize;
+    let then = if run < length { page(state, slot, place + 1) } else { 0 };
+    Some(Place { start: page(state, slot, place) + at as usize, run, then })
+}
+
+/// The first byte of a region's page.
+#[inline(always)]
+fn page(state: &State, slot: usize, place: usize) -> usize {
+    PAGE_BYTES as usize * usize::from(u16::from_le_bytes(*part(state, page_row(slot, place % MOST_PAGES))))
 }

@@ -16,7 +16,7 @@ unsafe fn lent<'a>(bytes: *mut u8, length: usize) -> &'a mut [u8] {
 
 /// # Safety
 /// The pointer and length are those of a buffer that nothing else writes during the call.
-unsafe fn read<'a>(bytes: *const u8, length: usize) -> &'a [u8] {
+unsafe fn read<'a, T>(bytes: *const T, length: usize) -> &'a [T] {
     if length == 0 {
         &[]
     } else {
@@ -44,6 +44,24 @@ pub unsafe extern "C" fn lesungkap_control(
 ) -> u32 {
     let (state, command, ack) = unsafe { (lent(state, state_len), read(command, command_len), lent(ack, ack_len)) };
     reference::control(state, command, ack).to_bits()
+}
+
+/// # Safety
+/// As include/lesungkap.h says.
+#[no_mangle]
+pub unsafe extern "C" fn lesungkap_register_pages(
+    state: *mut u8,
+    state_len: usize,
+    command: *const u8,
+    command_len: usize,
+    pages: *const u64,
+    pages_len: usize,
+    ack: *mut u8,
+    ack_len: usize,
+) -> u32 {
+    let (state, ack) = unsafe { (lent(state, state_len), lent(ack, ack_len)) };
+    let (command, pages) = unsafe { (read(command, command_len), read(pages, pages_len)) };
+    reference::register_pages(state, command, pages, ack).to_bits()
 }
 
 /// # Safety

@@ -1,6 +1,6 @@
 //! The C functions of the proved library. Everything that a change of their names or arguments touches is in this file.
 
-/// The library's six calls (libengine.a, include/lesungkap.h).
+/// The library's seven calls (libengine.a, include/lesungkap.h).
 #[cfg(has_engine)]
 pub mod engine {
     extern "C" {
@@ -10,6 +10,16 @@ pub mod engine {
             state_len: usize,
             command: *const u8,
             command_len: usize,
+            ack: *mut u8,
+            ack_len: usize,
+        ) -> u32;
+        pub fn lesungkap_register_pages(
+            state: *mut u8,
+            state_len: usize,
+            command: *const u8,
+            command_len: usize,
+            pages: *const u64,
+            pages_len: usize,
             ack: *mut u8,
             ack_len: usize,
         ) -> u32;

@@ -11,6 +11,7 @@ use std::fmt;
 pub enum Call {
     Reset { memory_length: u64 },
     Control { command: Vec<u8>, ack: usize },
+    Pages { command: Vec<u8>, pages: Vec<u64>, ack: usize },
     Send { qpn: u32, record: Vec<u8>, memory: usize },
     Receive { qpn: u32, record: Vec<u8> },
     Flush { qpn: u32 },
@@ -22,6 +23,7 @@ impl Call {
         match self {
             Call::Reset { .. } => "reset",
             Call::Control { .. } => "control",
+            Call::Pages { .. } => "register pages",
             Call::Send { .. } => "send",
             Call::Receive { .. } => "receive",
             Call::Flush { .. } => "flush",
@@ -32,14 +34,14 @@ impl Call {
     /// How many bytes are lent for what it writes beside state and memory.
     pub fn buffer(&self) -> usize {
         match self {
-            Call::Control { ack: length, .. } | Call::Poll { buffer: length, .. } => *length,
+            Call::Control { ack: length, .. } | Call::Pages { ack: length, .. } | Call::Poll { buffer: length, .. } => *length,
             _ => 0,
         }
     }
 
     /// Whether a refusal other than 12 and 15 writes 1 to the buffer.
     pub fn has_ack(&self) -> bool {
-        matches!(self, Call::Control { .. })
+        matches!(self, Call::Control { .. } | Call::Pages { .. })
     }
 
     /// How long a memory is lent to it, if one is.
@@ -55,6 +57,7 @@ impl Call {
         match self {
             Call::Reset { memory_length } => card.reset(state, *memory_length),
             Call::Control { command, .. } => card.control(state, command, buffer),
+            Call::Pages { command, pages, .. } => card.register_pages(state, command, pages, buffer),
             Call::Send { qpn, record, .. } => card.post_send(state, memory, *qpn, record),
             Call::Receive { qpn, record } => card.post_receive(state, *qpn, record),
             Call::Flush { qpn } => card.flush(state, *qpn),
@@ -87,6 +90,9 @@ impl fmt::Display for Call {
         match self {
             Call::Reset { memory_length } => write!(f, "reset, memory length {memory_length}"),
             Call::Control { command, ack } => write!(f, "control {}, ack of {ack} bytes", hex(command)),
+            Call::Pages { command, pages, ack } => {
+                write!(f, "register pages {}, pages {pages:x?}, ack of {ack} bytes", hex(command))
+            }
             Call::Send { qpn, record, memory } => {
                 write!(f, "send on {qpn}, memory of {memory} bytes, record {}", hex(record))
             }

@@ -14,6 +14,10 @@ pub trait Card {
         lacks(self.name(), "control")
     }
 
+    fn register_pages(&self, _state: &mut [u8], _command: &[u8], _pages: &[u64], _ack: &mut [u8]) -> Outcome {
+        lacks(self.name(), "register pages")
+    }
+
     fn post_send(&self, _state: &mut [u8], _memory: &mut [u8], _qpn: u32, _record: &[u8]) -> Outcome {
         lacks(self.name(), "post send")
     }
@@ -48,6 +52,9 @@ macro_rules! card_of {
             }
             fn control(&self, state: &mut [u8], command: &[u8], ack: &mut [u8]) -> $crate::Outcome {
                 $crate::Outcome::from_bits($module::control(state, command, ack).to_bits())
+            }
+            fn register_pages(&self, state: &mut [u8], command: &[u8], pages: &[u64], ack: &mut [u8]) -> $crate::Outcome {
+                $crate::Outcome::from_bits($module::register_pages(state, command, pages, ack).to_bits())
             }
             fn post_send(&self, state: &mut [u8], memory: &mut [u8], qpn: u32, record: &[u8]) -> $crate::Outcome {
                 $crate::Outcome::from_bits($module::post_send(state, memory, qpn, record).to_bits())
@@ -107,6 +114,21 @@ mod linked {
         fn control(&self, state: &mut [u8], command: &[u8], ack: &mut [u8]) -> Outcome {
             outcome(unsafe {
                 lesungkap_control(state.as_mut_ptr(), state.len(), command.as_ptr(), command.len(), ack.as_mut_ptr(), ack.len())
+            })
+        }
+
+        fn register_pages(&self, state: &mut [u8], command: &[u8], pages: &[u64], ack: &mut [u8]) -> Outcome {
+            outcome(unsafe {
+                lesungkap_register_pages(
+                    state.as_mut_ptr(),
+                    state.len(),
+                    command.as_ptr(),
+                    command.len(),
+                    pages.as_ptr(),
+                    pages.len(),
+                    ack.as_mut_ptr(),
+                    ack.len(),
+                )
             })
         }
 

@@ -1,5 +1,9 @@
 //! Lent lengths and lent states: what no tape can show. Each check panics on a card that does anything else than document 01 says.
 
+use crate::lent_pages::PAGED_FAULTS;
+pub use crate::lent_pages::{
+    a_page_list_is_stored_by_numbers, each_fault_of_a_paged_region_is_found, pages_past_the_need_are_not_looked_at,
+};
 use crate::script::{device_ack, port_ack, ACCESSES};
 use cards::build::*;
 use cards::{Call, Card};
@@ -8,12 +12,12 @@ use reference::queues::RECEIVED;
 use reference::record::Completion;
 use reference::{accepts, fault, Fault, Outcome, ACK_BYTES};
 
-const LEFT: u8 = 0xa5;
+pub(crate) const LEFT: u8 = 0xa5;
 
 type Check = (&'static str, fn(&dyn Card));
 
 /// Every check by its name.
-pub const CHECKS: [Check; 16] = [
+pub const CHECKS: [Check; 19] = [
     ("reset_takes_1_to_16777216", reset_takes_1_to_16777216),
     ("ack_needs_13_bytes", ack_needs_13_bytes),
     ("queries_need_129_or_33_bytes", queries_need_129_or_33_bytes),
@@ -29,15 +33,18 @@ pub const CHECKS: [Check; 16] = [
     ("each_fault_is_found", each_fault_is_found),
     ("retired_slots_are_passed_over", retired_slots_are_passed_over),
     ("a_state_without_a_fault_is_taken", a_state_without_a_fault_is_taken),
+    ("each_fault_of_a_paged_region_is_found", each_fault_of_a_paged_region_is_found),
+    ("pages_past_the_need_are_not_looked_at", pages_past_the_need_are_not_looked_at),
+    ("a_page_list_is_stored_by_numbers", a_page_list_is_stored_by_numbers),
     ("a_refused_reset_leaves_the_card", a_refused_reset_leaves_the_card),
 ];
 
-fn answer(answer: u8) -> Outcome {
+pub(crate) fn answer(answer: u8) -> Outcome {
     Outcome { answer, status: 0 }
 }
 
 /// Two joined pairs with a region each, a waiting receive and an unread completion.
-fn sample(card: &dyn Card) -> Vec<u8> {
+pub(crate) fn sample(card: &dyn Card) -> Vec<u8> {
     let mut state = vec![0; STATE_BYTES];
     let mut memory = vec![0; 4096];
     card.reset(&mut state, 4096);
@@ -274,6 +281,8 @@ pub fn a_bad_state_comes_before_all_else(card: &dyn Card) {
         assert_eq!(card.control(&mut state, &[5], &mut [LEFT; 13]), answer(15));
         assert_eq!(card.control(&mut state, &query_device(), &mut ack), answer(15));
         assert_eq!(card.control(&mut state, &query_port(), &mut [LEFT; 33]), answer(15));
+        assert_eq!(card.register_pages(&mut state, &[5], &[1], &mut ack), answer(15));
+        assert_eq!(card.register_pages(&mut state, &register(0, 7, 0, 1, 0), &[0], &mut [LEFT; 13]), answer(15));
         assert_eq!(card.post_send(&mut state, &mut memory, 99, &[]), answer(15));
         assert_eq!(card.post_receive(&mut state, 99, &[]), answer(15));
         assert_eq!(card.flush(&mut state, 99), answer(15));
@@ -368,9 +377,10 @@ const FAULTS: [(Fault, usize, &[u8]); 41] = [
 ];
 
 /// A call of each kind but reset, with all that it is lent in order.
-fn tested_calls() -> [Call; 5] {
+fn tested_calls() -> [Call; 6] {
     [
         Call::Control { command: create_domain(), ack: ACK_BYTES },
+        Call::Pages { command: register(0, 7, 4095, 2, 0), pages: vec![0, 0], ack: ACK_BYTES },
         Call::Send { qpn: 0, record: Send::new(1, 0).bytes(), memory: 4096 },
         Call::Receive { qpn: 1, record: receive(1, &[]) },
         Call::Flush { qpn: 1 },
@@ -379,7 +389,7 @@ fn tested_calls() -> [Call; 5] {
 }
 
 /// Every call answers 15 and leaves every byte.
-fn refuses(card: &dyn Card, bad: &[u8], why: Fault) {
+pub(crate) fn refuses(card: &dyn Card, bad: &[u8], why: Fault) {
     assert_eq!(fault(bad), Some(why));
     for call in tested_calls() {
         let (mut state, mut memory, mut buffer) = (bad.to_vec(), vec![LEFT; 4096], vec![LEFT; call.buffer()]);
@@ -399,6 +409,7 @@ pub fn each_fault_is_found(card: &dyn Card) {
         refuses(card, &state, why);
         made.push(why);
     }
+    made.extend(PAGED_FAULTS.map(|(why, ..)| why));
     assert!(Fault::ALL.iter().all(|fault| made.contains(fault)), "a fault is not made");
 }
 
@@ -420,7 +431,7 @@ pub fn a_state_without_a_fault_is_taken(card: &dyn Card) {
         assert_eq!(fault(&lent), None);
         let answers =
             tested_calls().map(|call| call.make(card, &mut lent.clone(), &mut [0; 4096], &mut vec![LEFT; call.buffer()]).answer);
-        assert_eq!(answers, [0, 0, 0, 3, 0], "{}", card.name());
+        assert_eq!(answers, [0, 0, 0, 0, 3, 0], "{}", card.name());
     }
 }
 

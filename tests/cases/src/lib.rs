@@ -1,8 +1,12 @@
-//! Named lists of calls with the answers that documents 01 and 02 give them. Each runs on any card and can be written as a replay tape.
+//! Named lists of calls with the answers that documents 01 and 02 give them. Each runs on any card and, unless it has page lists, can be
+//! written as a replay tape.
 
 mod control;
 mod errors;
 pub mod lent;
+mod lent_pages;
+mod pages;
+mod pages_moves;
 mod posting;
 mod queues;
 mod rights;
@@ -16,7 +20,16 @@ pub use script::{Case, Script, Step, Wanted};
 
 /// Every case; names are unique.
 pub fn all() -> Vec<Case> {
-    let groups =
-        [control::cases(), posting::cases(), queues::cases(), errors::cases(), rights::cases(), traps::cases(), tape::cases()];
+    let groups = [
+        control::cases(),
+        posting::cases(),
+        queues::cases(),
+        errors::cases(),
+        rights::cases(),
+        pages::cases(),
+        pages_moves::cases(),
+        traps::cases(),
+        tape::cases(),
+    ];
     groups.into_iter().flatten().collect()
 }

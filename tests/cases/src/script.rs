@@ -2,13 +2,15 @@
 
 use cards::build::{self, Send};
 use cards::{Call, Outcome};
-use reference::ack_need;
 use reference::layout::COMPLETION_BYTES;
 use reference::record::{Completion, Piece};
 use reference::replay::MEMORY;
+use reference::{ack_need, ACK_BYTES};
 
 pub struct Case {
     pub name: String,
+    /// The length of the lent memory.
+    pub memory: usize,
     pub steps: Vec<Step>,
 }
 
@@ -19,6 +21,11 @@ pub enum Step {
     },
     /// What memory holds from here on; not on a tape.
     Memory {
+        at: usize,
+        bytes: Vec<u8>,
+    },
+    /// The guest writes its memory; not on a tape.
+    Guest {
         at: usize,
         bytes: Vec<u8>,
     },
@@ -33,23 +40,27 @@ pub struct Wanted {
 }
 
 impl Case {
-    /// The calls as a replay tape.
-    pub fn tape(&self) -> Vec<u8> {
+    /// The calls as a replay tape, if there are no page lists among them and the memory is a tape's.
+    pub fn tape(&self) -> Option<Vec<u8>> {
+        let has_pages = self.steps.iter().any(|step| matches!(step, Step::Call { call: Call::Pages { .. }, .. }));
+        if has_pages || self.memory != MEMORY {
+            return None;
+        }
         let mut tape = Vec::new();
         for step in &self.steps {
             match step {
                 Step::Call { call, .. } => tape.extend(call.tape_record().expect("a tape can hold it")),
-                Step::Memory { .. } => {}
+                Step::Memory { .. } | Step::Guest { .. } => {}
                 Step::Raw(bytes) => tape.extend(bytes),
             }
         }
-        tape
+        Some(tape)
     }
 }
 
 /// Writes a case, step by step.
-#[derive(Default)]
 pub struct Script {
+    memory: usize,
     steps: Vec<Step>,
 }
 
@@ -65,9 +76,14 @@ pub const REGION: u32 = 1024;
 pub const ACCESSES: [u32; 6] = [0, 1, 3, 4, 5, 7];
 
 impl Script {
-    /// A fresh card.
+    /// A fresh card over a tape's memory.
     pub fn new() -> Script {
-        Script::default()
+        Script::over(MEMORY)
+    }
+
+    /// A fresh card over a memory of this length.
+    pub fn over(memory: usize) -> Script {
+        Script { memory, steps: Vec::new() }
     }
 
     /// Two operators, each with a domain, a queue of `places`, a region with all rights and a queue pair; the pairs are joined and
@@ -92,7 +108,7 @@ impl Script {
     }
 
     pub fn named(self, name: impl Into<String>) -> Case {
-        Case { name: name.into(), steps: self.steps }
+        Case { name: name.into(), memory: self.memory, steps: self.steps }
     }
 
     pub fn step(&mut self, step: Step) -> &mut Script {
@@ -113,9 +129,9 @@ impl Script {
         self.call(Call::Control { command, ack: lent }, answer, 0, ack)
     }
 
-    /// Both queries of a card over a tape's memory.
+    /// Both queries.
     pub fn queries(&mut self) -> &mut Script {
-        self.control(build::query_device(), 0, device_ack(MEMORY as u64)).control(build::query_port(), 0, port_ack())
+        self.control(build::query_device(), 0, device_ack(self.memory as u64)).control(build::query_port(), 0, port_ack())
     }
 
     /// A command answered 0 whose ack has no data.
@@ -131,9 +147,21 @@ impl Script {
 
     /// A registration answered 0 that gives this key.
     pub fn register(&mut self, pdn: u32, access: u32, start: u64, length: u64, virt: u64, key: u32) -> &mut Script {
-        let number = key >> 8;
-        let ack = [&[0][..], &number.to_le_bytes(), &key.to_le_bytes(), &key.to_le_bytes()].concat();
-        self.control(build::register(pdn, access, start, length, virt), 0, ack)
+        self.control(build::register(pdn, access, start, length, virt), 0, keys_ack(key))
+    }
+
+    /// A registration over pages answered 0 that gives this key.
+    pub fn register_pages(&mut self, command: Vec<u8>, pages: &[u64], key: u32) -> &mut Script {
+        self.pages_call(command, pages, 0, keys_ack(key))
+    }
+
+    pub fn pages_refused(&mut self, command: Vec<u8>, pages: &[u64], answer: u8) -> &mut Script {
+        self.pages_call(command, pages, answer, vec![1])
+    }
+
+    /// With one ack byte more than it needs, which stays.
+    fn pages_call(&mut self, command: Vec<u8>, pages: &[u64], answer: u8, ack: Vec<u8>) -> &mut Script {
+        self.call(Call::Pages { command, pages: pages.to_vec(), ack: ACK_BYTES + 1 }, answer, 0, ack)
     }
 
     pub fn refused(&mut self, command: Vec<u8>, answer: u8) -> &mut Script {
@@ -167,7 +195,7 @@ impl Script {
     }
 
     pub fn send_bytes(&mut self, qpn: u8, record: Vec<u8>, answer: u8, status: u8) -> &mut Script {
-        self.call(Call::Send { qpn: qpn.into(), record, memory: MEMORY }, answer, status, vec![])
+        self.call(Call::Send { qpn: qpn.into(), record, memory: self.memory }, answer, status, vec![])
     }
 
     pub fn receive(&mut self, qpn: u8, wr_id: u64, pieces: &[Piece], answer: u8) -> &mut Script {
@@ -233,9 +261,20 @@ impl Script {
         self.step(Step::Memory { at, bytes: bytes.to_vec() })
     }
 
+    /// The guest writes these bytes.
+    pub fn guest(&mut self, at: usize, bytes: &[u8]) -> &mut Script {
+        self.step(Step::Guest { at, bytes: bytes.to_vec() })
+    }
+
     pub fn raw(&mut self, bytes: &[u8]) -> &mut Script {
         self.step(Step::Raw(bytes.to_vec()))
     }
+}
+
+/// The ack of a registration.
+pub fn keys_ack(key: u32) -> Vec<u8> {
+    let number = key >> 8;
+    [&[0][..], &number.to_le_bytes(), &key.to_le_bytes(), &key.to_le_bytes()].concat()
 }
 
 /// The ack of query device: 0, then 8 + 8 + 8 + 4 bytes, ten numbers of 4 bytes, and zeros, 128 bytes in all.

@@ -39,5 +39,8 @@ on_every_card! {
     each_fault_is_found,
     retired_slots_are_passed_over,
     a_state_without_a_fault_is_taken,
+    each_fault_of_a_paged_region_is_found,
+    pages_past_the_need_are_not_looked_at,
+    a_page_list_is_stored_by_numbers,
     a_refused_reset_leaves_the_card,
 }

@@ -1,5 +1,6 @@
 //! Which answers, statuses, completions and steps a run has seen.
 
+use crate::pages;
 use crate::side::Done;
 use cards::build::MASK_ACCESS;
 use cards::Call;
@@ -15,9 +16,10 @@ pub struct Coverage {
 }
 
 /// Every answer that each call can give.
-const ANSWERS: [(&str, &[u8]); 6] = [
+const ANSWERS: [(&str, &[u8]); 7] = [
     ("reset", &[0, 11, 15]),
     ("control", &[0, 1, 2, 3, 4, 8, 10, 11, 12, 13, 15]),
+    ("register pages", &[0, 1, 2, 4, 8, 11, 12, 13, 15]),
     ("send", &[0, 1, 2, 3, 4, 5, 6, 7, 15]),
     ("receive", &[0, 1, 2, 3, 4, 6, 8, 15]),
     ("flush", &[0, 2, 3, 6, 9, 15]),
@@ -137,6 +139,13 @@ impl Coverage {
         self.add(format!("{} answer {answer}", call.name()));
         match call {
             Call::Control { command, ack } => self.count_command(command, *ack, answer),
+            Call::Pages { command, pages, ack } => {
+                if let Some(card) = card {
+                    for cell in pages::of_registration(card, command, pages, *ack, answer) {
+                        self.add(format!("pages: {cell}"));
+                    }
+                }
+            }
             Call::Send { qpn, record, .. } => {
                 if answer == 0 {
                     self.add(format!("opcode {} status {}", record[8], done.outcome.status));
@@ -164,7 +173,7 @@ impl Coverage {
             self.add(format!("command {number} answer {answer}"));
         }
         match Command::read(command) {
-            Ok(Command::Register { access, .. }) => self.add(format!("access {access} answer {answer}")),
+            Ok(Command::Register(asked)) => self.add(format!("access {} answer {answer}", asked.access)),
             Ok(Command::ModifyPair { mask, state, access, .. }) => match (mask & MASK_ACCESS != 0, access > 7, answer) {
                 (true, _, 0) => self.add(format!("rights set with state {state}")),
                 (true, true, 4) => self.add("rights above 7, answer 4".into()),
@@ -204,6 +213,9 @@ impl Coverage {
             (5, _) => self.add(format!("step {}", hold_of_peer(qpn, sender, peer))),
             (6, Some(peer)) => self.add(format!("step {}", hold_of_place(card, &send, sender, peer))),
             (0, Some(peer)) => {
+                for cell in pages::of_send(card, &send, peer, status) {
+                    self.add(format!("pages: {cell}"));
+                }
                 self.count_rights(card, &send, sender, peer, status);
                 if status == 0 {
                     self.count_success(&send, sender, peer);
@@ -319,7 +331,7 @@ impl Coverage {
             for cell in cells {
                 let count = self.cells.get(&cell).copied().unwrap_or(0);
                 missing += usize::from(count == 0);
-                println!("  {cell:<52}{count:>10}{}", if count == 0 { "  NEVER SEEN" } else { "" });
+                println!("  {cell:<60}{count:>10}{}", if count == 0 { "  NEVER SEEN" } else { "" });
             }
         }
         missing
@@ -340,6 +352,7 @@ fn groups() -> Vec<(&'static str, Vec<String>)> {
         ("completions polled", cells("completion", "status", &COMPLETIONS)),
         ("access flags", RIGHTS.iter().map(|name| format!("rights {name}")).collect()),
         ("work posted in error", ERRORS.iter().map(|name| format!("error: {name}")).collect()),
+        ("page lists", pages::CELLS.iter().map(|cell| format!("pages: {cell}")).collect()),
         ("steps of post send", STEPS.iter().map(|step| format!("step {step}")).collect()),
     ]
 }

@@ -3,6 +3,7 @@
 
 mod coverage;
 mod guarded;
+mod pages;
 mod side;
 
 use cards::{Call, Card, Reference};
@@ -57,13 +58,13 @@ impl Run {
         self.card = Listing::of(&held);
         self.step(&Call::Reset { memory_length });
         if self.generator.rng().percent(2) {
-            for call in self.generator.many_variants() {
+            for call in self.generator.many_variants(memory_length) {
                 self.step(&call);
             }
         }
         let most = match memory_length {
             0..=65_536 => 600,
-            65_537..=1_048_576 => 60,
+            65_537..=2_097_152 => 60,
             _ => 20,
         };
         for _ in 0..most {

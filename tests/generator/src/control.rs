@@ -1,28 +1,30 @@
 //! Control commands that build a card up, use it and take it down.
 
-use crate::{pairs_where, Generator};
+use crate::{control, pairs_where, Generator};
 use cards::build::*;
+use cards::Call;
 use reference::layout::*;
 use reference::listing::Listing;
 
 impl Generator {
     /// What the card still needs: objects up to the goal, then pairs joined and ready.
-    pub(crate) fn set_up(&mut self, card: &Listing) -> Option<Vec<u8>> {
+    pub(crate) fn set_up(&mut self, card: &Listing) -> Option<Call> {
         let domains = card.domains.iter().filter(|&&live| live).count();
         if domains < self.goal.domains {
-            return Some(create_domain());
+            return Some(control(create_domain()));
         }
         if card.queues.iter().flatten().count() < self.goal.queues {
             let places = if self.rng.percent(40) { 1 + self.rng.below(3) } else { 1 + self.rng.below(16) };
-            return Some(create_queue(places as u32));
+            return Some(control(create_queue(places as u32)));
         }
         if card.regions.iter().flatten().count() < self.goal.regions {
-            return Some(self.registration(card));
+            let over_pages = self.pages && card.memory_length >= PAGE_BYTES && self.rng.percent(45);
+            return Some(if over_pages { self.page_registration(card) } else { control(self.registration(card)) });
         }
         if card.pairs.iter().flatten().count() < self.goal.pairs {
-            return Some(self.pair_creation(card));
+            return Some(control(self.pair_creation(card)));
         }
-        self.join_step(card)
+        self.join_step(card).map(control)
     }
 
     /// The next move of some pair towards ready to send with its neighbour.
@@ -81,16 +83,21 @@ impl Generator {
             1 => memory - length,
             _ => self.rng.below(memory - length + 1),
         };
-        let virt = match self.rng.below(6) {
+        let virt = self.virt(start, length);
+        // 2 and 6 are refused
+        let access = if self.rng.percent(60) { 7 } else { self.rng.below(8) as u32 };
+        register(self.live_domain(card), access, start, length, virt)
+    }
+
+    /// An address for a region's first byte.
+    pub(crate) fn virt(&mut self, start: u64, length: u64) -> u64 {
+        match self.rng.below(6) {
             0 => start,
             1 => 0,
             2 => u64::MAX - length,
             3 => u64::MAX - length - self.rng.below(5000),
             _ => self.rng.word() >> 1,
-        };
-        // 2 and 6 are refused
-        let access = if self.rng.percent(60) { 7 } else { self.rng.below(8) as u32 };
-        register(self.live_domain(card), access, start, length, virt)
+        }
     }
 
     fn pair_creation(&mut self, card: &Listing) -> Vec<u8> {

@@ -1,6 +1,7 @@
 //! Lent states pushed to and past the limits of their fields.
 
 use cards::Rng;
+use reference::accept::pages_needed;
 use reference::layout::*;
 
 /// Of how many region slots the fields are tried at a time.
@@ -96,17 +97,35 @@ fn region_fields(visit: &mut dyn FnMut(Field), state: &[u8], number: usize) {
     put(visit, live, row + REGION_ACCESS, 1, &[0, 1, 2, 3, 4, 5, 6, 7, 8, 255]);
     put(visit, true, row + REGION_VARIANT, 1, &[0, 1, 255]);
     put(visit, live, row + REGION_DOMAIN, 1, &[0, 1, 2, 3, 4, 5, 6, 7, 8, 255]);
-    put(visit, live, row + REGION_ZERO, 1, &[0, 255]);
+    put(visit, live, row + REGION_KIND, 1, &[ADJACENT.into(), PAGED.into(), 2, 128, 255]);
     put(visit, live, row + REGION_UNUSED, 4, &[0, u32::MAX.into()]);
     let last_start = memory.wrapping_sub(length);
-    let starts = [0, last_start, last_start.wrapping_add(1), memory, 0u64.wrapping_sub(length), u64::MAX];
+    let starts =
+        [0, last_start, last_start.wrapping_add(1), memory, 0u64.wrapping_sub(length), u64::MAX, PAGE_BYTES - 1, PAGE_BYTES];
     put(visit, live, row + REGION_START, 8, &starts);
     let last_length = memory.wrapping_sub(start);
     let to_top = u64::MAX - virt;
-    let lengths = [0, 1, last_length, last_length.wrapping_add(1), to_top, 0u64.wrapping_sub(start), u64::MAX];
+    let last_paged = (PAGE_BYTES * MOST_PAGES as u64).wrapping_sub(start);
+    let lengths = [
+        0,
+        1,
+        last_length,
+        last_length.wrapping_add(1),
+        to_top,
+        0u64.wrapping_sub(start),
+        u64::MAX,
+        last_paged,
+        last_paged.wrapping_add(1),
+    ];
     put(visit, live, row + REGION_LENGTH, 8, &lengths);
     let last_virt = u64::MAX.wrapping_sub(length);
     put(visit, live, row + REGION_VIRT, 8, &[0, last_virt, last_virt.wrapping_add(1), u64::MAX]);
+    let need = if live && state[row + REGION_KIND] == PAGED { pages_needed(start, length).unwrap_or(MOST_PAGES) } else { 0 };
+    let whole = memory / PAGE_BYTES;
+    for place in [0, need.saturating_sub(1), need.min(MOST_PAGES - 1), MOST_PAGES - 1] {
+        let pages = [0, whole.wrapping_sub(1), whole, whole + 1, 4095, 4096, 0xffff];
+        put(visit, place < need, page_row(number, place), PAGE_ROW, &pages);
+    }
 }
 
 fn pair_fields(visit: &mut dyn FnMut(Field), state: &[u8], number: usize) {

@@ -3,6 +3,7 @@
 mod control;
 mod damage;
 mod mutate;
+mod pages;
 mod work;
 
 pub use damage::{damage, fields, forget_destination, region_slots, Field};
@@ -10,7 +11,8 @@ pub use damage::{damage, fields, forget_destination, region_slots, Field};
 use cards::{build, Call, Reference, Rng};
 use reference::layout::*;
 use reference::listing::{Listing, PairListing, QueueListing};
-use reference::{ack_need, Outcome};
+use reference::record::REGISTER;
+use reference::{ack_need, Outcome, ACK_BYTES};
 
 pub struct Generator {
     rng: Rng,
@@ -21,6 +23,8 @@ pub struct Generator {
     goal: Goal,
     /// How many calls in a hundred are changed at a boundary.
     changed: u64,
+    /// Whether page lists are among the calls.
+    pages: bool,
 }
 
 struct Goal {
@@ -33,7 +37,12 @@ struct Goal {
 impl Generator {
     pub fn new(seed: u64) -> Generator {
         let goal = Goal { domains: 2, queues: 3, regions: 6, pairs: 4 };
-        Generator { rng: Rng::new(seed), wr_id: 0, keys: Vec::new(), goal, changed: 25 }
+        Generator { rng: Rng::new(seed), wr_id: 0, keys: Vec::new(), goal, changed: 25, pages: true }
+    }
+
+    /// Makes no page lists, which no tape can hold.
+    pub fn for_tapes(seed: u64) -> Generator {
+        Generator { pages: false, ..Generator::new(seed) }
     }
 
     pub fn rng(&mut self) -> &mut Rng {
@@ -56,17 +65,29 @@ impl Generator {
         match self.rng.below(20) {
             0 => 1 + self.rng.below(64),
             1 if self.rng.percent(10) => MOST_MEMORY - self.rng.below(2),
-            1 => (1 << 20) - self.rng.below(2),
+            1 => (1 << 20) - self.rng.below(2) + self.more_pages(),
             2..=7 => 4096,
             _ => 4096 + self.rng.below(12288),
         }
     }
 
-    /// Calls that register and deregister the lowest slot up to its last variant, and then the next.
-    pub fn many_variants(&mut self) -> Vec<Call> {
+    /// Where page lists are made, some pages behind the 256th, in bytes.
+    fn more_pages(&mut self) -> u64 {
+        if self.pages {
+            PAGE_BYTES * self.rng.below(256)
+        } else {
+            0
+        }
+    }
+
+    /// Calls that register and deregister the lowest slot up to its last variant, and then the next; over a page in turn, if the memory
+    /// has one.
+    pub fn many_variants(&mut self, memory_length: u64) -> Vec<Call> {
         let mut calls = vec![control(build::create_domain())];
         for n in 0..260 {
-            calls.push(control(build::register(0, 7, 0, 1, self.rng.word() >> 1)));
+            let command = build::register(0, 7, 0, 1, self.rng.word() >> 1);
+            let over_page = memory_length >= PAGE_BYTES && n % 3 == 0;
+            calls.push(if over_page { Call::Pages { command, pages: vec![0], ack: ACK_BYTES } } else { control(command) });
             calls.push(control(build::deregister(n / 255)));
         }
         calls
@@ -84,8 +105,8 @@ impl Generator {
 
     fn plain(&mut self, card: &Listing) -> Call {
         if self.rng.percent(60) {
-            if let Some(command) = self.set_up(card) {
-                return control(command);
+            if let Some(call) = self.set_up(card) {
+                return call;
             }
         }
         if self.rng.percent(10) {
@@ -103,6 +124,7 @@ impl Generator {
             45..=54 => self.receive(card, None),
             55..=79 => self.poll(card),
             80..=87 => self.flush(card),
+            88..=98 if self.pages && self.rng.percent(30) => self.any_pages(card),
             88..=98 => control(self.any_command(card)),
             _ => Call::Reset { memory_length: self.rng.pick(&[0, MOST_MEMORY + 1, 1 << 32, u64::MAX]) },
         }
@@ -153,8 +175,8 @@ impl Generator {
 
     /// Takes notice of a registration.
     pub fn observe(&mut self, call: &Call, outcome: Outcome, ack: &[u8]) {
-        if let (Call::Control { command, .. }, 0) = (call, outcome.answer) {
-            if command[1] == 7 {
+        if let (Call::Control { command, .. } | Call::Pages { command, .. }, 0) = (call, outcome.answer) {
+            if command[1] == REGISTER {
                 self.keys.push(get32(ack, 5));
             }
         }

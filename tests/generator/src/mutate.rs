@@ -4,10 +4,10 @@ use crate::work::{key_of, peer_of};
 use crate::Generator;
 use cards::build::{Modify, Send, MASK_ACCESS, MASK_DESTINATION};
 use cards::Call;
-use reference::ack_need;
 use reference::layout::*;
 use reference::listing::Listing;
 use reference::record::*;
+use reference::{ack_need, ACK_BYTES};
 
 impl Generator {
     /// A key that mostly isn't the right one.
@@ -210,6 +210,7 @@ impl Generator {
                 let ack = self.ack_length(ack_need(&command));
                 Call::Control { command, ack }
             }
+            Call::Pages { command, pages, .. } => Call::Pages { command, pages, ack: self.ack_length(ACK_BYTES) },
             Call::Poll { cqn, .. } => Call::Poll { cqn, buffer: self.rng.index(28) },
             Call::Send { record, memory, .. } if self.rng.percent(50) => {
                 Call::Send { qpn: self.number(PAIRS) | self.rng.pick(&[0, 8, 256]), record, memory }
@@ -225,7 +226,7 @@ impl Generator {
     }
 
     /// At both sides of what this command's ack needs, and of what another's does.
-    fn ack_length(&mut self, need: usize) -> usize {
+    pub(crate) fn ack_length(&mut self, need: usize) -> usize {
         match self.rng.below(4) {
             0 => self.rng.index(16),
             1 => self.rng.index(141),

@@ -112,6 +112,9 @@ impl Generator {
 
     /// An address from which `length` bytes lie in the region, often at one of its ends.
     pub(crate) fn address_in(&mut self, region: &Region, length: u64) -> u64 {
+        if let Some(offset) = self.offset_at_page_end(region, length) {
+            return region.virt + offset;
+        }
         let spare = region.length.saturating_sub(length);
         let offset = match self.rng.below(4) {
             0 => 0,
@@ -137,6 +140,11 @@ impl Generator {
                 None => break,
             };
             let wanted = if n + 1 == count { left } else { self.rng.below(left + 1) };
+            if let Some(piece) = self.a_page_away(pieces.last(), card, wanted) {
+                pieces.push(piece);
+                left -= wanted;
+                continue;
+            }
             let length = wanted.min(region.length);
             pieces.push(Piece { address: self.address_in(&region, length), length: length as u32, key: key_of(slot, &region) });
             left -= length;

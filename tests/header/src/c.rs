@@ -175,6 +175,8 @@ pub struct Mr {
     pub pdn: u32,
     pub access: u32,
     pub key: u32,
+    pub kind: u8,
+    pub pages: u8,
     pub start: u64,
     pub length: u64,
     pub virt: u64,
@@ -210,6 +212,7 @@ extern "C" {
     fn wrap_peek_pd(state: *const u8, length: usize, pdn: u32) -> c_uint;
     fn wrap_peek_cq(state: *const u8, length: usize, cqn: u32, cq: *mut Cq) -> c_uint;
     fn wrap_peek_mr(state: *const u8, length: usize, mrn: u32, mr: *mut Mr) -> c_uint;
+    fn wrap_peek_page(state: *const u8, length: usize, mrn: u32, index: u32, page: *mut u64) -> c_uint;
     fn wrap_peek_qp(state: *const u8, length: usize, qpn: u32, qp: *mut Qp) -> c_uint;
     fn wrap_peek_completion(state: *const u8, length: usize, cqn: u32, index: u32, completion: *mut Completion) -> c_uint;
     fn wrap_peek_receive(state: *const u8, length: usize, qpn: u32, index: u32, receive: *mut Receive) -> c_uint;
@@ -260,6 +263,10 @@ pub fn peek_cq(state: &[u8], cqn: u32) -> Result<Cq, u32> {
 
 pub fn peek_mr(state: &[u8], mrn: u32) -> Result<Mr, u32> {
     got(|mr| unsafe { wrap_peek_mr(state.as_ptr(), state.len(), mrn, mr) })
+}
+
+pub fn peek_page(state: &[u8], mrn: u32, index: u32) -> Result<u64, u32> {
+    got(|page| unsafe { wrap_peek_page(state.as_ptr(), state.len(), mrn, index, page) })
 }
 
 pub fn peek_qp(state: &[u8], qpn: u32) -> Result<Qp, u32> {

@@ -5,7 +5,7 @@ use std::fs;
 use std::path::Path;
 
 /// First byte, rows and bytes of a row of each table, in the page's order, by the names that numbers.txt uses.
-const TABLES: [[&str; 3]; 11] = [
+const TABLES: [[&str; 3]; 12] = [
     ["rows.MEMORY", "1", "Layout.memoryCodec.size"],
     ["Layout.pdFlagBase", "Limits.pdCount", "Layout.flagCodec.size"],
     ["Layout.cqFlagBase", "Limits.cqCount", "Layout.flagCodec.size"],
@@ -13,6 +13,7 @@ const TABLES: [[&str; 3]; 11] = [
     ["Layout.entryBase", "Layout.entryCount", "Records.completionCodec.size"],
     ["Layout.mrFlagBase", "Limits.mrCount", "Layout.flagCodec.size"],
     ["Layout.mrBase", "Limits.mrCount", "Layout.regionCodec.size"],
+    ["Layout.pageBase", "Layout.pageCount", "Layout.pageCodec.size"],
     ["Layout.qpFlagBase", "Limits.qpCount", "Layout.flagCodec.size"],
     ["Layout.qpBase", "Limits.qpCount", "Layout.pairCodec.size"],
     ["Layout.waitingBase", "Limits.qpCount", "Layout.waitingCodec.size"],
@@ -36,7 +37,7 @@ pub fn compare(root: &Path) -> Result<usize, String> {
         return Err(format!("the page has {} lines of tables, heading included", rows.len()));
     }
     for (row, [first, count, bytes]) in rows[1..].iter().zip(TABLES) {
-        let wanted = format!("| {} | {} × {} |", grouped(value(first)?), value(count)?, value(bytes)?);
+        let wanted = format!("| {} | {} × {} |", grouped(value(first)?), grouped(value(count)?), value(bytes)?);
         if !row.contains(&wanted) {
             return Err(format!("'{wanted}' is not on the line {row}"));
         }

@@ -4,7 +4,7 @@ use crate::c::{self, Record};
 use cards::{build, Rng};
 use reference::layout::{MOST_INLINE, MOST_PIECES, MOST_RECEIVE_PIECES};
 use reference::query::{Device, Port, DEVICE_ACK_BYTES, PORT_ACK_BYTES};
-use reference::record::{self, Command, Local, Piece, ReceiveRecord, SendRecord, INLINE, PIECE_BYTES};
+use reference::record::{self, Command, Local, Piece, ReceiveRecord, Registration, SendRecord, INLINE, PIECE_BYTES};
 
 const LEFT: u8 = 0xa5;
 
@@ -274,7 +274,7 @@ pub fn register(rng: &mut Rng) {
         c::RegisterMr { pdn: word32(rng), access: word32(rng), start: word64(rng), length: word64(rng), virt: word64(rng) };
     let bytes = build::register(value.pdn, value.access, value.start, value.length, value.virt);
     command(rng, value, bytes, &|read| match read {
-        Command::Register { domain, access, start, length, virt } => {
+        Command::Register(Registration { domain, access, start, length, virt }) => {
             Some(c::RegisterMr { pdn: domain, access, start, length, virt })
         }
         _ => None,

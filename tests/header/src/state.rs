@@ -55,11 +55,17 @@ fn compare(state: &[u8], listing: &Listing) {
             pdn: region.domain.into(),
             access: region.access.into(),
             key: 256 * n as u32 + u32::from(region.variant),
+            kind: if region.paged { PAGED } else { ADJACENT },
+            pages: listing.pages[n].len() as u8,
             start: region.start,
             length: region.length,
             virt: region.virt,
         });
         assert_eq!(c::peek_mr(state, n as u32), region.ok_or(NOT_LIVE), "region {n}");
+        for index in [0, 1, 2, 3, 15, 16, u32::MAX] {
+            let page = region.ok_or(NOT_LIVE).and_then(|_| listing.pages[n].get(index as usize).copied().ok_or(NOTHING));
+            assert_eq!(c::peek_page(state, n as u32, index), page, "page {index} of region {n}");
+        }
     }
     for n in numbers(PAIRS) {
         pair(state, n as u32, listing.pairs.get(n).and_then(Option::as_ref));
@@ -117,6 +123,7 @@ pub fn other_lengths() {
         assert_eq!(c::peek_pd(&state, 0), Err(BAD_STATE));
         assert_eq!(c::peek_cq(&state, 0), Err(BAD_STATE));
         assert_eq!(c::peek_mr(&state, 0), Err(BAD_STATE));
+        assert_eq!(c::peek_page(&state, 0, 0), Err(BAD_STATE));
         assert_eq!(c::peek_qp(&state, 0), Err(BAD_STATE));
         assert_eq!(c::peek_completion(&state, 0, 0), Err(BAD_STATE));
         assert_eq!(c::peek_receive(&state, 0, 0), Err(BAD_STATE));

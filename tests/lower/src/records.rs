@@ -5,6 +5,7 @@ use crate::fixture::*;
 use cards::build::*;
 use cards::{Call, Rng};
 use reference::record::*;
+use reference::ACK_BYTES;
 use std::ops::Range;
 
 /// The call that hands in a record.
@@ -12,6 +13,7 @@ type Handed = fn(Vec<u8>) -> Call;
 
 const SENDS: Handed = |record| Call::Send { qpn: SENDER, record, memory: MEMORY };
 const RECEIVES: Handed = |record| Call::Receive { qpn: RECEIVER, record };
+const LISTS: Handed = |record| Call::Pages { command: record, pages: vec![4096, 0], ack: ACK_BYTES };
 
 /// Records handed in by one call, on the card of the fixture.
 struct Records<'b, 'a> {
@@ -34,6 +36,10 @@ pub fn compare(both: &mut Both, rng: &mut Rng) {
     }
     for answer in [0, 1, 12, 13] {
         both.tally.require("ack", format!("answer {answer}"));
+        both.tally.require("ack of a page list", format!("answer {answer}"));
+    }
+    for answer in [0, 1, 2, 4, 11, 13] {
+        both.tally.require("page list", format!("answer {answer}"));
     }
     let (state, memory) = (state(), memory(rng));
     let mut records = Records { check: "send record", hand: SENDS, both, state, memory };
@@ -43,6 +49,8 @@ pub fn compare(both: &mut Both, rng: &mut Rng) {
     records = Records { check: "command", hand: control, ..records };
     commands(&mut records, rng);
     acks(&mut records);
+    records = Records { check: "page list", hand: LISTS, ..records };
+    page_lists(&mut records, rng);
 }
 
 impl Records<'_, '_> {
@@ -271,6 +279,50 @@ fn acks(records: &mut Records) {
         for ack in 0..=140 {
             let call = Call::Control { command: command.to_vec(), ack };
             records.both.count("ack", &call, &records.state, &records.memory);
+        }
+    }
+}
+
+// ---- page lists
+
+/// Every field of the record, every bit of an entry, lists of every length, and random ones; records of other commands.
+fn page_lists(records: &mut Records, rng: &mut Rng) {
+    let command = register(0, 5, 4095, 2, 3 << 32);
+    records.check_fields(&command, &[0..command.len()]);
+    let mut bytes = [0; 48];
+    for class in [5, 6, 7] {
+        for number in 0..=16 {
+            rng.fill(&mut bytes);
+            bytes[..2].copy_from_slice(&[class, number]);
+            records.check_lengths(&bytes, 48);
+        }
+    }
+    let mut list = |start: u64, length: u64, pages: Vec<u64>| {
+        let call = Call::Pages { command: register(0, 5, start, length, 3 << 32), pages, ack: ACK_BYTES };
+        records.both.count("page list", &call, &records.state, &records.memory);
+    };
+    for place in 0..3 {
+        for bit in 0..64 {
+            let mut pages = vec![4096, 0, 4096];
+            pages[place] ^= 1 << bit;
+            list(100, 8192, pages);
+        }
+    }
+    for length in [1, 4096, 4097, 8192, 8193, 61440, 61441, 65535, 65536, 65537, 69632, u64::MAX] {
+        for start in [0, 1, 4095, 4096] {
+            (0..=20).for_each(|count| list(start, length, vec![4096; count]));
+        }
+    }
+    for _ in 0..20_000 {
+        let (start, length) = (rng.below(4200), rng.below(20_000));
+        let need = (start + length + 4095) / 4096;
+        let count = if rng.percent(80) { need } else { rng.below(18) };
+        list(start, length, (0..count).map(|_| rng.pick(&[0, 0, 4096, 4096, 4096, 8192, 4095, u64::MAX - 4095])).collect());
+    }
+    for command in [&[6, 0][..], &[6, 1], &[6, 0, 0], &[6, 4], &[6], &[5, 7], &[], &command] {
+        for ack in 0..=140 {
+            let call = Call::Pages { command: command.to_vec(), pages: vec![0, 0], ack };
+            records.both.count("ack of a page list", &call, &records.state, &records.memory);
         }
     }
 }

@@ -157,6 +157,7 @@ fn with_live(table: usize, live: &[bool]) -> Vec<u8> {
             1 => state[queue_row(n) + QUEUE_PLACES] = 1 + n as u8,
             2 => {
                 state[region_row(n) + REGION_VARIANT] = 1;
+                state[region_row(n) + REGION_KIND] = if n % 3 == 2 { PAGED } else { ADJACENT };
                 put64(&mut state, region_row(n) + REGION_LENGTH, 1);
             }
             _ => state[pair_row(n) + PAIR_DESTINATION] = NO_DESTINATION,

@@ -13,7 +13,7 @@ pub fn tapes() -> impl Iterator<Item = (String, Vec<u8>)> {
 }
 
 fn tape(seed: u64) -> Vec<u8> {
-    let mut generator = Generator::new(seed);
+    let mut generator = Generator::for_tapes(seed);
     let mut state = vec![0; STATE_BYTES];
     let mut memory = vec![0; MEMORY];
     reference::reset(&mut state, MEMORY as u64);

@@ -66,12 +66,12 @@ fn main() -> ExitCode {
 /// Up to what finds each card out; gives back how many nothing does.
 fn first(named: &[Named]) -> usize {
     let mut survivors = 0;
-    println!("{:<48}found by", "wrong card");
+    println!("{:<64}found by", "wrong card");
     for &(card, _) in ALL {
         let found = named.iter().find(|named| named.fails(card)).map(|named| named.name.clone());
         let found = found.or_else(|| compared(card).map(|call| format!("call {call} of the comparison")));
         survivors += usize::from(found.is_none());
-        println!("{:<48}{}", card.name(), found.unwrap_or("NOT FOUND".into()));
+        println!("{:<64}{}", card.name(), found.unwrap_or("NOT FOUND".into()));
     }
     println!("{} wrong cards, {survivors} not found", ALL.len());
     survivors

@@ -1,4 +1,4 @@
-//! The tapes and tests that a line of the trace names, on the wrong cards that break the line.
+//! The tapes, cases and tests that a line of the trace names, on the wrong cards that break the line.
 
 use crate::{compared, Named, ALL};
 use cards::Card;
@@ -38,7 +38,7 @@ pub(crate) fn check(file: &str, named: &[Named]) -> usize {
     faults.len()
 }
 
-/// The words `tape` and `test` with their names, and whether the comparison is named; None if it is no line of the trace.
+/// The words `tape`, `case` and `test` with their names, and whether the comparison is named; None if it is no line of the trace.
 fn read(text: &str) -> Option<Line<'_>> {
     let cells: Vec<&str> = text.strip_prefix("| ")?.strip_suffix(" |")?.split(" | ").collect();
     let (id, noticed) = match cells[..] {
@@ -48,7 +48,7 @@ fn read(text: &str) -> Option<Line<'_>> {
     let mut line = Line { id, named: Vec::new(), comparison: false };
     for item in noticed.split("; ") {
         line.comparison |= item == "the comparison";
-        if item.starts_with("tape ") || item.starts_with("test ") {
+        if ["tape ", "case ", "test "].iter().any(|word| item.starts_with(word)) {
             line.named.extend(item.split('`').skip(1).step_by(2));
         }
     }

@@ -21,8 +21,12 @@ pub enum Fault {
     RegionVariant,
     RegionDomain,
     RegionEmpty,
-    RegionMemory,
     RegionAddress,
+    RegionKind,
+    RegionMemory,
+    RegionStart,
+    RegionPages,
+    RegionPage,
     PairFlag,
     PairDomain,
     PairSendQueue,
@@ -38,7 +42,7 @@ pub enum Fault {
 }
 
 impl Fault {
-    pub const ALL: [Fault; 30] = [
+    pub const ALL: [Fault; 34] = [
         Fault::StateLength,
         Fault::MemoryLength,
         Fault::DomainFlag,
@@ -55,8 +59,12 @@ impl Fault {
         Fault::RegionVariant,
         Fault::RegionDomain,
         Fault::RegionEmpty,
-        Fault::RegionMemory,
         Fault::RegionAddress,
+        Fault::RegionKind,
+        Fault::RegionMemory,
+        Fault::RegionStart,
+        Fault::RegionPages,
+        Fault::RegionPage,
         Fault::PairFlag,
         Fault::PairDomain,
         Fault::PairSendQueue,
@@ -153,8 +161,27 @@ fn check_region(state: &State, number: usize, memory: u64) -> Result<(), Fault> 
     ensure(state[row + REGION_VARIANT] != 0, Fault::RegionVariant)?;
     ensure(live_domain(state, state[row + REGION_DOMAIN]), Fault::RegionDomain)?;
     ensure(length != 0, Fault::RegionEmpty)?;
-    ensure(length <= memory && start <= memory - length, Fault::RegionMemory)?;
-    ensure(virt <= u64::MAX - length, Fault::RegionAddress)
+    ensure(virt <= u64::MAX - length, Fault::RegionAddress)?;
+    match state[row + REGION_KIND] {
+        ADJACENT => ensure(length <= memory && start <= memory - length, Fault::RegionMemory),
+        PAGED => check_pages(state, number, start, length, memory),
+        _ => Err(Fault::RegionKind),
+    }
+}
+
+/// How many pages the bytes lie in that begin at this offset into the first of them; None if in more than a region may have.
+pub fn pages_needed(start: u64, length: u64) -> Option<usize> {
+    let end = start.checked_add(length)?;
+    let pages = end / PAGE_BYTES + u64::from(end % PAGE_BYTES != 0);
+    (pages <= MOST_PAGES as u64).then_some(pages as usize)
+}
+
+fn check_pages(state: &State, number: usize, start: u64, length: u64, memory: u64) -> Result<(), Fault> {
+    ensure(start < PAGE_BYTES, Fault::RegionStart)?;
+    let count = pages_needed(start, length).ok_or(Fault::RegionPages)?;
+    let whole_pages = memory / PAGE_BYTES;
+    let mut pages = state[page_row(number, 0)..page_row(number, count)].chunks_exact(PAGE_ROW);
+    ensure(pages.all(|page| u64::from(get16(page, 0)) < whole_pages), Fault::RegionPage)
 }
 
 fn check_pair(state: &State, number: usize) -> Result<(), Fault> {

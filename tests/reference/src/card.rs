@@ -15,6 +15,9 @@ pub struct Region {
     pub access: u8,
     pub variant: u8,
     pub domain: u8,
+    /// Whether it lies over pages; else it is of adjacent bytes.
+    pub paged: bool,
+    /// Of its first byte: in the memory, or in its first page.
     pub start: u64,
     pub length: u64,
     pub virt: u64,
@@ -162,6 +165,7 @@ impl<'a> Card<'a> {
             access: self.bytes[row + REGION_ACCESS],
             variant: self.bytes[row + REGION_VARIANT],
             domain: self.bytes[row + REGION_DOMAIN],
+            paged: self.bytes[row + REGION_KIND] == PAGED,
             start: get64(self.bytes, row + REGION_START),
             length: get64(self.bytes, row + REGION_LENGTH),
             virt: get64(self.bytes, row + REGION_VIRT),
@@ -175,10 +179,34 @@ impl<'a> Card<'a> {
         self.bytes[row + REGION_ACCESS] = region.access;
         self.bytes[row + REGION_VARIANT] = region.variant;
         self.bytes[row + REGION_DOMAIN] = region.domain;
-        self.bytes[row + REGION_ZERO] = 0;
+        self.bytes[row + REGION_KIND] = if region.paged { PAGED } else { ADJACENT };
         put64(self.bytes, row + REGION_START, region.start);
         put64(self.bytes, row + REGION_LENGTH, region.length);
         put64(self.bytes, row + REGION_VIRT, region.virt);
+    }
+
+    /// The first byte of one of a region's pages.
+    pub fn page(&self, number: usize, place: usize) -> u64 {
+        PAGE_BYTES * u64::from(get16(self.bytes, page_row(number, place)))
+    }
+
+    /// Stores the first bytes of a region's pages; they lie in the memory.
+    pub fn put_pages(&mut self, number: usize, pages: &[u64]) {
+        for (place, page) in pages.iter().enumerate() {
+            put16(self.bytes, page_row(number, place), (page / PAGE_BYTES) as u16);
+        }
+    }
+
+    /// The memory byte that an address of a region is, and how many bytes from there on are those of the next addresses, up to `most`.
+    pub fn byte_of(&self, number: usize, address: u64, most: usize) -> (usize, usize) {
+        let region = self.region(number);
+        let offset = region.start + (address - region.virt);
+        if !region.paged {
+            return (offset as usize, most);
+        }
+        let in_page = offset % PAGE_BYTES;
+        let page = self.page(number, (offset / PAGE_BYTES) as usize);
+        ((page + in_page) as usize, most.min((PAGE_BYTES - in_page) as usize))
     }
 
     pub fn drop_region(&mut self, number: usize) {

@@ -4,8 +4,9 @@ use crate::accept::{access_flags_ok, access_ok};
 use crate::answer::{Outcome, Refusal};
 use crate::card::{Card, Pair, Region};
 use crate::layout::*;
+use crate::pages::pages_fit;
 use crate::query::{Device, Port, DEVICE_ACK_BYTES, PORT_ACK_BYTES};
-use crate::record::{Command, CONTROL_CLASS};
+use crate::record::{Command, Registration, CONTROL_CLASS};
 
 /// The shortest ack buffer of every record that is no query.
 pub const ACK_BYTES: usize = 13;
@@ -16,7 +17,7 @@ const MASK_DESTINATION: u32 = 1 << 15;
 const RELIABLE_CONNECTION: u8 = 2;
 
 /// What follows the ack byte.
-enum Ack {
+pub enum Ack {
     Empty,
     Number(usize),
     Keys { number: usize, key: u32 },
@@ -42,7 +43,12 @@ pub fn control(state: &mut [u8], command: &[u8], ack: &mut [u8]) -> Outcome {
     if ack.len() < ack_need(command) {
         return Refusal::BufferTooShort.into();
     }
-    match Command::read(command).and_then(|command| run(&mut card, command)) {
+    acknowledge(ack, Command::read(command).and_then(|command| run(&mut card, command)))
+}
+
+/// Writes the ack of a command that was done or refused.
+pub fn acknowledge(ack: &mut [u8], result: Result<Ack, Refusal>) -> Outcome {
+    match result {
         Ok(data) => {
             write_ack(ack, &data);
             Outcome::DONE
@@ -77,7 +83,7 @@ fn run(card: &mut Card, command: Command) -> Result<Ack, Refusal> {
         Command::DestroyQueue { number } => destroy_queue(card, number),
         Command::CreateDomain => create_domain(card),
         Command::DestroyDomain { number } => destroy_domain(card, number),
-        Command::Register { domain, access, start, length, virt } => register(card, domain, access, start, length, virt),
+        Command::Register(asked) => register(card, asked, None),
         Command::Deregister { number } => deregister(card, number),
         Command::CreatePair { domain, kind, signal, send_queue, receive_queue } => {
             create_pair(card, domain, kind, signal, send_queue, receive_queue)
@@ -124,19 +130,26 @@ fn destroy_domain(card: &mut Card, number: u32) -> Result<Ack, Refusal> {
     Ok(Ack::Empty)
 }
 
-fn register(card: &mut Card, domain: u32, access: u32, start: u64, length: u64, virt: u64) -> Result<Ack, Refusal> {
+/// Makes a region of adjacent bytes of the memory, or over the pages that are listed by their first bytes.
+pub fn register(card: &mut Card, asked: Registration, pages: Option<&[u64]>) -> Result<Ack, Refusal> {
+    let Registration { domain, access, start, length, virt } = asked;
     if !access_ok(access) {
         return Err(Refusal::BadField);
     }
     let domain = card.domain(domain)?;
     let memory = card.memory_length();
-    let in_memory = start.checked_add(length).map_or(false, |end| end <= memory);
+    let in_memory = match pages {
+        None => start.checked_add(length).map_or(false, |end| end <= memory),
+        Some(pages) => pages_fit(pages, start, length, memory),
+    };
     if length == 0 || !in_memory || virt.checked_add(length).is_none() {
         return Err(Refusal::Range);
     }
     let number = card.free_region().ok_or(Refusal::Full)?;
     let variant = card.next_variant(number);
-    card.create_region(number, &Region { access: access as u8, variant, domain: domain as u8, start, length, virt });
+    let paged = pages.is_some();
+    card.put_pages(number, pages.unwrap_or(&[]));
+    card.create_region(number, &Region { access: access as u8, variant, domain: domain as u8, paged, start, length, virt });
     Ok(Ack::Keys { number, key: 256 * number as u32 + u32::from(variant) })
 }
 

@@ -13,6 +13,9 @@ pub const MOST_RECEIVE_PIECES: usize = 2;
 pub const MOST_INLINE: usize = 512;
 pub const MOST_MESSAGE: usize = 4096;
 pub const MOST_MEMORY: u64 = 1 << 24;
+pub const PAGE_BYTES: u64 = 4096;
+/// Pages of one region.
+pub const MOST_PAGES: usize = 16;
 
 // ---- where each table begins: one block for each kind of object, a column of live flags and then its rows
 
@@ -25,7 +28,8 @@ pub const QUEUE_ROWS: usize = QUEUE_FLAGS + QUEUES;
 pub const COMPLETION_ROWS: usize = QUEUE_ROWS + QUEUES * QUEUE_ROW;
 pub const REGION_FLAGS: usize = COMPLETION_ROWS + QUEUES * MOST_PLACES * COMPLETION_BYTES;
 pub const REGION_ROWS: usize = REGION_FLAGS + REGIONS;
-pub const PAIR_FLAGS: usize = REGION_ROWS + REGIONS * REGION_ROW;
+pub const PAGE_ROWS: usize = REGION_ROWS + REGIONS * REGION_ROW;
+pub const PAIR_FLAGS: usize = PAGE_ROWS + REGIONS * MOST_PAGES * PAGE_ROW;
 pub const PAIR_ROWS: usize = PAIR_FLAGS + PAIRS;
 pub const WAITING_ROWS: usize = PAIR_ROWS + PAIRS * PAIR_ROW;
 pub const RECEIVE_ROWS: usize = WAITING_ROWS + PAIRS * WAITING_ROW;
@@ -52,11 +56,14 @@ const REGION_ROW: usize = 32;
 pub const REGION_ACCESS: usize = 0;
 pub const REGION_VARIANT: usize = 1;
 pub const REGION_DOMAIN: usize = 2;
-pub const REGION_ZERO: usize = 3;
+pub const REGION_KIND: usize = 3;
 pub const REGION_UNUSED: usize = 4;
 pub const REGION_START: usize = 8;
 pub const REGION_LENGTH: usize = 16;
 pub const REGION_VIRT: usize = 24;
+
+/// A page's number: that of its first byte, in pages.
+pub const PAGE_ROW: usize = 2;
 
 const PAIR_ROW: usize = 8;
 pub const PAIR_DOMAIN: usize = 0;
@@ -90,6 +97,11 @@ pub const fn region_row(number: usize) -> usize {
     REGION_ROWS + number * REGION_ROW
 }
 
+/// Place `place` of a region's pages; past the last it is where the next region's begin.
+pub const fn page_row(number: usize, place: usize) -> usize {
+    PAGE_ROWS + (number * MOST_PAGES + place) * PAGE_ROW
+}
+
 pub const fn pair_row(number: usize) -> usize {
     PAIR_ROWS + number * PAIR_ROW
 }
@@ -108,7 +120,12 @@ pub const FLAGS: [(usize, usize); 4] =
     [(DOMAIN_FLAGS, DOMAINS), (QUEUE_FLAGS, QUEUES), (REGION_FLAGS, REGIONS), (PAIR_FLAGS, PAIRS)];
 
 /// First byte and length of each part that says what is live, what it names and where its rows stand.
-pub const HEADS: [(usize, usize); 2] = [(0, COMPLETION_ROWS), (REGION_FLAGS, RECEIVE_ROWS - REGION_FLAGS)];
+pub const HEADS: [(usize, usize); 3] =
+    [(0, COMPLETION_ROWS), (REGION_FLAGS, PAGE_ROWS - REGION_FLAGS), (PAIR_FLAGS, RECEIVE_ROWS - PAIR_FLAGS)];
+
+/// Kinds of region: of adjacent bytes of the memory, and over pages.
+pub const ADJACENT: u8 = 0;
+pub const PAGED: u8 = 1;
 
 /// A queue pair's destination that names nobody.
 pub const NO_DESTINATION: u8 = 8;
@@ -133,6 +150,10 @@ pub fn get32(bytes: &[u8], at: usize) -> u32 {
 
 pub fn get64(bytes: &[u8], at: usize) -> u64 {
     u64::from_le_bytes(bytes[at..at + 8].try_into().unwrap())
+}
+
+pub fn put16(bytes: &mut [u8], at: usize, value: u16) {
+    bytes[at..at + 2].copy_from_slice(&value.to_le_bytes());
 }
 
 pub fn put32(bytes: &mut [u8], at: usize, value: u32) {

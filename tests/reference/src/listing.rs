@@ -1,5 +1,6 @@
 //! The objects of an accepted state, with nothing that has no meaning: neither the bytes of free slots nor the rings' first places.
 
+use crate::accept::pages_needed;
 use crate::card::{Card, Pair, Region};
 use crate::layout::*;
 use crate::record::{Completion, Piece};
@@ -12,6 +13,8 @@ pub struct Listing {
     pub queues: Vec<Option<QueueListing>>,
     pub variants: Vec<u8>,
     pub regions: Vec<Option<Region>>,
+    /// The first bytes of the pages of each region over pages; none of other slots.
+    pub pages: Vec<Vec<u64>>,
     pub pairs: Vec<Option<PairListing>>,
 }
 
@@ -44,6 +47,7 @@ impl Listing {
             queues: (0..QUEUES).map(|n| queue(&card, n)).collect(),
             variants: (0..REGIONS).map(|n| card.region(n).variant).collect(),
             regions: (0..REGIONS).map(|n| card.live_region(n).then(|| card.region(n))).collect(),
+            pages: (0..REGIONS).map(|n| pages(&card, n)).collect(),
             pairs: (0..PAIRS).map(|n| pair(&card, n)).collect(),
         })
     }
@@ -55,6 +59,7 @@ impl Listing {
             .or_else(|| differing("queue", &self.queues, &other.queues))
             .or_else(|| differing("variant", &self.variants, &other.variants))
             .or_else(|| differing("region", &self.regions, &other.regions))
+            .or_else(|| differing("pages of region", &self.pages, &other.pages))
             .or_else(|| differing("pair", &self.pairs, &other.pairs))
     }
 }
@@ -68,6 +73,15 @@ fn queue(card: &Card, number: usize) -> Option<QueueListing> {
     card.queue(number as u32).ok()?;
     let unread = (0..card.unread(number)).map(|index| card.completion(number, index)).collect();
     Some(QueueListing { places: card.places(number), unread })
+}
+
+fn pages(card: &Card, number: usize) -> Vec<u64> {
+    let region = card.region(number);
+    if !card.live_region(number) || !region.paged {
+        return Vec::new();
+    }
+    let count = pages_needed(region.start, region.length).unwrap_or(0);
+    (0..count).map(|place| card.page(number, place)).collect()
 }
 
 fn pair(card: &Card, number: usize) -> Option<PairListing> {

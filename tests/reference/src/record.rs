@@ -4,6 +4,8 @@ use crate::answer::Refusal;
 use crate::layout::*;
 
 pub const CONTROL_CLASS: u8 = 6;
+/// The command that registers a region.
+pub const REGISTER: u8 = 7;
 pub const SEND_BYTES: usize = 576;
 pub const RECEIVE_BYTES: usize = 24;
 pub const PIECE_BYTES: usize = 16;
@@ -189,6 +191,16 @@ impl Completion {
     }
 }
 
+/// What a registration asks for.
+#[derive(Clone, Copy, Debug, PartialEq, Eq)]
+pub struct Registration {
+    pub domain: u32,
+    pub access: u32,
+    pub start: u64,
+    pub length: u64,
+    pub virt: u64,
+}
+
 /// A control command with its data.
 #[derive(Clone, Copy, Debug, PartialEq, Eq)]
 pub enum Command {
@@ -198,7 +210,7 @@ pub enum Command {
     DestroyQueue { number: u32 },
     CreateDomain,
     DestroyDomain { number: u32 },
-    Register { domain: u32, access: u32, start: u64, length: u64, virt: u64 },
+    Register(Registration),
     Deregister { number: u32 },
     CreatePair { domain: u32, kind: u8, signal: u8, send_queue: u32, receive_queue: u32 },
     ModifyPair { number: u32, mask: u32, state: u8, padding: [u8; 3], destination: u32, access: u32 },
@@ -232,7 +244,7 @@ impl Command {
             3 => Command::DestroyQueue { number: get32(data, 0) },
             4 => Command::CreateDomain,
             5 => Command::DestroyDomain { number: get32(data, 0) },
-            7 => read_register(data),
+            7 => Command::Register(Registration::read(data)),
             8 => Command::Deregister { number: get32(data, 0) },
             9 => read_create_pair(data),
             10 => read_modify_pair(data),
@@ -241,13 +253,25 @@ impl Command {
     }
 }
 
-fn read_register(data: &[u8]) -> Command {
-    Command::Register {
-        domain: get32(data, 0),
-        access: get32(data, 4),
-        start: get64(data, 8),
-        length: get64(data, 16),
-        virt: get64(data, 24),
+impl Registration {
+    /// The data has 32 bytes.
+    fn read(data: &[u8]) -> Registration {
+        Registration {
+            domain: get32(data, 0),
+            access: get32(data, 4),
+            start: get64(data, 8),
+            length: get64(data, 16),
+            virt: get64(data, 24),
+        }
+    }
+
+    /// A command that registers, and no other.
+    pub fn of_command(record: &[u8]) -> Result<Registration, Refusal> {
+        match record {
+            [CONTROL_CLASS, REGISTER, data @ ..] if data.len() == 32 => Ok(Registration::read(data)),
+            [CONTROL_CLASS, REGISTER, ..] | [_] | [] => Err(Refusal::RecordLength),
+            _ => Err(Refusal::Unknown),
+        }
     }
 }
 

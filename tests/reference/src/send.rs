@@ -13,9 +13,22 @@ const RECEIVED_WITH_WRITE: u8 = 4;
 
 /// Memory bytes `start` to `start + length`.
 #[derive(Clone, Copy, Default)]
-struct Span {
+struct Run {
     start: usize,
     length: usize,
+}
+
+/// Where the bytes of a range stand: in one run, and where a page ends among them in a second one.
+#[derive(Clone, Copy, Default)]
+struct Span {
+    runs: [Run; 2],
+}
+
+impl Span {
+    /// Its one run, if it has no second.
+    fn only_run(&self) -> Option<Run> {
+        (self.runs[1].length == 0).then_some(self.runs[0])
+    }
 }
 
 /// The two sides of a request that is neither refused nor held.
@@ -249,7 +262,13 @@ fn span(card: &Card, pair: &Pair, right: u8, address: u64, length: usize, key: u
     if offset >= region.length || length as u64 > region.length - offset {
         return None;
     }
-    Some(Span { start: (region.start + offset) as usize, length })
+    let (start, run) = card.byte_of(slot, address, length);
+    let mut span = Span { runs: [Run { start, length: run }, Run::default()] };
+    if run < length {
+        let (start, rest) = card.byte_of(slot, address + run as u64, length - run);
+        span.runs[1] = Run { start, length: rest };
+    }
+    Some(span)
 }
 
 /// The same of a remote range, for which the pair's own access flags must grant the right too.
@@ -263,23 +282,30 @@ fn remote_span(card: &Card, pair: &Pair, right: u8, address: u64, length: usize,
 /// Copies the source's bytes to the target in order; all are read before any is written.
 fn copy(memory: &mut [u8], source: &[Span], target: &[Span]) {
     if let ([from], [to]) = (source, target) {
-        memory.copy_within(from.start..from.start + from.length, to.start);
-        return;
+        if let (Some(from), Some(to)) = (from.only_run(), to.only_run()) {
+            memory.copy_within(from.start..from.start + from.length, to.start);
+            return;
+        }
     }
     let mut staging = [0; MOST_MESSAGE];
     let mut filled = 0;
     for span in source {
-        staging[filled..filled + span.length].copy_from_slice(&memory[span.start..span.start + span.length]);
-        filled += span.length;
+        for run in span.runs {
+            staging[filled..filled + run.length].copy_from_slice(&memory[run.start..run.start + run.length]);
+            filled += run.length;
+        }
     }
     scatter(memory, target, &staging[..filled]);
 }
 
+/// Writes the bytes to the target in order, a later one over an earlier one.
 fn scatter(memory: &mut [u8], target: &[Span], bytes: &[u8]) {
     let mut rest = bytes;
     for span in target {
-        let (part, later) = rest.split_at(span.length);
-        memory[span.start..span.start + span.length].copy_from_slice(part);
-        rest = later;
+        for run in span.runs {
+            let (part, later) = rest.split_at(run.length);
+            memory[run.start..run.start + run.length].copy_from_slice(part);
+            rest = later;
+        }
     }
 }
