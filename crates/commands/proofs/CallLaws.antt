@@ -180,29 +180,6 @@ module _ (k : List ℕ) (n : ℕ) (is : n ≡ leAt 1 k 1) where
   unfolding commandOf
   room-port e = rw (← is, e)
 
-  pub room-other : (n ≡ 0 → ⊥) → (n ≡ 1 → ⊥) → roomBy (commandOf k) ≡ ackLeast
-  unfolding commandOf
-  room-other a b =
-      rw (← is, ne-eqb n 0 a, ne-eqb n 1 b) (ten (eqb n 2) (eqb n 3) (eqb n 4) (eqb n 5) (eqb n 7) (eqb n 8) (eqb n 9) (eqb n 10) (eqb n 12))
-    where
-      x : ℕ
-      x = decode numberCodec k 2
-
-      ten : (b2 b3 b4 b5 b7 b8 b9 b10 b12 : Bool) → roomBy (cond b2 (some (Command.createCq x)) (cond b3 (some (Command.destroyCq x)) (cond b4 (some Command.createPd)
-          (cond b5 (some (Command.destroyPd x)) (cond b7 (some (Command.register (decode registerCodec k 2))) (cond b8 (some (Command.deregister x))
-          (cond b9 (some (Command.createQp (decode createQpCodec k 2))) (cond b10 (some (Command.modifyQp (decode modifyQpCodec k 2)))
-          (cond b12 (some (Command.destroyQp x)) none))))))))) ≡ ackLeast
-      ten true b3 b4 b5 b7 b8 b9 b10 b12 = refl
-      ten false true b4 b5 b7 b8 b9 b10 b12 = refl
-      ten false false true b5 b7 b8 b9 b10 b12 = refl
-      ten false false false true b7 b8 b9 b10 b12 = refl
-      ten false false false false true b8 b9 b10 b12 = refl
-      ten false false false false false true b9 b10 b12 = refl
-      ten false false false false false false true b10 b12 = refl
-      ten false false false false false false false true b12 = refl
-      ten false false false false false false false false true = refl
-      ten false false false false false false false false false = refl
-
 -- an ack fits the room of its command
 ack-room : (c : Card) (o : Option Command) → ackSize (maybe ack.Done (commandAck c) o) ≤ roomBy o
 unfolding commandAck

@@ -14,6 +14,7 @@ use tables::limits::MOST_RECEIVE_SGES;
 use tables::limits::MOST_SGES;
 use tables::limits::MOST_WAITING;
 use tables::limits::MR_COUNT;
+use tables::limits::PAGE_SIZE;
 use tables::limits::PD_COUNT;
 use tables::rows;
 ghost use mathlib.Core.Path.{_≡_};
@@ -23,8 +24,6 @@ ghost use Rattle.tables.specs.Layout.{stateSize};
 ghost use Rattle.tables.specs.State.{card};
 ghost use Rattle.rules.specs.Control.{deviceOf};
 ghost use Rattle.commands.specs.Control.{Ran, bare};
-
-const PAGE: u64 = 4096;
 
 const VERSION: u32 = 1;
 
@@ -36,7 +35,7 @@ fn device_of(state: &[u8]) -> Device
         caps: DeviceCaps {
             flags: 0,
             region: rows::load_memory(state),
-            page: PAGE,
+            page: PAGE_SIZE,
             version: VERSION,
         },
         work: DeviceWork {

@@ -235,7 +235,8 @@ module _ (Made : (st : List ℕ) → Seen → Type 0) (cardOf : List ℕ → Car
   pub resumed : Resumed Made cardOf
   unfolding Resumed
   resumed x b xs links st is ys more =
-      each (OfWork Correct) (of-work cardOf accepts Correct correct) st (logAfter (b .base) xs) ys
+      each (λ s l y. OfWork Correct s l y × Flushes s l y)
+      (λ s l y a h. (of-work cardOf accepts Correct correct s l y a h, flushes cardOf accepts s l y a h)) st (logAfter (b .base) xs) ys
       (rw is (agrees-after (x .left .state) (b .base) xs (begun x b) links)) more
 
   -- no call of such a list is answered 15

@@ -168,7 +168,7 @@ module _ (Made : (st : List ℕ) → Seen → Type 0) where
   Resumed cardOf =
       (x : Seen) → (b : Begins x) → (xs : List Seen) → Linked (x .left .state) xs →
       (st : List ℕ) → cardOf st ≡ cardOf (stateAfter (x .left .state) xs) → (ys : List Seen) → Linked st ys →
-      Each (OfWork Correct) st (logAfter (b .base) xs) ys
+      Each (λ s l y. OfWork Correct s l y × Flushes s l y) st (logAfter (b .base) xs) ys
 
 -- a state of the list is accepted, and no call of it is answered 15; `accepts` is the test of answer 15
 abbrev pub Steady : (accepts : List ℕ → Bool) → Claim

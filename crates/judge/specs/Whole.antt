@@ -36,7 +36,7 @@ pub record Whole (Made : (st : List ℕ) → Seen → Type 0) : Type 0 where
   -- no byte outside the regions of the written side's domain changes, and a message comes out of regions of the read side's domain,
   -- but for bytes that the request gives
   pub apart : Every Made (OfWork Apart)
-  -- each work request is judged right from a state that means a card that a list left, too
+  -- each work request is judged right, and each receive flushed or not, from a state that means a card that a list left, too
   pub resumed : Resumed Made card
   -- no call of the list finds its state unacceptable
   pub steady : Every Made (Steady accepts)

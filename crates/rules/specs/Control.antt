@@ -8,7 +8,8 @@ use Prim.Native.Nat.{ℕ, _+_}
 use lib.Dec.{eqb, ltb, leb}
 use Rattle.wire.specs.Checks.{Check, _if_, has, only}
 use Rattle.wire.specs.Slots.{upd}
-use Rattle.tables.specs.Limits.{pdCount, cqCount, mrCount, qpCount, mostPlaces, mostWaiting, mostAddress, mostAccess, mostMessage, mostSges, mostReceiveSges}
+use Rattle.tables.specs.Limits.{pdCount, cqCount, mrCount, qpCount, mostPlaces, mostWaiting}
+use Rattle.tables.specs.Limits.{mostAddress, mostAccess, mostMessage, mostSges, mostReceiveSges, pageSize}
 use Rattle.tables.specs.Card.{Card, Qp, withPd, withCq, withMr, withQp, freeCq, freeMr, freeQp, cqLive}
 use Rattle.validate.specs.Accept.{isState, accessOk}
 use Rattle.tables.specs.Commands.{Command}
@@ -98,7 +99,7 @@ commandChecks c (Command.destroyQp q) = 2 if not (c .qp q .live) ∷ []
 unfoldable pub deviceOf : Card → Device
 deviceOf c =
     record {
-      caps = record { flags = 0; region = c .memory; page = 4096; version = 1 };
+      caps = record { flags = 0; region = c .memory; page = pageSize; version = 1 };
       work = record { requests = mostWaiting; sends = mostSges; receives = mostReceiveSges; reads = mostSges; entries = mostPlaces };
       objects = record { regions = mrCount; domains = pdCount; responses = 1; initiations = 1; handles = 0; delay = 0 };
     }

@@ -4,7 +4,8 @@ use Rattle.wire.specs.Checks.{refusal}
 use Rattle.wire.specs.Le.{leAt}
 use Rattle.tables.specs.Commands.{headChecks}
 use Rattle.tables.proofs.ReadingLaws.{head-number, head-refused}
-use Rattle.commands.proofs.CallLaws.{need-refused, need-named, room-device, room-port, room-other}
+use Rattle.acks.proofs.Acks.{room-other}
+use Rattle.commands.proofs.CallLaws.{need-refused, need-named, room-device, room-port}
 use borrow.Author.Needs.{needs}
 use Rattle.commands.proofs.control.ack_need.Statement.{statement}
 use Rattle.commands.proofs.control.ack_need.Tie as tie
