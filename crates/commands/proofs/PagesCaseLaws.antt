@@ -2,17 +2,16 @@
 use mathlib.Core.Path.{_≡_, refl, sym, ap, ap₂, _∙_}
 use mathlib.Core.Bool.{Bool, true, false, cond, not, _&&_}
 use mathlib.Core.List.{List, [], _∷_}
-use mathlib.Core.Option.{Option, none, some}
+use mathlib.Core.Option.{none, some}
 use Prim.Native.Nat.{ℕ, _+_, _*_, _≤_, _<_}
 use native.Mathlib.Omega.{arith}
-use lib.Dec.{eqb, ltb, leb}
+use lib.Dec.{eqb, leb}
 use lib.ListN.{length}
 use borrow.Author.Tests.{le-leb, lt-leb, leb-true, ne-eqb, eq-eqb, eqb-true, not-true, not-false}
 use Rattle.wire.specs.Checks.{Check, _if_, refusal}
 use Rattle.wire.specs.Le.{leAt}
 use Rattle.wire.specs.Table.{rowAt}
 use Rattle.wire.proofs.ScanLaws.{and-left, and-right, leb-same}
-use Rattle.tables.specs.Card.{Card}
 use Rattle.tables.specs.Commands.{headChecks, registerCodec, registerRead}
 use Rattle.tables.specs.Layout.{memoryT}
 use Rattle.tables.specs.Limits.{mrCount, mostMemory, mostAddress, pageSize, mostPages}
@@ -74,7 +73,7 @@ module _ (g : Registration) (ps : List ℕ) (memory : ℕ) where
     range-on h x i = rw (← e, ← f, not-false first h) i
 
   -- a list that passes them
-  pub range-known : inPages memory g ps ≡ true → (length ps ≤ mostPages) × (entriesOk memory ps ≡ true)
+  range-known : inPages memory g ps ≡ true → (length ps ≤ mostPages) × (entriesOk memory ps ≡ true)
   range-known e =
       let x : Bool = not (eqb (g .length) 0) && leb (g .virt + g .length) mostAddress && not (leb pageSize (g .start)) in
       let w : (x && countOk g ps) ≡ true = and-left (x && countOk g ps) (entriesOk memory ps) e in

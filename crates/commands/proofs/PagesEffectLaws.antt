@@ -95,5 +95,6 @@ entries-most m m′ h (p ∷ ps) e =
     let a = eqb (p % pageSize) 0 in
     let q = and-left (entryOk m p) (entriesOk m ps) e in
     let w = leb-true (p + pageSize) m (and-right a (leb (p + pageSize) m) q) in
-    both-true (entryOk m′ p) (entriesOk m′ ps) (both-true a (leb (p + pageSize) m′) (and-left a (leb (p + pageSize) m) q) (le-leb (p + pageSize) m′ (omega arith)))
+    both-true (entryOk m′ p) (entriesOk m′ ps)
+    (both-true a (leb (p + pageSize) m′) (and-left a (leb (p + pageSize) m) q) (le-leb (p + pageSize) m′ (omega arith)))
     (entries-most m m′ h ps (and-right (entryOk m p) (entriesOk m ps) e))

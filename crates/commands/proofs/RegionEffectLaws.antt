@@ -1,13 +1,13 @@
 -- Registrations of both kinds, and a deregistration, that pass their tests: the card that the state then means is the rules', and the state
 -- stays accepted. Assumes nothing.
-use mathlib.Core.Path.{_≡_, refl, sym, ap, _∙_}
-use mathlib.Core.Bool.{Bool, true}
-use mathlib.Core.List.{List, map}
+use mathlib.Core.Path.{_≡_, refl, ap, _∙_}
+use mathlib.Core.Bool.{true}
+use mathlib.Core.List.{List}
 use mathlib.Core.Option.{none}
 use Prim.Native.Nat.{ℕ, _+_, _-_, _*_, _/_, _≤_, _<_}
 use native.Mathlib.Omega.{arith}
-use lib.Dec.{eqb, ltb, leb}
-use lib.ListN.{length, getD, take}
+use lib.Dec.{eqb, ltb}
+use lib.ListN.{length, getD}
 use borrow.Author.Tests.{leb-false, ltb-false, le-leb, lt-ltb, not-false, eqb-false, eqb-true}
 use Rattle.wire.specs.Checks.{refusal}
 use Rattle.wire.proofs.CheckLaws.{passed}
@@ -23,8 +23,8 @@ use Rattle.validate.proofs.KeptLaws.{region-accepted}
 use Rattle.validate.specs.Search.{freeMrn}
 use Rattle.tables.specs.Card.{Card, withMr}
 use Rattle.tables.specs.State.{RegionRows, card, mrOf, pagesNeeded, pagesAt, regionAt}
-use Rattle.tables.specs.Layout.{stateSize, memoryT, mrFlagT, mrT, flagCodec, regionCodec}
-use Rattle.tables.specs.Limits.{mrCount, mostMemory, mostAddress, mostAccess, pageSize, mostPages}
+use Rattle.tables.specs.Layout.{memoryT, mrFlagT, mrT, flagCodec, regionCodec}
+use Rattle.tables.specs.Limits.{mrCount, mostMemory, mostAddress, pageSize, mostPages}
 use Rattle.tables.specs.Commands.{Command}
 use Rattle.tables.proofs.KindLaws.{RegionsOnly, only-then, region-card}
 use Rattle.tables.proofs.ObjectLaws.{memory-is, pd-below, mr-below, mr-is}
@@ -34,7 +34,7 @@ use Rattle.tables.specs.declared.Registration.{Registration}
 use Rattle.rules.proofs.Variants.{new-small}
 use Rattle.rules.specs.Bytes.{commandBytes}
 use Rattle.rules.specs.Control.{commandChecks, commandEffect, newVariant, registered}
-use Rattle.rules.specs.Pages.{pagedChecks, regionRow, regionBytes, putPages, pagedBytes, entriesOk}
+use Rattle.rules.specs.Pages.{pagedChecks, regionRow, regionBytes, pagedBytes, entriesOk}
 use Rattle.commands.proofs.EffectLaws.{Kept}
 use Rattle.commands.proofs.PagesEffectLaws.{setNumbers, put-then, put-at, entries-most, pages-back, number-inside}
 

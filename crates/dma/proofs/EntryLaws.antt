@@ -27,25 +27,22 @@ use Rattle.dma.proofs.RegionLaws.{Placed, placed, need-small, in-need, 
 
 -- ---- an entry whose bytes lie in a live region
 
-abbrev pub rowOf : List ℕ → Sge → Region
+abbrev rowOf : List ℕ → Sge → Region
 rowOf l s = rowAt mrT l (s .key / 256)
 
 -- the offset of its first byte
-abbrev pub offset : List ℕ → Sge → ℕ
+abbrev offset : List ℕ → Sge → ℕ
 offset l s = rowOf l s .start + (s .address - rowOf l s .virt)
 
 module _ (l : List ℕ) (ok : accepts l ≡ true) (s : Sge) (h : mappedAll (card l) (sgeBytes (s ∷ [])) ≡ true) where
   abbrev each : mappedAll (card l) (range (s .address) (s .key) (s .length)) ≡ true
   each = rw (one-bytes s) at h
 
-  pub nth : (i : ℕ) → i < s .length → Placed l (byte (s .address + i) (s .key))
+  nth : (i : ℕ) → i < s .length → Placed l (byte (s .address + i) (s .key))
   nth i b = placed l ok (byte (s .address + i) (s .key)) (range-at (mapped (card l)) (s .key) (s .length) (s .address) each i b)
 
-  pub first : (s .length ≡ 0 → ⊥) → Placed l (byte (s .address) (s .key))
-  first f = rw add-zero at (nth 0 (omega arith))
-
   -- a part of it
-  pub part : (j k : ℕ) → j + k ≤ s .length → mappedAll (card l) (sgeBytes (record { address = s .address + j; length = k; key = s .key } ∷ [])) ≡ true
+  part : (j k : ℕ) → j + k ≤ s .length → mappedAll (card l) (sgeBytes (record { address = s .address + j; length = k; key = s .key } ∷ [])) ≡ true
   part j k b =
       rw (one-bytes (record { address = s .address + j; length = k; key = s .key }))
       (range-all (mapped (card l)) (s .key) k (s .address + j)
@@ -67,11 +64,11 @@ module _ (l : List ℕ) (ok : accepts l ≡ true) (s : Sge) (h : mappedAll (card
     length-is : here .region .length ≡ rowOf l s .length
     length-is = ap (λ (g : Registration). g .length) (here .row)
 
-  pub low : 0 < s .length → rowOf l s .virt ≤ s .address
+  low : 0 < s .length → rowOf l s .virt ≤ s .address
   low b = let x = nth 0 b .covers .low in let v = virt-is 0 b in omega arith
 
   module _ (i : ℕ) (b : i < s .length) where
-    pub inside-row : offset l s + i < rowOf l s .start + rowOf l s .length
+    inside-row : offset l s + i < rowOf l s .start + rowOf l s .length
     inside-row =
         let y = nth i b .covers .high in
         let v = virt-is i b in
@@ -79,13 +76,13 @@ module _ (l : List ℕ) (ok : accepts l ≡ true) (s : Sge) (h : mappedAll (card
         let x = low (omega arith) in
         omega arith
 
-    pub below-word : s .address + i < 2 ^ 64
+    below-word : s .address + i < 2 ^ 64
     below-word =
         let y = nth i b .covers .high in
         let w = nth i b .word in
         omega arith
 
-    pub place-at : place (card l) (byte (s .address + i) (s .key)) ≡ byteIn (pagesOf (regionAt l (s .key / 256))) (offset l s + i)
+    place-at : place (card l) (byte (s .address + i) (s .key)) ≡ byteIn (pagesOf (regionAt l (s .key / 256))) (offset l s + i)
     unfolding place byteOf
     place-at =
         let p = nth i b in
@@ -95,7 +92,7 @@ module _ (l : List ℕ) (ok : accepts l ≡ true) (s : Sge) (h : mappedAll (card
         let e : p .region .start + (s .address + i - p .region .virt) ≡ offset l s + i = omega arith in
         rw (p .found, p .pages, e)
 
-  pub place-first : (b : 0 < s .length) → placeOf (card l) s ≡ byteIn (pagesOf (regionAt l (s .key / 256))) (offset l s)
+  place-first : (b : 0 < s .length) → placeOf (card l) s ≡ byteIn (pagesOf (regionAt l (s .key / 256))) (offset l s)
   unfolding placeOf
   place-first b =
       let f : s .length ≡ 0 → ⊥ = λ e. omega arith in
@@ -108,26 +105,26 @@ module _ (l : List ℕ) (ok : accepts l ≡ true) (s : Sge) (h : mappedAll (card
   unfolding byteIn regionAt
   flat-byte e o = rw (eq-eqb (rowOf l s .kind) 0 e)
 
-  pub flat-place : (b : 0 < s .length) → rowOf l s .kind ≡ 0 → placeOf (card l) s ≡ offset l s
+  flat-place : (b : 0 < s .length) → rowOf l s .kind ≡ 0 → placeOf (card l) s ≡ offset l s
   flat-place b e = place-first b ∙ flat-byte e (offset l s)
 
-  abbrev pub pageOf : ℕ → ℕ
+  abbrev pageOf : ℕ → ℕ
   pageOf o = rowAt pageT l (mostPages * (s .key / 256) + o / pageSize)
 
   module _ (b : 0 < s .length) (over : rowOf l s .kind ≡ 0 → ⊥) where
     at-first : offset l s < rowOf l s .start + rowOf l s .length
     at-first = rw add-zero at (inside-row 0 b)
 
-    pub page-place : placeOf (card l) s ≡ pageSize * pageOf (offset l s) + offset l s % pageSize
+    page-place : placeOf (card l) s ≡ pageSize * pageOf (offset l s) + offset l s % pageSize
     page-place = place-first b ∙ paged-byte l (s .key / 256) (rowAt memoryT l 0) (nth 0 b .ranged) over (offset l s) at-first
 
-    pub page-below : offset l s / pageSize < mostPages
+    page-below : offset l s / pageSize < mostPages
     page-below =
         let d = in-need l (s .key / 256) (rowAt memoryT l 0) (nth 0 b .ranged) over (offset l s) at-first in
         let n = need-small l (s .key / 256) (rowAt memoryT l 0) (nth 0 b .ranged) over in
         omega arith
 
-    pub page-inside : (k : ℕ) → offset l s % pageSize + k ≤ pageSize → pageSize * pageOf (offset l s) + offset l s % pageSize + k ≤ rowAt memoryT l 0
+    page-inside : (k : ℕ) → offset l s % pageSize + k ≤ pageSize → pageSize * pageOf (offset l s) + offset l s % pageSize + k ≤ rowAt memoryT l 0
     page-inside k h = paged-room l (s .key / 256) (rowAt memoryT l 0) (nth 0 b .ranged) over (offset l s) k at-first h
 
   pub slot-below : 0 < s .length → s .key / 256 < mrCount
@@ -138,7 +135,7 @@ module _ (l : List ℕ) (ok : accepts l ≡ true) (s : Sge) (h : mappedAll (card
   flat-room b e = nth 0 b .ranged .flat e
 
   -- an offset is a small number
-  pub offset-small : 0 < s .length → offset l s < mostMemory
+  offset-small : 0 < s .length → offset l s < mostMemory
   offset-small b = go (ℕ-discrete (rowOf l s .kind) 0)
     where
       go : Dec (rowOf l s .kind ≡ 0) → offset l s < mostMemory
@@ -183,7 +180,7 @@ module _ (l m : List ℕ) (r : Ready l m) (s : Sge) (h : mappedAll (card l) (sge
         ends = omega (arith, r .whole);
       }
 
-  pub lies : ((rowOf l s .kind ≡ 0 → ⊥) → offset l s % pageSize + s .length ≤ pageSize) → Lies (card l) (length m) s
+  lies : ((rowOf l s .kind ≡ 0 → ⊥) → offset l s % pageSize + s .length ≤ pageSize) → Lies (card l) (length m) s
   lies d = go (ℕ-discrete (s .length) 0) (ℕ-discrete (rowOf l s .kind) 0)
     where
       go : Dec (s .length ≡ 0) → Dec (rowOf l s .kind ≡ 0) → Lies (card l) (length m) s
@@ -200,7 +197,7 @@ module _ (l m : List ℕ) (r : Ready l m) (s : Sge) (h : mappedAll (card l) (sge
   pub back-mapped : (n : ℕ) → n ≤ s .length → mappedAll (card l) (sgeBytes (back s n ∷ [])) ≡ true
   back-mapped n b = part l (r .accepted) s h n (s .length - n) (omega arith)
 
-  pub whole-splits : ((rowOf l s .kind ≡ 0 → ⊥) → offset l s % pageSize + s .length ≤ pageSize) → Splits (card l) (length m) s (s .length)
+  whole-splits : ((rowOf l s .kind ≡ 0 → ⊥) → offset l s % pageSize + s .length ≤ pageSize) → Splits (card l) (length m) s (s .length)
   whole-splits d =
       let z : s .length - s .length ≡ 0 = omega arith in
       record {
@@ -210,7 +207,7 @@ module _ (l m : List ℕ) (r : Ready l m) (s : Sge) (h : mappedAll (card l) (sge
         others = lies l m r (back s (s .length)) (back-mapped (s .length) (omega arith)) (λ k. rw z (omega arith));
       }
 
-  pub two-splits : (n : ℕ) → 0 < n → n < s .length → s .length ≤ mostMessage → n ≡ pageSize - offset l s % pageSize → Splits (card l) (length m) s n
+  two-splits : (n : ℕ) → 0 < n → n < s .length → s .length ≤ mostMessage → n ≡ pageSize - offset l s % pageSize → Splits (card l) (length m) s n
   two-splits n p b t e =
       let x = low l (r .accepted) s h (omega arith) in
       let o : offset l (back s n) ≡ offset l s + n = omega arith in

@@ -30,7 +30,7 @@ use Rattle.dma.specs.declared.permit.Found.the-variants.{Live, Nothing}
 use Rattle.dma.proofs.RangeLaws.{Within, within-facts}
 
 -- a region's row without its kind
-abbrev pub plain : Region → Region
+abbrev plain : Region → Region
 plain r = record { access = r .access; variant = r .variant; pd = r .pd; kind = 0; start = r .start; length = r .length; virt = r .virt }
 
 -- ---- how the look-up of a key ends
@@ -173,7 +173,7 @@ module _ (l : List ℕ) (n : ℕ) (memory : ℕ) (r : Ranged memory (regionAt l 
       ap (λ (ps : List ℕ). getD ps k 0) listed ∙ List·getD-map (λ p. pageSize * p) (take need numbers) k 0
       ∙ ap (λ (x : ℕ). pageSize * x) (getD-take need numbers k 0 b ∙ page-at l n k (omega arith))
 
-  pub page-small : (k : ℕ) → k < need → rowAt pageT l (mostPages * n + k) < memory / pageSize
+  page-small : (k : ℕ) → k < need → rowAt pageT l (mostPages * n + k) < memory / pageSize
   unfolding regionAt
   page-small k b = let s = need-small in rw (← page-at l n k (omega arith)) (paged .numbers k b)
 
