@@ -41,6 +41,7 @@ flatKind = 0
 abbrev pub pagedKind : ℕ
 pagedKind = 1
 
+-- a region's row, of either kind
 abbrev pub regionRow : (kind : ℕ) → Registration → (variant : ℕ) → Region
 regionRow kind g v = record { access = g .access; variant = v; pd = g .pd; kind = kind; start = g .start; length = g .length; virt = g .virt }
 

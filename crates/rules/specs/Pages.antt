@@ -48,5 +48,6 @@ pageRangeChecks c g ps =
     11 if not (entriesOk (c .memory) ps) ∷
     []
 
+-- "command 7's .. tests .. as before", with these range tests
 unfoldable pub pageListChecks : Card → Registration → (pages : List ℕ) → List Check
 pageListChecks c g ps = registrationChecks c g (pageRangeChecks c g ps)

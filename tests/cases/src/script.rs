@@ -75,6 +75,12 @@ pub const REGION: u32 = 1024;
 /// What a region's access may be: remote write (2) beside local write (1) only.
 pub const ACCESSES: [u32; 6] = [0, 1, 3, 4, 5, 7];
 
+impl Default for Script {
+    fn default() -> Script {
+        Script::new()
+    }
+}
+
 impl Script {
     /// A fresh card over a tape's memory.
     pub fn new() -> Script {

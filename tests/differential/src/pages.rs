@@ -227,39 +227,46 @@ pub fn of_send(card: &Listing, send: &SendRecord, peer: &PairListing, status: u8
 }
 
 fn of_success(card: &Listing, send: &SendRecord, own: &[Range], far: &[Range]) -> Vec<&'static str> {
-    let over = |side: &[Range]| side.iter().any(|range| range.is_over_an_end(card));
     let (source, target) = if send.opcode == READ { (far, own) } else { (own, far) };
+    let is_send = matches!(send.opcode, SEND | SEND_IMMEDIATE);
     let (out, into) = match send.opcode {
         READ => ("read out of pages, over an end", "read into pages, over an end"),
-        SEND | SEND_IMMEDIATE => ("send out of pages, over an end", "send into pages, over an end"),
+        _ if is_send => ("send out of pages, over an end", "send into pages, over an end"),
         _ => ("write out of pages, over an end", "write into pages, over an end"),
     };
-    let all: Vec<&Range> = source.iter().chain(target).filter(|range| range.length > 0).collect();
-    let paged: Vec<&&Range> = all.iter().filter(|range| range.is_paged(card)).collect();
+    let over = |side: &[Range]| side.iter().any(|range| range.is_over_an_end(card));
     let places = |side: &[Range]| side.iter().flat_map(|range| range.places(card)).collect::<Vec<u64>>();
     let (from, to) = (places(source), places(target));
     let written: HashSet<u64> = to.iter().copied().collect();
     let twice = written.len() < to.len() && target.iter().any(|range| range.is_paged(card));
-    let offset = |range: &&&Range| range.offset(card).unwrap_or(0);
-    let to_itself = |range: &&&Range| {
-        let (at, pages) = (offset(range) / PAGE_BYTES, region_of(card, range.key).map_or(&[][..], |(_, pages)| pages));
-        range.is_over_an_end(card) && pages.get(at as usize) == pages.get(at as usize + 1)
-    };
-    let longer = |range: &&&Range| region_of(card, range.key).map_or(false, |(region, _)| region.length > card.memory_length);
-    let is_send = matches!(send.opcode, SEND | SEND_IMMEDIATE);
-    let inline = matches!(send.local, Local::Inline(_));
-    those(&[
+    let mut seen = those(&[
         (out, over(source)),
         (into, over(target)),
-        ("inline into pages, over an end", inline && over(target)),
-        ("over the end of a page to itself", paged.iter().any(|range| to_itself(&range))),
-        ("up to an end", paged.iter().any(|range| (offset(&range) + range.length) % PAGE_BYTES == 0)),
-        ("from a first byte on", paged.iter().any(|range| offset(&range) % PAGE_BYTES == 0)),
+        ("inline into pages, over an end", matches!(send.local, Local::Inline(_)) && over(target)),
         ("one run to one run", source.len() == 1 && target.len() == 1 && !over(source) && !over(target)),
-        ("both kinds in one message", !paged.is_empty() && paged.len() < all.len()),
         ("source and target share a byte", from.iter().any(|place| written.contains(place))),
         ("read fills a byte twice", twice && send.opcode == READ),
         ("receive fills a byte twice", twice && is_send),
-        ("in a region longer than the memory", paged.iter().any(|range| longer(&range))),
+    ]);
+    let all: Vec<Range> = source.iter().chain(target).copied().filter(|range| range.length > 0).collect();
+    seen.extend(of_ranges(card, &all));
+    seen
+}
+
+/// Of all ranges of a message, source and target.
+fn of_ranges(card: &Listing, all: &[Range]) -> Vec<&'static str> {
+    let paged: Vec<Range> = all.iter().copied().filter(|range| range.is_paged(card)).collect();
+    let offset = |range: &Range| range.offset(card).unwrap_or(0);
+    let to_itself = |range: &Range| {
+        let (at, pages) = ((offset(range) / PAGE_BYTES) as usize, region_of(card, range.key).map_or(&[][..], |(_, pages)| pages));
+        range.is_over_an_end(card) && pages.get(at) == pages.get(at + 1)
+    };
+    let longer = |range: &Range| region_of(card, range.key).map_or(false, |(region, _)| region.length > card.memory_length);
+    those(&[
+        ("over the end of a page to itself", paged.iter().any(to_itself)),
+        ("up to an end", paged.iter().any(|range| (offset(range) + range.length) % PAGE_BYTES == 0)),
+        ("from a first byte on", paged.iter().any(|range| offset(range) % PAGE_BYTES == 0)),
+        ("both kinds in one message", !paged.is_empty() && paged.len() < all.len()),
+        ("in a region longer than the memory", paged.iter().any(longer)),
     ])
 }
