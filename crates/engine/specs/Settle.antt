@@ -39,7 +39,7 @@ receiverEntry e s w st n =
       opcode = receiverOpcode (s .opcode);
       length = cond (eqb st 0) n 0;
       imm = cond (eqb st 0 && (eqb (s .opcode) 1 || eqb (s .opcode) 3)) (s .imm) 0;
-      owner = e .own .dest;
+      owner = e .d;
     }
 
 -- "Sender's success is put if signal is 0 or the flag is set; errors and receiver completions always."
@@ -63,17 +63,17 @@ failedBytes l e s w st n = errorBytes (fails st) (putBytes l e s w st n) (e .q)
 -- "The receive is consumed, both QPs go to error."
 abbrev pub settledBytes : List ℕ → Ends → SendRecord → ReceiveRecord → (st n : ℕ) → List ℕ
 settledBytes l e s w st n =
-    errorBytes (eqb st 7) (consumeBytes (consumes (s .opcode) st) (failedBytes l e s w st n) (e .own .dest)) (e .own .dest)
+    errorBytes (eqb st 7) (consumeBytes (consumes (s .opcode) st) (failedBytes l e s w st n) (e .d)) (e .d)
 
 -- what the stores ask: numbers within their tables, a length that is not too long, a free place for each completion, a receive that waits
 pub record Settling (l : List ℕ) (e : Ends) (s : SendRecord) (w : ReceiveRecord) (st n : ℕ) : Type 0 where
   pub size : length l ≡ stateSize
   pub own : e .q < qpCount
-  pub far : e .own .dest < qpCount
+  pub far : e .d < qpCount
   pub count : w .count ≤ 2
   pub short : st ≡ 0 → n ≤ mostMessage
   pub first : e .own .scq < cqCount
   pub free : rowAt cqT l (e .own .scq) .count < mostPlaces
   pub second : consumes (s .opcode) st ≡ true →
       (e .far .rcq < cqCount) × (rowAt cqT (pushAll l (putFirst (e .q) (e .own) s st n)) (e .far .rcq) .count < mostPlaces)
-  pub waits : consumes (s .opcode) st ≡ true → 0 < rowAt waitingT (failedBytes l e s w st n) (e .own .dest) .count
+  pub waits : consumes (s .opcode) st ≡ true → 0 < rowAt waitingT (failedBytes l e s w st n) (e .d) .count

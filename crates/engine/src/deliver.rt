@@ -22,7 +22,6 @@ use tables::limits::REMOTE_READ;
 use tables::limits::REMOTE_WRITE;
 use tables::limits::SUCCESS;
 use tables::queue;
-use tables::records;
 ghost use mathlib.Core.Path.{_≡_};
 ghost use mathlib.Core.Bool.{false, not, _||_};
 ghost use Prim.Native.Nat.{_<_, _≤_};
@@ -36,7 +35,6 @@ ghost use Rattle.tables.specs.Records.{isInline, receiveSges};
 ghost use Rattle.rules.specs.Touch.{fills, sgeTotal};
 ghost use Rattle.dma.specs.Grants.{allowsAll};
 ghost use Rattle.dma.specs.Moves.{Ready};
-ghost use Rattle.rules.specs.declared.Party.{Party};
 ghost use Rattle.engine.specs.Deliver.{partyIn, takenRow, Sending, Delivery, totalBy, ownMask, ownBy, farCount, farList, farMask, Carries, carried, OwnSide};
 
 fn is_inline(s: SendRecord) -> bool
@@ -46,36 +44,30 @@ fn is_inline(s: SendRecord) -> bool
 }
 
 // The number of bytes of the message.
-pub fn total_of(s: SendRecord, sges: [Sge; 4]) -> u64
+pub fn total_of(s: SendRecord, sges: [Sge; 4], inline: &[u8]) -> u64
     requires { ⌜ (isInline s ≡ false → s .count ≤ 4) ⌝ }
-    ensures { λ r. ⌜ r ≡ totalBy s sges ⌝ }
+    ensures { λ r. ⌜ r ≡ totalBy s sges (now (inline .entry)) ⌝ }
 {
     if is_inline(s) {
-        return (s.count % 65536) as u64;
+        return inline.len() as u64;
     }
     permit::sges_total(sges, s.count as usize)
 }
 
-// Whose use of memory a queue pair's is.
-fn party_of(p: QueuePair) -> Party
-    ensures { λ r. ⌜ r ≡ partyIn p ⌝ }
-{
-    Party {
-        pd: p.pd,
-        rights: p.rights,
-    }
-}
-
 // Step 3: whether each byte of the sender's own entries is permitted.
-fn own_permitted(state: &[u8], p: Party, s: SendRecord, sges: [Sge; 4]) -> bool
+fn own_permitted(state: &[u8], own: QueuePair, s: SendRecord, sges: [Sge; 4]) -> bool
     requires { ⌜ (length (now state) ≡ stateSize) × (isInline s ≡ false → s .count ≤ 4) ⌝ }
-    ensures { λ r. ⌜ r ≡ allowsAll (card (now (state .entry))) p (ownMask (s .opcode)) (ownBy s sges) ⌝ }
+    ensures { λ r. ⌜ r ≡ allowsAll (card (now (state .entry))) (partyIn own) (ownMask (s .opcode)) (ownBy s sges) ⌝ }
 {
     if is_inline(s) {
         return true;
     }
     let mask = settle::choose(s.opcode == READ, LOCAL_WRITE, 0);
-    permit::sges_permitted(state, p, mask, sges, s.count as usize)
+    let party = Party {
+        pd: own.pd,
+        rights: own.rights,
+    };
+    permit::sges_permitted(state, party, mask, sges, s.count as usize)
 }
 
 // Whether a message of n bytes fits the receive that it fills.
@@ -137,18 +129,17 @@ fn move_bytes(
     state: &[u8],
     memory: &mut [u8],
     s: SendRecord,
-    sent: &[u8],
     sges: [Sge; 4],
+    inline: &[u8],
     far: [Sge; 4],
     count: usize,
 )
     requires { ⌜ Ready (now state) (now memory) × (count ≤ 4) × (isInline s ≡ false → s .count ≤ 4) ⌝ }
-    requires { ⌜ Carries (card (now state)) s (now sent) (take (s .count) sges) (take count far) ⌝ }
-    ensures { λ _. ⌜ now (memory .exit) ≡ carried (card (now (state .entry))) s (now (sent .entry)) (take (s .count) sges) (take count far) (now (memory .entry)) ⌝ }
+    requires { ⌜ Carries (card (now state)) s (now inline) (take (s .count) sges) (take count far) ⌝ }
+    ensures { λ _. ⌜ now (memory .exit) ≡ carried (card (now (state .entry))) s (now (inline .entry)) (take (s .count) sges) (take count far) (now (memory .entry)) ⌝ }
 {
     if is_inline(s) {
-        let bytes = records::inline_bytes(sent);
-        transfer::scatter_inline(state, memory, bytes, far, count);
+        transfer::scatter_inline(state, memory, inline, far, count);
         return;
     }
     let own = s.count as usize;
@@ -186,14 +177,14 @@ fn deliver_far(
     memory: &mut [u8],
     e: Ends,
     s: SendRecord,
-    sent: &[u8],
     sges: [Sge; 4],
+    inline: &[u8],
     w: ReceiveRecord,
     n: u32,
 ) -> u8
     requires { ⌜ Ready (now state) (now memory) ⌝ }
-    requires { ⌜ (w .count ≤ 2) × Sending s (now sent) sges n × OwnSide (card (now state)) e s sges n ⌝ }
-    ensures { λ r. ⌜ Delivery (now (state .entry)) (now (memory .entry)) e s (now (sent .entry)) sges w n r (now (memory .exit)) ⌝ }
+    requires { ⌜ (w .count ≤ 2) × Sending s sges (now inline) n × OwnSide (card (now state)) e s sges n ⌝ }
+    ensures { λ r. ⌜ Delivery (now (state .entry)) (now (memory .entry)) e s sges (now (inline .entry)) w n r (now (memory .exit)) ⌝ }
 {
     if !fits_receive(s.opcode, w, n) {
         return REMOTE_INVALID;
@@ -201,10 +192,14 @@ fn deliver_far(
     let far = far_sges(s, w, n);
     let count = far_count(s.opcode, w);
     let mask = far_mask(s.opcode);
-    if !permit::sges_permitted(state, party_of(e.far), mask, far, count) {
+    let party = Party {
+        pd: e.far.pd,
+        rights: e.far.rights,
+    };
+    if !permit::sges_permitted(state, party, mask, far, count) {
         return settle::choose(meet::fills_receive(s.opcode), REMOTE_INVALID, REMOTE_ACCESS);
     }
-    move_bytes(state, memory, s, sent, sges, far, count);
+    move_bytes(state, memory, s, sges, inline, far, count);
     SUCCESS
 }
 
@@ -214,20 +209,20 @@ pub fn deliver(
     memory: &mut [u8],
     e: Ends,
     s: SendRecord,
-    sent: &[u8],
     sges: [Sge; 4],
+    inline: &[u8],
     w: ReceiveRecord,
     total: u64,
 ) -> u8
     requires { ⌜ Ready (now state) (now memory) ⌝ }
-    requires { ⌜ (w .count ≤ 2) × Sending s (now sent) sges total ⌝ }
-    ensures { λ r. ⌜ Delivery (now (state .entry)) (now (memory .entry)) e s (now (sent .entry)) sges w total r (now (memory .exit)) ⌝ }
+    requires { ⌜ (w .count ≤ 2) × Sending s sges (now inline) total ⌝ }
+    ensures { λ r. ⌜ Delivery (now (state .entry)) (now (memory .entry)) e s sges (now (inline .entry)) w total r (now (memory .exit)) ⌝ }
 {
     if (MOST_MESSAGE as u64) < total {
         return LOCAL_LENGTH;
     }
-    if !own_permitted(state, party_of(e.own), s, sges) {
+    if !own_permitted(state, e.own, s, sges) {
         return LOCAL_PROTECTION;
     }
-    deliver_far(state, memory, e, s, sent, sges, w, total as u32)
+    deliver_far(state, memory, e, s, sges, inline, w, total as u32)
 }

@@ -141,7 +141,7 @@ pub fn put_sender(state: &mut [u8], q: usize, own: QueuePair, s: SendRecord, st:
 
 // The receiver's completion, where the receive is consumed.
 fn put_receiver(state: &mut [u8], e: Ends, s: SendRecord, w: ReceiveRecord, st: u8, n: u64)
-    requires { ⌜ (w .count ≤ 2) × (length (now state) ≡ stateSize) × (st ≡ 0 → n ≤ mostMessage) ⌝ }
+    requires { ⌜ (e .d < qpCount) × (w .count ≤ 2) × (length (now state) ≡ stateSize) × (st ≡ 0 → n ≤ mostMessage) ⌝ }
     requires { ⌜ (consumes (s .opcode) st ≡ true → (e .far .rcq < cqCount) × (rowAt cqT (now state) (e .far .rcq) .count < mostPlaces)) ⌝ }
     ensures { λ _. ⌜ now (state .exit) ≡ pushAll (now (state .entry)) (putSecond e s w st n) ⌝ }
 {
@@ -157,7 +157,7 @@ fn put_receiver(state: &mut [u8], e: Ends, s: SendRecord, w: ReceiveRecord, st: 
         opcode,
         length,
         imm: kept_if(carries, s.imm),
-        owner: e.own.dest as u32,
+        owner: e.d as u32,
     };
     queue::push_completion(state, e.far.rcq as usize, entry);
 }
@@ -206,10 +206,9 @@ pub fn settle(state: &mut [u8], e: Ends, s: SendRecord, w: ReceiveRecord, st: u8
     requires { ⌜ Settling (now state) e s w st n ⌝ }
     ensures { λ _. ⌜ now (state .exit) ≡ settledBytes (now (state .entry)) e s w st n ⌝ }
 {
-    let d = e.own.dest as usize;
     put_sender(state, e.q, e.own, s, st, n);
     put_receiver(state, e, s, w, st, n);
     fail_if(state, (st != SUCCESS) & (st != FLUSHED), e.q);
-    consume_if(state, is_consumed(s.opcode, st), d);
-    fail_if(state, st == REMOTE_INVALID, d);
+    consume_if(state, is_consumed(s.opcode, st), e.d);
+    fail_if(state, st == REMOTE_INVALID, e.d);
 }

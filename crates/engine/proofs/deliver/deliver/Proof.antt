@@ -4,7 +4,7 @@ use denote.Ref.{now}
 use borrow.Author.Tests.{not-true, not-false}
 use Rattle.tables.specs.State.{card}
 use Rattle.engine.specs.Deliver.{OwnSide}
-use Rattle.engine.proofs.StatusLaws.{too-long, own-judged, own-refused}
+use Rattle.engine.proofs.StatusLaws.{too-long, own-refused}
 use borrow.Author.Needs.{needs}
 use Rattle.engine.proofs.deliver.deliver.Statement.{statement}
 use Rattle.engine.proofs.deliver.deliver.Tie as tie
@@ -15,38 +15,27 @@ cast-if1 c = search needs
 returns : tie.Need-returns
 returns c =
     let a = c .before .before .before .before .args in
-    too-long (now (a .state)) (now (a .memory)) (a .e) (a .s) (now (a .sent)) (a .sges) (a .w) (a .total) (let h = c .if1 .taken in omega arith)
-
-party-of-requires : tie.Need-party-of-requires
-party-of-requires c κs = search needs
+    too-long (now (a .state)) (now (a .memory)) (a .e) (a .s) (a .sges) (now (a .inline)) (a .w) (a .total) (let h = c .if1 .taken in omega arith)
 
 own-permitted-requires : tie.Need-own-permitted-requires
-own-permitted-requires c κs = let b = c .before .before .before .before .before in (b .pre .0 .size, b .pre .1 .1 .plain)
+own-permitted-requires c κs = let b = c .before .before .before .before in (b .pre .0 .size, b .pre .1 .1 .plain)
 
 returns-2 : tie.Need-returns-2
 returns-2 c =
-    let a = c .before .before .before .before .before .before .before .args in
-    let l = now (a .state) in
-    let m = now (a .memory) in
-    let x = now (a .sent) in
-    let w = c .before .before in
-    own-refused l m (a .e) (a .s) x (a .sges) (a .w) (a .total) (let h = w .before .if1 .left in omega arith)
-    (sym (own-judged l m (a .e) (a .s) x (a .sges) (a .w) (a .total) (w .party-of .result) (w .party-of .ensures) (c .before .own-permitted .result)
-    (c .before .own-permitted .ensures)) ∙ not-true _ (c .if2 .taken))
+    let a = c .before .before .before .before .before .before .args in
+    own-refused (now (a .state)) (now (a .memory)) (a .e) (a .s) (a .sges) (now (a .inline)) (a .w) (a .total)
+    (let h = c .before .before .if1 .left in omega arith) (sym (c .before .own-permitted .ensures) ∙ not-true _ (c .if2 .taken))
 
 cast-deliver-far : tie.Need-cast-deliver-far
 cast-deliver-far c = search needs
 
 deliver-far-requires : tie.Need-deliver-far-requires
 deliver-far-requires c κs =
-    let b = c .before .before .before .before .before .before .before .before in
+    let b = c .before .before .before .before .before .before .before in
     let a = b .args in
-    let l = now (a .state) in
-    let p = c .before .before .before in
-    let side : OwnSide (card l) (a .e) (a .s) (a .sges) (a .total) = record {
-      short = p .before .if1 .left;
-      permitted = sym (own-judged l (now (a .memory)) (a .e) (a .s) (now (a .sent)) (a .sges) (a .w) (a .total) (p .party-of .result) (p .party-of .ensures)
-          (c .before .before .own-permitted .result) (c .before .before .own-permitted .ensures)) ∙ not-false _ (c .before .if2 .left);
+    let side : OwnSide (card (now (a .state))) (a .e) (a .s) (a .sges) (a .total) = record {
+      short = c .before .before .before .if1 .left;
+      permitted = sym (c .before .before .own-permitted .ensures) ∙ not-false _ (c .before .if2 .left);
     } in
     (b .pre .0, (b .pre .1 .0, b .pre .1 .1, side))
 
@@ -62,7 +51,6 @@ deliver-spec =
     (tie.spec
     cast-if1
     returns
-    party-of-requires
     own-permitted-requires
     returns-2
     cast-deliver-far
