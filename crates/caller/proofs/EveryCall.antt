@@ -13,7 +13,7 @@ use Rattle.wire.specs.Codec.{decode, encode}
 use Rattle.wire.specs.Table.{rowAt}
 use Rattle.wire.proofs.CheckLaws.{passed}
 use Rattle.wire.proofs.ScanLaws.{and-left, and-right, and-off}
-use Rattle.tables.specs.Commands.{commandOf, ackNeed}
+use Rattle.tables.specs.Commands.{commandOf, ackLeast, ackNeed}
 use Rattle.tables.specs.Layout.{stateSize, cqT}
 use Rattle.tables.specs.Limits.{mostMemory}
 use Rattle.tables.specs.Queue.{frontAt, popBytes, postBytes}
@@ -27,11 +27,12 @@ use Rattle.tables.specs.declared.ReceiveRecord.{ReceiveRecord}
 use Rattle.validate.specs.Accept.{accepts, memoryOk}
 use Rattle.rules.specs.Answer.{codeOf, isDone}
 use Rattle.rules.specs.Bytes.{commandBytes, flushedBytes, flushBytes}
-use Rattle.rules.specs.Call.{Call}
+use Rattle.rules.specs.Call.{Call, registrationIn}
 use Rattle.rules.specs.Calls.{checks, resetChecks, controlChecks, bufferChecks, owed, owedChecks}
 use Rattle.rules.specs.Contract.{Owes, Exports, bytesAfter}
 use Rattle.rules.specs.Control.{commandAck}
 use Rattle.rules.specs.Lists.{maybe}
+use Rattle.rules.specs.Pages.{pagesChecks, pagedBytes}
 use Rattle.rules.specs.Queues.{flushesAtOnce, joinChecks, flushChecks, pollChecks}
 use Rattle.rules.specs.Send.{deliveryChecks, room}
 use Rattle.rules.specs.Touch.{requestOf}
@@ -39,7 +40,9 @@ use Rattle.rules.specs.declared.Answer.{Answer}
 use Rattle.rules.proofs.Exported.{refused-owes}
 use Rattle.rules.proofs.Tests.{firstOf, refusal-append}
 use Rattle.commands.specs.Control.{outcomeBy, classChecks}
+use Rattle.commands.specs.Pages.{keys, recordChecks}
 use Rattle.commands.proofs.CallLaws.{control-done}
+use Rattle.commands.proofs.PagesCallLaws.{pages-done}
 use Rattle.queues.specs.Live.{LiveQueue, LivePair}
 use Rattle.queues.proofs.LiveLaws.{unread-none}
 use Rattle.queues.proofs.ResetLaws.{reset-done}
@@ -87,6 +90,17 @@ module _ (l : List ℕ) where
       let none-met : refusal (classChecks (card l) k) ≡ none = rw (good, le-ltb (length a) (ackNeed k) room) at e in
       outcome _ _ _ _ _ _
       (control-done l k a good room (outcomeBy none (maybe ack.Done (commandAck (card l)) (commandOf k))) (maybe l (commandBytes l) (commandOf k))
+      (record { outcome = rw none-met; bytes = rw none-met }) _ refl _ refl _ refl)
+
+  pages-ends : (k ps a : List ℕ) → refusal (owedChecks card accepts l (Call.pages k ps a)) ≡ none → HasOutcome l (Call.pages k ps a)
+  unfolding checks pagesChecks
+  pages-ends k ps a e =
+      let p = passed (owedChecks card accepts l (Call.pages k ps a)) e in
+      let good : accepts l ≡ true = not-false _ (p .0) in
+      let room : ackLeast ≤ length a = ltb-false (length a) ackLeast (p .1 .0) in
+      let none-met : refusal (recordChecks (card l) k ps) ≡ none = rw (good, le-ltb (length a) ackLeast room) at e in
+      outcome _ _ _ _ _ _
+      (pages-done l k ps a good room (outcomeBy none (keys (card l))) (pagedBytes l (registrationIn k) ps)
       (record { outcome = rw none-met; bytes = rw none-met }) _ refl _ refl _ refl)
 
   send-ends : (q : ℕ) (x m : List ℕ) → refusal (owedChecks card accepts l (Call.send q x m)) ≡ none → HasOutcome l (Call.send q x m)
@@ -142,6 +156,7 @@ module _ (l : List ℕ) where
   done-ends : (k : Call) → refusal (owedChecks card accepts l k) ≡ none → HasOutcome l k
   done-ends (Call.reset n) e = reset-ends n (passed (owedChecks card accepts l (Call.reset n)) e)
   done-ends (Call.control k a) e = control-ends k a e
+  done-ends (Call.pages k ps a) e = pages-ends k ps a e
   done-ends (Call.send q x m) e = send-ends q x m e
   done-ends (Call.receive q x) e = receive-ends q x (passed (owedChecks card accepts l (Call.receive q x)) e)
   done-ends (Call.flush q) e = flush-ends q (passed (owedChecks card accepts l (Call.flush q)) e)

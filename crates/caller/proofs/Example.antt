@@ -6,7 +6,7 @@ use Prim.Native.Nat.{ℕ}
 use lib.ListN.{length}
 use Rattle.tables.specs.Layout.{stateSize}
 use Rattle.tables.specs.Reset.{zeros}
-use Rattle.tables.specs.State.{card}
+use Rattle.tables.specs.State.{card, pagesNeeded}
 use Rattle.tables.proofs.ResetLaws.{zeros-length}
 use Rattle.wire.specs.Codec.{fieldsAt, putFields}
 use Rattle.wire.specs.Le.{leAt, putLe}
@@ -17,6 +17,7 @@ use Rattle.tables.specs.Commands.{commandOf, dataSize, numberCodec, registerCod
 use Rattle.tables.specs.Records.{sendCodec, sgeCodec, receiveCodec, sendChecks, receiveChecks, receiveSges, sendSge, inlineBytes, inlineLength, completionCodec}
 use Rattle.rules.specs.Lists.{stored}
 use Rattle.rules.specs.Touch.{requestOf, receiveIn, range, sgeBytes, sgeTotal, total, ownBytes, farBytes, byteIn, byteOf, message, delivered}
+use Rattle.rules.specs.Pages.{pagesChecks, pagedChecks}
 use Rattle.rules.specs.Permit.{permits, permitsAll, place, lookup, covers}
 use Rattle.rules.specs.Control.{commandChecks, commandAck, commandEffect}
 use Rattle.rules.specs.Send.{pairChecks, readyChecks, placeChecks, holdChecks, deliveryChecks, runStatus, sendStatus, sendPuts, putAll, sendQps, sendEffect, sendMemory}
@@ -39,7 +40,7 @@ abbrev callsOf : List Line → List Call
 callsOf ls = map (λ (x : Line). x .call) ls
 
 computed : lines [] (turns (fresh 8) (callsOf run)) ≡ run
-unfolding turns lines fieldsAt putFields leAt putLe rows rowsFrom lowest lowestFrom anyBelow commandOf dataSize ackNeed numberCodec registerCodec createQpCodec modifyQpCodec sendCodec sgeCodec receiveCodec completionCodec sendChecks receiveChecks receiveSges receiveOf sendSge inlineBytes inlineLength all stored requestOf receiveIn range sgeBytes sgeTotal total ownBytes farBytes byteOf message delivered permits permitsAll place lookup covers commandChecks commandAck commandEffect pairChecks readyChecks placeChecks holdChecks deliveryChecks runStatus sendStatus sendPuts putAll sendQps sendEffect sendMemory joinChecks joinStatus joinPuts joined received flushChecks flushed pollChecks polled checks resetChecks controlChecks bufferChecks statusOf effect memoryAfter bufferAfter step fed ackData judge nearPasses farPasses near far passes filled waiting standing told toldOfBoth domain peer accepted taken errored rights byteIn
+unfolding turns lines fieldsAt putFields leAt putLe rows rowsFrom lowest lowestFrom anyBelow commandOf dataSize ackNeed numberCodec registerCodec createQpCodec modifyQpCodec sendCodec sgeCodec receiveCodec completionCodec sendChecks receiveChecks receiveSges receiveOf sendSge inlineBytes inlineLength pagesNeeded pagesChecks pagedChecks all stored requestOf receiveIn range sgeBytes sgeTotal total ownBytes farBytes byteOf message delivered permits permitsAll place lookup covers commandChecks commandAck commandEffect pairChecks readyChecks placeChecks holdChecks deliveryChecks runStatus sendStatus sendPuts putAll sendQps sendEffect sendMemory joinChecks joinStatus joinPuts joined received flushChecks flushed pollChecks polled checks resetChecks controlChecks bufferChecks statusOf effect memoryAfter bufferAfter step fed ackData judge nearPasses farPasses near far passes filled waiting standing told toldOfBoth domain peer accepted taken errored rights byteIn
 computed = refl
 
 module _ (l : List ℕ) (sized : length l ≡ stateSize) where

@@ -42,6 +42,7 @@ step-is l k e = owed-is card accepts l k ∙ ap (λ (b : Bool). cond b (step (ca
 accepted-usable : (l : List ℕ) (k : Call) → accepts l ≡ true → usable card accepts l k ≡ true
 accepted-usable l (Call.reset n) e = eq-eqb (length l) stateSize (accepted l e .sized)
 accepted-usable l (Call.control k a) e = e
+accepted-usable l (Call.pages k ps a) e = e
 accepted-usable l (Call.send q x m) e = e
 accepted-usable l (Call.receive q x) e = e
 accepted-usable l (Call.flush q) e = e

@@ -1,6 +1,7 @@
 -- A run, by the bytes that its calls are given: two domains; writes, a send, inline bytes; a refused command, a refused reset, a hold, a
 -- poll, a flush; work requests with the statuses 0, 1, 3, 4, 7 and 8; a queue pair that can be read from and not written to; a region that is
--- dropped under waiting receives, and a write under its key after that; a send and receives posted in error; and a second reset.
+-- dropped under waiting receives, and a write under its key after that; a send and receives posted in error; a second reset; and, after a third,
+-- a region over pages: a refused list, a write over a page border, and a send whose later byte wins where a page is listed twice.
 -- proofs/Example.antt shows that it is a list of the judge's theorem. Assumes nothing.
 use mathlib.Core.Bool.{true, false}
 use mathlib.Core.List.{List, [], _∷_, _++_, map}
@@ -23,13 +24,21 @@ four n = n ∷ 0 ∷ 0 ∷ 0 ∷ []
 abbrev pub eight : ℕ → List ℕ
 eight n = n ∷ 0 ∷ 0 ∷ 0 ∷ 0 ∷ 0 ∷ 0 ∷ 0 ∷ []
 
+-- a number of two bytes in eight
+abbrev pub eightOf : (low high : ℕ) → List ℕ
+eightOf x y = x ∷ y ∷ 0 ∷ 0 ∷ 0 ∷ 0 ∷ 0 ∷ 0 ∷ []
+
 -- the first key of region slot n
 abbrev pub keyOf : (n : ℕ) → List ℕ
 keyOf n = 1 ∷ n ∷ 0 ∷ 0 ∷ []
 
--- the memory of every post send
+-- the memory of every post send, but for those over pages
 abbrev pub memory : List ℕ
 memory = 1 ∷ 2 ∷ 3 ∷ 4 ∷ 5 ∷ 6 ∷ 7 ∷ 8 ∷ []
+
+-- two pages, by their first six bytes and their last two
+abbrev pub twoPages : (first last : List ℕ) → List ℕ
+twoPages first last = first ++ replicate 8184 0 ++ last
 
 -- ---- calls
 
@@ -45,6 +54,10 @@ createCq n = command (2 ∷ four n)
 -- four bytes of memory, with all rights
 abbrev pub register : (pd start virt : ℕ) → Call
 register d s v = command (7 ∷ (four d ++ four 7 ++ eight s ++ eight 4 ++ eight v))
+
+-- a region over pages in domain 0 with all rights: start 4094, so that two bytes of the first page are its own, 8,194 bytes, virt 200
+abbrev pub registerPages : (pages : List ℕ) → Call
+registerPages ps = Call.pages (6 ∷ 7 ∷ (four 0 ++ four 7 ++ eightOf 254 15 ++ eightOf 2 32 ++ eight 200)) ps (replicate 13 9)
 
 abbrev pub deregister : (mrn : ℕ) → Call
 deregister n = command (8 ∷ four n)
@@ -64,12 +77,14 @@ allow q t f = command (10 ∷ (four q ++ four 5 ++ four t ++ four 0 ++ four f))
 abbrev pub aim : (q dest : ℕ) → Call
 aim q d = command (10 ∷ (four q ++ (1 ∷ 128 ∷ 0 ∷ 0 ∷ []) ++ four 2 ++ four d ++ four 0))
 
--- queue pair 0 sends: the opcode, the flags, the remote address and key, the inline bytes or those in their place, the count, the pieces
+-- a send record: the opcode, the flags, the remote address and key, the inline bytes or those in their place, the count, the pieces
+abbrev pub sendRecord : (opcode flags address : ℕ) → (key inline : List ℕ) → (count : ℕ) → (pieces : List ℕ) → List ℕ
+sendRecord o f a k i n ps =
+    eight 7 ++ (o ∷ f ∷ 0 ∷ 0 ∷ []) ++ four 0 ++ eight a ++ k ++ replicate 20 0 ++ i ++ four n ++ replicate 12 0 ++ ps
+
+-- queue pair 0 sends
 abbrev pub send : (opcode flags address : ℕ) → (key inline : List ℕ) → (count : ℕ) → (pieces : List ℕ) → Call
-send o f a k i n ps =
-    Call.send 0
-    (eight 7 ++ (o ∷ f ∷ 0 ∷ 0 ∷ []) ++ four 0 ++ eight a ++ k ++ replicate 20 0 ++ i ++ four n ++ replicate 12 0 ++ ps)
-    memory
+send o f a k i n ps = Call.send 0 (sendRecord o f a k i n ps) memory
 
 abbrev pub unused : List ℕ
 unused = replicate 512 0
@@ -81,6 +96,16 @@ piece a n k = eight a ++ n ++ k
 -- two bytes at 101 of the region of slot 0
 abbrev pub two : List ℕ
 two = piece 101 (four 2) (keyOf 0)
+
+-- queue pair 0 sends so many bytes from 100 on, to 200 under the key of slot 1, in a memory of two pages
+abbrev pub sendPaged : (opcode count : ℕ) → Call
+sendPaged o n = Call.send 0 (sendRecord o 0 200 (keyOf 1) unused 1 (piece 100 (four n) (keyOf 0))) (twoPages (1 ∷ 2 ∷ 3 ∷ 4 ∷ 5 ∷ 6 ∷ []) (0 ∷ 0 ∷ []))
+
+-- queue pair 1 waits for two bytes, at 200 and at 8,392
+abbrev pub receivePaged : Call
+receivePaged =
+    Call.receive 1
+    (eight 9 ++ four 2 ++ replicate 12 0 ++ piece 200 (four 1) (keyOf 1) ++ (eightOf 200 32 ++ four 1 ++ keyOf 1))
 
 -- queue pair 1 waits for up to four bytes
 abbrev pub receive : (address length : ℕ) → Call
@@ -117,6 +142,18 @@ waits k = record { call = k; answer = Held Peer; memory = memory; verdict = none
 
 -- ---- the run
 
+-- two queue pairs in these domains, joined
+abbrev pub joined : (pd peer : ℕ) → List Line
+joined d e =
+    done (createQp d) ∷
+    done (createQp e) ∷
+    done (move 0 1) ∷
+    done (aim 0 1) ∷
+    done (move 0 3) ∷
+    done (allow 1 1 7) ∷
+    done (aim 1 0) ∷
+    []
+
 -- a domain, a region and a queue pair for each of two tenants, and the two queue pairs joined
 abbrev pub setup : List Line
 setup =
@@ -125,14 +162,7 @@ setup =
     done (createCq 16) ∷
     done (register 0 0 100) ∷
     done (register 1 4 200) ∷
-    done (createQp 0) ∷
-    done (createQp 1) ∷
-    done (move 0 1) ∷
-    done (aim 0 1) ∷
-    done (move 0 3) ∷
-    done (allow 1 1 7) ∷
-    done (aim 1 0) ∷
-    []
+    joined 0 1
 
 -- queue pair 0 out of the state that an error left it in
 abbrev pub again : List Line
@@ -196,8 +226,24 @@ dropping =
 abbrev pub ending : List Line
 ending = done (Call.reset 8) ∷ plain (Call.flush 1) (Refused 2) ∷ []
 
+-- the pages at 4096, 0 and 4096 again: a list of one page too few; a write of four bytes to the memory bytes 8190, 8191, 0 and
+-- 1; and a send into two pieces that both mean memory byte 8190
+abbrev pub paging : List Line
+paging =
+    done (Call.reset 8192) ∷
+    done createPd ∷
+    done (createCq 16) ∷
+    done (register 0 2 100) ∷
+    plain (registerPages (4096 ∷ 0 ∷ [])) (Refused 11) ∷
+    done (registerPages (4096 ∷ 0 ∷ 4096 ∷ [])) ∷
+    joined 0 0
+    ++ (passes (sendPaged 0 4) (twoPages (5 ∷ 6 ∷ 3 ∷ 4 ∷ 5 ∷ 6 ∷ []) (3 ∷ 4 ∷ [])) ∷
+    queued receivePaged ∷
+    passes (sendPaged 2 2) (twoPages (1 ∷ 2 ∷ 3 ∷ 4 ∷ 5 ∷ 6 ∷ []) (4 ∷ 0 ∷ [])) ∷
+    [])
+
 abbrev pub run : List Line
-run = setup ++ delivering ++ failing ++ allowing ++ dropping ++ ending
+run = setup ++ delivering ++ failing ++ allowing ++ dropping ++ ending ++ paging
 
 -- A reset over eight bytes of memory and the run after it, on any state that has its length.
 abbrev pub Example : (l : List ℕ) → Type 0

@@ -48,6 +48,7 @@ verdictBy l (Call.send q x m) (Held c) = none
 verdictBy l (Call.send q x m) (Refused n) = none
 verdictBy l (Call.reset n) a = none
 verdictBy l (Call.control k b) a = none
+verdictBy l (Call.pages k ps b) a = none
 verdictBy l (Call.receive q x) (Done s) = some (not (flushesAtOnce l q))
 verdictBy l (Call.receive q x) (Held c) = none
 verdictBy l (Call.receive q x) (Refused n) = none

@@ -1,4 +1,4 @@
-// A caller of the six exported functions. What each promises is what the judge's theorem asks of a call (FromC), on any state, and calls in
+// A caller of the seven exported functions. What each promises is what the judge's theorem asks of a call (FromC), on any state, and calls in
 // turn on one state are a list of that theorem. An export that promised less would leave this crate unproved.
 ghost use mathlib.Core.List.{[], _∷_};
 ghost use Rattle.rules.specs.Call.{Call};
@@ -15,6 +15,12 @@ pub fn control(state: &mut [u8], command: &[u8], ack: &mut [u8]) -> u32
     ensures { λ r. ⌜ FromC (now (state .entry)) (seen (Call.control (now (command .entry)) (now (ack .entry))) r (now (state .exit)) [] (now (ack .exit))) ⌝ }
 {
     engine::lesungkap_control(state, command, ack)
+}
+
+pub fn register_pages(state: &mut [u8], command: &[u8], pages: &[u64], ack: &mut [u8]) -> u32
+    ensures { λ r. ⌜ FromC (now (state .entry)) (seen (Call.pages (now (command .entry)) (now (pages .entry)) (now (ack .entry))) r (now (state .exit)) [] (now (ack .exit))) ⌝ }
+{
+    engine::lesungkap_register_pages(state, command, pages, ack)
 }
 
 pub fn send(state: &mut [u8], memory: &mut [u8], qpn: u32, sent: &[u8]) -> u32
@@ -45,18 +51,22 @@ pub fn poll(state: &mut [u8], cqn: u32, buffer: &mut [u8]) -> u32
 pub struct Results {
     reset: u32,
     control: u32,
+    pages: u32,
     receive: u32,
     send: u32,
     flush: u32,
     poll: u32,
 }
 
-// The six in turn on one state, which each finds as the last one left it.
+// The seven in turn on one state, which each finds as the last one left it.
 pub fn run(
     state: &mut [u8],
     size: u64,
     command: &[u8],
     ack: &mut [u8],
+    region: &[u8],
+    pages: &[u64],
+    keys: &mut [u8],
     receiver: u32,
     posted: &[u8],
     memory: &mut [u8],
@@ -67,6 +77,7 @@ pub fn run(
 ) -> Results
     ensures { λ r. ⌜ Served (now (state .entry)) (turn (Call.reset size) (r .reset) [] [])
         (turn (Call.control (now (command .entry)) (now (ack .entry))) (r .control) [] (now (ack .exit))
+        ∷ turn (Call.pages (now (region .entry)) (now (pages .entry)) (now (keys .entry))) (r .pages) [] (now (keys .exit))
         ∷ turn (Call.receive receiver (now (posted .entry))) (r .receive) [] []
         ∷ turn (Call.send sender (now (sent .entry)) (now (memory .entry))) (r .send) (now (memory .exit)) []
         ∷ turn (Call.flush receiver) (r .flush) [] []
@@ -76,16 +87,18 @@ pub fn run(
 {
     let first = reset(state, size);
     let second = control(state, command, ack);
-    let third = receive(state, receiver, posted);
-    let fourth = send(state, memory, sender, sent);
-    let fifth = flush(state, receiver);
-    let sixth = poll(state, cqn, buffer);
+    let third = register_pages(state, region, pages, keys);
+    let fourth = receive(state, receiver, posted);
+    let fifth = send(state, memory, sender, sent);
+    let sixth = flush(state, receiver);
+    let seventh = poll(state, cqn, buffer);
     Results {
         reset: first,
         control: second,
-        receive: third,
-        send: fourth,
-        flush: fifth,
-        poll: sixth,
+        pages: third,
+        receive: fourth,
+        send: fifth,
+        flush: sixth,
+        poll: seventh,
     }
 }

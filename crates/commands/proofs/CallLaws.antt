@@ -8,13 +8,12 @@ use Prim.Native.Nat.{ℕ, _+_, _≤_, _<_}
 use lib.Dec.{eqb, leb}
 use lib.ListN.{length}
 use native.Mathlib.Omega.{arith}
-use borrow.Author.Tests.{lt-ltb, le-ltb, le-leb, leb-true, ltb-false, ne-eqb, not-true, not-false}
+use borrow.Author.Tests.{lt-ltb, le-ltb, le-leb, leb-true, ltb-false, ne-eqb, not-false}
 use Rattle.wire.specs.Checks.{Check, _if_, refusal}
 use Rattle.wire.specs.Codec.{decode}
 use Rattle.wire.proofs.CheckLaws.{passed}
 use Rattle.wire.specs.Le.{leAt}
 use Rattle.wire.specs.Scan.{all}
-use Rattle.wire.proofs.ScanLaws.{and-left, and-right}
 use Rattle.validate.specs.Accept.{accepts}
 use Rattle.validate.proofs.AcceptedLaws.{Accepted, accepted}
 use Rattle.tables.specs.Card.{Card}
@@ -34,7 +33,7 @@ use Rattle.tables.specs.declared.NumberRead.{NumberRead}
 use Rattle.tables.specs.declared.NumberRead.the-variants as number
 use Rattle.tables.specs.declared.RegisterRead.{RegisterRead}
 use Rattle.tables.specs.declared.RegisterRead.the-variants as register
-use Rattle.rules.proofs.Answers.{first-with, command-tests}
+use Rattle.rules.proofs.Answers.{command-tests}
 use Rattle.rules.proofs.Exported.{refused-owes, done-owes}
 use Rattle.rules.proofs.Tests.{firstOf, refusal-append}
 use Rattle.rules.specs.Bytes.{commandBytes, effectBytes}
@@ -48,9 +47,11 @@ use Rattle.rules.specs.declared.Answer.the-variants as answer
 use Rattle.commands.specs.Control.{Ran, Chosen, Classed, numberChecks, classChecks, numbered, registering, creating, modifying, bare, outcomeAck, outcomeAnswer}
 use Rattle.commands.specs.declared.Outcome.{Outcome}
 use Rattle.commands.specs.declared.Outcome.the-variants.{Refused, Done}
+use Rattle.commands.proofs.EndLaws.{quiet, ended}
 use Rattle.commands.proofs.EffectLaws as effect
 use Rattle.commands.proofs.EffectLaws.{Kept}
 use Rattle.commands.proofs.PairEffectLaws as pairs
+use Rattle.commands.proofs.RegionEffectLaws as regions
 
 -- ---- the command number chooses
 
@@ -138,13 +139,9 @@ module _ (l k : List ℕ) where
 
 -- ---- the call
 
--- a refusal after 15 and 12 holds nothing and writes the ack byte 1
-abbrev quiet : ℕ → Bool
-quiet n = not (eqb n 5) && not (eqb n 6) && not (eqb n 12 || eqb n 15)
-
-class-quiet : (c : Card) (k : List ℕ) (n : ℕ) → refusal (classChecks c k) ≡ some n → quiet n ≡ true
+class-quiet : (c : Card) (k : List ℕ) → all (λ t. quiet (t .no)) (classChecks c k) ≡ true
 unfolding all
-class-quiet c k n e = first-with quiet (classChecks c k) n (command-tests quiet refl refl refl refl refl refl c (commandOf k)) e
+class-quiet c k = command-tests quiet refl refl refl refl refl refl c (commandOf k)
 
 -- ---- tests that all pass, the earlier of them
 
@@ -242,14 +239,14 @@ kept l ok (Command.createCq n) e = effect.create-cq l ok n e
 kept l ok (Command.destroyCq n) e = effect.destroy-cq l ok n e
 kept l ok Command.createPd e = effect.create-pd l ok e
 kept l ok (Command.destroyPd n) e = effect.destroy-pd l ok n e
-kept l ok (Command.register g) e = effect.register l ok g e
-kept l ok (Command.deregister n) e = effect.deregister l ok n e
+kept l ok (Command.register g) e = regions.register l ok g e
+kept l ok (Command.deregister n) e = regions.deregister l ok n e
 kept l ok (Command.createQp r) e = pairs.create-qp l ok r e
 kept l ok (Command.modifyQp r) e = pairs.modify-qp l ok r e
 kept l ok (Command.destroyQp q) e = pairs.destroy-qp l ok q e
 
 -- tests that all pass, and the later of them
-rest-none : (xs ys : List Check) → refusal (xs ++ ys) ≡ none → refusal ys ≡ none
+pub rest-none : (xs ys : List Check) → refusal (xs ++ ys) ≡ none → refusal ys ≡ none
 rest-none xs ys e = go (refusal xs) (rw (refusal-append xs ys) at e)
   where
     go : (o : Option ℕ) → firstOf o (refusal ys) ≡ none → refusal ys ≡ none
@@ -287,7 +284,7 @@ module _ (l k a : List ℕ) where
       unfolding checks controlChecks
       tests = rw (good, le-ltb (length a) (ackNeed k) room)
 
-      -- one that is done, and one that is refused
+      -- one that is done
       done : refusal (classChecks (card l) k) ≡ none
           → Owes l call (answer.Done 0) (maybe l (commandBytes l) o) [] (encodeAck (maybe ack.Done (commandAck (card l)) o) a)
       unfolding effectBytes statusOf effect memoryAfter bufferAfter controlChecks
@@ -296,26 +293,8 @@ module _ (l k a : List ℕ) where
           let p = passed (classChecks (card l) k) e in
           rw (← said (card l) a o (not-false (isSome o) (p .1 .1 .0))) (done-owes l call (tests ∙ e) (s .0) (s .1) (maybe l (commandBytes l) o) refl)
 
-      no : (n : ℕ) → refusal (classChecks (card l) k) ≡ some n → Owes l call (answer.Refused n) l [] (encodeAck ack.Error a)
-      no n e =
-          let x : Bool = not (eqb n 5) in
-          let y : Bool = not (eqb n 6) in
-          let z : Bool = not (eqb n 12 || eqb n 15) in
-          let w : (x && y && z) ≡ true = class-quiet (card l) k n e in
-          let v : (x && y) ≡ true = and-left (x && y) z w in
-          rw (not-true (eqb n 5) (and-left x y v), not-true (eqb n 6) (and-right x y v), not-true (eqb n 12 || eqb n 15) (and-right (x && y) z w))
-          at (refused-owes l call n (tests ∙ e))
-
       pub control-done : (p : Outcome) (l′ : List ℕ) → Classed l k p l′ → (x : Ack) → x ≡ outcomeAck p → (r : Answer) → r ≡ outcomeAnswer p
           → (a′ : List ℕ) → a′ ≡ encodeAck x a → Owes l call r l′ [] a′
-      control-done p l′ d x ex r er a′ ea = go (refusal (classChecks (card l) k)) refl
-        where
-          go : (m : Option ℕ) → refusal (classChecks (card l) k) ≡ m → Owes l call r l′ [] a′
-          go none e =
-              let eo : p ≡ Done (maybe ack.Done (commandAck (card l)) o) = d .outcome ∙ rw e in
-              let el : l′ ≡ maybe l (commandBytes l) o = d .bytes ∙ rw e in
-              rw (ea, er, ex, eo, el) (done e)
-          go (some n) e =
-              let eo : p ≡ Refused n = d .outcome ∙ rw e in
-              let el : l′ ≡ l = d .bytes ∙ rw e in
-              rw (ea, er, ex, eo, el) (no n e)
+      control-done =
+          ended l a call refl (λ n. refl) (classChecks (card l) k) tests (class-quiet (card l) k)
+          (maybe ack.Done (commandAck (card l)) o) (maybe l (commandBytes l) o) done

@@ -26,6 +26,7 @@ use Rattle.rules.specs.Permit.{keyOf}
 use Rattle.rules.proofs.Variants.{new-small}
 use Rattle.rules.specs.Control.{commandChecks, commandAck, deviceOf, portOf, newVariant}
 use Rattle.rules.specs.Bytes.{commandBytes}
+use Rattle.rules.specs.Pages.{regionBytes}
 use Rattle.commands.specs.Control.{Ran, bare, inRange, destroyOf, liveOf, usedOf}
 use Rattle.commands.specs.declared.Kind.{Kind}
 use Rattle.commands.specs.declared.Kind.the-variants.{Pd, Cq, Mr, Qp}
@@ -193,8 +194,8 @@ module _ (l : List ℕ) where
           register-full h = ran-refused l (Command.register g) 8 (register-tests ∙ rw (inside, le-leb mrCount (freeMrn (card l)) (omega arith)))
 
           pub register-done : n < mrCount → (v : ℕ) → v ≡ newVariant (card l) → (key : ℕ) → key ≡ keyOf n v → (l′ : List ℕ)
-              → l′ ≡ commandBytes l (Command.register g) → Ran l (some (Command.register g)) (Done (ack.Keys n key)) l′
-          unfolding commandAck
+              → l′ ≡ regionBytes l 0 g → Ran l (some (Command.register g)) (Done (ack.Keys n key)) l′
+          unfolding commandAck commandBytes
           register-done h v e key f l′ s =
               ran-done l (Command.register g) (register-tests ∙ rw (inside, lt-leb mrCount (freeMrn (card l)) (omega arith)))
               (Done (ack.Keys n key)) l′ (ap (λ (x : ℕ). Done (ack.Keys n x)) f ∙ ap₂ (λ (x z : ℕ). Done (ack.Keys x (keyOf x z))) is e) s

@@ -2,6 +2,10 @@ pub mod CaseLaws
 pub mod PairCaseLaws
 pub mod EffectLaws
 pub mod PairEffectLaws
-pub mod CallLaws
 pub mod PagesLaws
 pub mod PagesEffectLaws
+pub mod RegionEffectLaws
+pub mod PagesCaseLaws
+pub mod EndLaws
+pub mod CallLaws
+pub mod PagesCallLaws

@@ -40,12 +40,15 @@ all-in p [] k h e = absurd (omega arith)
 all-in p (x ∷ ps) zero h e = and-left (p x) (all p ps) e
 all-in p (x ∷ ps) (suc k) h e = all-in p ps k (omega arith) (and-right (p x) (all p ps) e)
 
+-- each page lies inside the memory
+pub entry-inside : (m : ℕ) (ps : List ℕ) (k : ℕ) → k < length ps → entriesOk m ps ≡ true → getD ps k 0 + pageSize ≤ m
+entry-inside m ps k h e =
+    let p : ℕ = getD ps k 0 in
+    leb-true (p + pageSize) m (and-right (eqb (p % pageSize) 0) (leb (p + pageSize) m) (all-in (entryOk m) ps k h e))
+
 -- the number of a page of the largest memory
 pub number-small : (ps : List ℕ) (k : ℕ) → k < length ps → entriesOk mostMemory ps ≡ true → getD ps k 0 / pageSize < 4096
-number-small ps k h e =
-    let q : entryOk mostMemory (getD ps k 0) ≡ true = all-in (entryOk mostMemory) ps k h e in
-    let w = leb-true (getD ps k 0 + pageSize) mostMemory (and-right (eqb (getD ps k 0 % pageSize) 0) (leb (getD ps k 0 + pageSize) mostMemory) q) in
-    omega arith
+number-small ps k h e = omega (arith, entry-inside mostMemory ps k h e)
 
 -- ---- the numbers left are stored
 

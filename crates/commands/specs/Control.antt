@@ -57,11 +57,16 @@ abbrev pub outcomeAnswer : Outcome → Answer
 outcomeAnswer (Refused n) = answer.Refused n
 outcomeAnswer (Done a) = answer.Done 0
 
--- ---- what a function owes that runs the command o on the state l after these tests: its outcome r, and the state's bytes l′
+-- ---- what a function owes that runs a command on the state l after these tests: its outcome r, done with what the ack says, and the state's
+-- bytes l′, those after the command where it is done
 
-pub record Ends (tests : List Check) (l : List ℕ) (o : Option Command) (r : Outcome) (l′ : List ℕ) : Type 0 where
-  pub outcome : r ≡ outcomeBy (refusal tests) (maybe ack.Done (commandAck (card l)) o)
-  pub bytes : l′ ≡ leftBy (refusal tests) l (maybe l (commandBytes l) o)
+pub record Ends (tests : List Check) (said : Ack) (l after : List ℕ) (r : Outcome) (l′ : List ℕ) : Type 0 where
+  pub outcome : r ≡ outcomeBy (refusal tests) said
+  pub bytes : l′ ≡ leftBy (refusal tests) l after
+
+-- the command o
+abbrev pub Runs : (tests : List Check) → (l : List ℕ) → Option Command → Outcome → (l′ : List ℕ) → Type 0
+Runs tests l o r l′ = Ends tests (maybe ack.Done (commandAck (card l)) o) l (maybe l (commandBytes l) o) r l′
 
 -- "Check order: .. data length 1; then 4, 2, 11, 3, 10, 8": a command whose data has not its length is none
 abbrev pub dataChecks : Card → Option Command → List Check
@@ -69,7 +74,7 @@ dataChecks c none = 1 if true ∷ []
 dataChecks c (some q) = commandChecks c q
 
 abbrev pub Ran : (l : List ℕ) → Option Command → Outcome → (l′ : List ℕ) → Type 0
-Ran l o r l′ = Ends (dataChecks (card l) o) l o r l′
+Ran l o r l′ = Runs (dataChecks (card l) o) l o r l′
 
 -- "13; data length 1; ..": the tests from the command number on
 abbrev pub numberChecks : Card → List ℕ → List Check
@@ -84,10 +89,10 @@ classChecks c k = headChecks k ++ numberChecks c k
 
 -- the command that the bytes k are, from its number on, and from its length on
 abbrev pub Chosen : (l k : List ℕ) → Outcome → (l′ : List ℕ) → Type 0
-Chosen l k r l′ = Ends (numberChecks (card l) k) l (commandOf k) r l′
+Chosen l k r l′ = Runs (numberChecks (card l) k) l (commandOf k) r l′
 
 abbrev pub Classed : (l k : List ℕ) → Outcome → (l′ : List ℕ) → Type 0
-Classed l k r l′ = Ends (classChecks (card l) k) l (commandOf k) r l′
+Classed l k r l′ = Runs (classChecks (card l) k) l (commandOf k) r l′
 
 -- ---- the command that its data makes; none where the data has not its length
 

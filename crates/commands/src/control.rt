@@ -48,11 +48,12 @@ ghost use Rattle.rules.specs.Bytes.{commandBytes};
 ghost use Rattle.rules.specs.Call.{Call};
 ghost use Rattle.rules.specs.Contract.{Owes};
 ghost use Rattle.rules.specs.Control.{newVariant};
+ghost use Rattle.rules.specs.Pages.{regionBytes};
 ghost use Rattle.rules.specs.Permit.{keyOf};
 ghost use Rattle.commands.specs.Control.{Ran, Chosen, Classed, numbered, registering, bare, inRange, outcomeAck, outcomeAnswer};
 
 // "The ack buffer has at least 13 bytes".
-const ACK_LEAST: usize = 13;
+pub const ACK_LEAST: usize = 13;
 
 // The class byte and the command byte.
 pub const HEAD_SIZE: usize = 2;
@@ -70,7 +71,7 @@ const CREATE_PD: u8 = 4;
 
 const DESTROY_PD: u8 = 5;
 
-const REGISTER_MR: u8 = 7;
+pub const REGISTER_MR: u8 = 7;
 
 const DEREGISTER_MR: u8 = 8;
 
@@ -149,25 +150,25 @@ fn in_range(memory: u64, g: Registration) -> bool
     !(g.length == 0) & in_memory & in_space
 }
 
-fn key_of(n: usize, variant: u8) -> u32
+pub fn key_of(n: usize, variant: u8) -> u32
     requires { ⌜ n < mrCount ⌝ }
     ensures { λ r. ⌜ r ≡ keyOf n variant ⌝ }
 {
     256 * (n as u32) + variant as u32
 }
 
-// The free slot n holds the region under the slot's next variant, which is returned.
-fn put_region(state: &mut [u8], n: usize, g: Registration) -> u8
+// The free slot n holds the region, of either kind, under the slot's next variant, which is returned.
+pub fn put_region(state: &mut [u8], n: usize, g: Registration, kind: u8) -> u8
     requires { ⌜ (n < mrCount) × (length (now state) ≡ stateSize) × (n ≡ freeMrn (card (now state)))
         × (accessOk (g .access) ≡ true) × (card (now state) .pd (g .pd) ≡ true) ⌝ }
-    ensures { λ r. ⌜ (r ≡ newVariant (card (now (state .entry)))) × (now (state .exit) ≡ commandBytes (now (state .entry)) (Command.register g)) ⌝ }
+    ensures { λ r. ⌜ (r ≡ newVariant (card (now (state .entry)))) × (now (state .exit) ≡ regionBytes (now (state .entry)) kind g) ⌝ }
 {
     let variant = rows::load_mr(state, n).variant + 1;
     let row = Region {
         access: g.access as u8,
         variant: variant,
         pd: g.pd as u8,
-        kind: FLAT,
+        kind: kind,
         start: g.start,
         length: g.length,
         virt: g.virt,
@@ -197,7 +198,7 @@ fn register(state: &mut [u8], read: RegisterRead) -> Outcome
     if MR_COUNT <= n {
         return Outcome::Refused(FULL);
     }
-    let variant = put_region(state, n, g);
+    let variant = put_region(state, n, g, FLAT);
     Outcome::Done(Ack::Keys(n as u32, key_of(n, variant)))
 }
 
@@ -248,7 +249,7 @@ fn ack_need(command: &[u8]) -> usize
     }
 }
 
-fn ack_of(o: Outcome) -> Ack
+pub fn ack_of(o: Outcome) -> Ack
     ensures { λ r. ⌜ r ≡ outcomeAck o ⌝ }
 {
     match o {
@@ -257,7 +258,7 @@ fn ack_of(o: Outcome) -> Ack
     }
 }
 
-fn answer_of(o: Outcome) -> Answer
+pub fn answer_of(o: Outcome) -> Answer
     ensures { λ r. ⌜ r ≡ outcomeAnswer o ⌝ }
 {
     match o {

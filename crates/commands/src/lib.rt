@@ -2,7 +2,7 @@
 pub mod control;
 mod control_qp;
 mod destroy;
-mod pages;
+pub mod pages;
 mod query;
 
 use tables::Ack;

@@ -215,8 +215,10 @@ module _ (c : Card) (m m′ st : List ℕ) (ts : List Sge) (w : m′ ≡ stored 
 -- a message of one entry to one entry
 pub single : (ss ts : List Sge) (nf nt : ℕ) → (eqb nf 1 && eqb nt 1) ≡ true → length ss ≡ 4 → length ts ≡ 4
     → (take nf ss ≡ getD ss 0 noSge ∷ []) × (take nt ts ≡ getD ts 0 noSge ∷ [])
-single ss ts nf nt t x y =
-    (alone ss nf (eqb-true nf 1 (and-left (eqb nf 1) (eqb nt 1) t)) (omega arith), alone ts nt (eqb-true nt 1 (and-right (eqb nf 1) (eqb nt 1) t)) (omega arith))
+single ss ts nf nt t x y = (
+  alone ss nf (eqb-true nf 1 (and-left (eqb nf 1) (eqb nt 1) t)) (omega arith),
+  alone ts nt (eqb-true nt 1 (and-right (eqb nf 1) (eqb nt 1) t)) (omega arith),
+)
 
 -- in one move
 pub moved-one : (c : Card) (m m′ : List ℕ) (s t : Sge) (a b : ℕ) → Lies c (length m) s → Lies c (length m) t → a ≡ placeOf c s → b ≡ placeOf c t

@@ -13,7 +13,7 @@ use Rattle.tables.specs.Card.{Card}
 use Rattle.tables.specs.State.{registrationOf}
 use Rattle.tables.specs.declared.Region.{Region}
 use Rattle.tables.specs.declared.Registration.{Registration}
-use Rattle.rules.specs.Bytes.{regionRow}
+use Rattle.rules.specs.Pages.{regionRow}
 use Rattle.rules.specs.Lists.{maybe}
 use Rattle.rules.specs.Permit.{lookup}
 use Rattle.rules.specs.Touch.{Byte, range}
@@ -113,7 +113,7 @@ module _ (c : Card) (party : Party) (mask k : ℕ) where
   -- what the look-up of the key says of a range that is not empty
   module _ (n a : ℕ) (some-bytes : 0 < n) where
     abbrev row : Registration → Found
-    row g = Live (regionRow g (c .mr (k / 256) .variant))
+    row g = Live (regionRow 0 g (c .mr (k / 256) .variant))
 
     pub range-none : regionOf (c .mr) k ≡ Nothing → allowsAll c party mask (range a k n) ≡ false
     unfolding regionOf
@@ -130,6 +130,6 @@ module _ (c : Card) (party : Party) (mask k : ℕ) where
         go : (o : Option Registration) → lookup (c .mr) k ≡ o → maybe Nothing row o ≡ Live r → allowsAll c party mask (range a k n) ≡ ends (registrationOf r) a n
         go none is q = let z : _≡_ {A = ℕ} 0 1 = cc in absurd (omega arith)
         go (some g) is q =
-            let p : regionRow g (c .mr (k / 256) .variant) ≡ r = cc in
+            let p : regionRow 0 g (c .mr (k / 256) .variant) ≡ r = cc in
             same-tests (allowsAll c party mask (range a k n)) (ends g a n) (ends-of g is n a some-bytes) (of-ends g is n a)
             ∙ ap (λ (s : Region). ends (registrationOf s) a n) p

@@ -8,7 +8,7 @@ use Rattle.wire.specs.Checks.{has}
 use Rattle.wire.specs.Scan.{all}
 use Rattle.tables.specs.Card.{Card, Mr}
 use Rattle.tables.specs.declared.Registration.{Registration}
-use Rattle.rules.specs.Bytes.{regionRow}
+use Rattle.rules.specs.Pages.{regionRow}
 use Rattle.rules.specs.Lists.{maybe}
 use Rattle.rules.specs.Permit.{lookup}
 use Rattle.rules.specs.Touch.{Byte}
@@ -16,9 +16,9 @@ use Rattle.rules.specs.declared.Party.{Party}
 use Rattle.dma.specs.declared.permit.Found.{Found}
 use Rattle.dma.specs.declared.permit.Found.the-variants.{Live, Nothing}
 
--- the region that "a live MR has this key" speaks of, as its row holds it
+-- the region that "a live MR has this key" speaks of, as its row holds it but for its kind
 unfoldable pub regionOf : (ℕ → Mr) → (key : ℕ) → Found
-regionOf mr key = maybe Nothing (λ g. Live (regionRow g (mr (key / 256) .variant))) (lookup mr key)
+regionOf mr key = maybe Nothing (λ g. Live (regionRow 0 g (mr (key / 256) .variant))) (lookup mr key)
 
 -- "the use's right: local reading none, local writing bit 1, remote write 2, remote read 4": the mask is the bit, 0 for none
 abbrev pub grants : (mask access : ℕ) → Bool

@@ -1,5 +1,6 @@
 // The engine: post send, and all of the card's calls for a caller in C.
 use commands::control;
+use commands::pages;
 ghost use mathlib.Core.List.{[]};
 ghost use Rattle.rules.specs.Call.{Call};
 ghost use Rattle.rules.specs.Contract.{Exports};
@@ -23,6 +24,18 @@ pub extern "C" fn lesungkap_control(state: &mut [u8], command: &[u8], ack: &mut 
     ensures { λ r. ⌜ Exports (now (state .entry)) (Call.control (now (command .entry)) (now (ack .entry))) r (now (state .exit)) [] (now (ack .exit)) ⌝ }
 {
     rules::code(control::control(state, command, ack))
+}
+
+#[no_mangle]
+pub extern "C" fn lesungkap_register_pages(
+    state: &mut [u8],
+    command: &[u8],
+    pages: &[u64],
+    ack: &mut [u8],
+) -> u32
+    ensures { λ r. ⌜ Exports (now (state .entry)) (Call.pages (now (command .entry)) (now (pages .entry)) (now (ack .entry))) r (now (state .exit)) [] (now (ack .exit)) ⌝ }
+{
+    rules::code(pages::register_pages(state, command, pages, ack))
 }
 
 #[no_mangle]

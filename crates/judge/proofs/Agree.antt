@@ -7,34 +7,38 @@ use Prim.Native.Nat.{ℕ, _+_, _<_, _≤_}
 use native.Mathlib.Omega.{arith}
 use lib.Dec.{eqb, leb}
 use lib.ListN.{length}
-use borrow.Author.Tests.{eqb-true, leb-false, ltb-false, not-false}
+use borrow.Author.Tests.{eqb-true, ltb-false, not-false}
 use Rattle.wire.specs.Checks.{Passed}
 use Rattle.wire.proofs.ScanLaws.{and-left, and-off}
 use Rattle.wire.proofs.SlotLaws.{split, same}
 use Rattle.tables.specs.Limits.{mrCount, qpCount, mostAddress, mostMessage}
 use Rattle.tables.specs.Card.{Card, Mr, Qp, Receive, fresh, withCq}
+use Rattle.tables.specs.State.{pagesNeeded}
 use Rattle.tables.proofs.AckLaws.{need-least}
 use Rattle.tables.specs.Commands.{Command, commandOf, ackLeast, ackFields, encodeAck, numbersOf, ackNeed}
 use Rattle.tables.specs.Records.{sendChecks}
+use Rattle.tables.specs.declared.Registration.{Registration}
 use Rattle.rules.specs.Lists.{isSome, isEmpty, names, orElse, maybe}
 use Rattle.rules.specs.Touch.{Request, requestOf, receiveIn, takes, fills, total, sgeTotal, ownBytes, farBytes}
 use Rattle.rules.specs.Permit.{permitsAll}
-use Rattle.rules.specs.Control.{commandChecks, commandAck, commandEffect}
+use Rattle.rules.specs.Control.{commandChecks, commandAck, commandEffect, registered}
+use Rattle.rules.specs.Pages.{pagesChecks, pagedChecks}
 use Rattle.validate.specs.Search.{freeMrn, freeQpn}
 use Rattle.rules.specs.Send.{pairChecks, readyChecks, holdChecks, deliveryChecks, isInError, peerOf, takenBy, ready, consumes, fails, errorIf, consumeIf, putAll, ownUse, farUse, statusBy, runStatus, sendStatus, sendQps, sendEffect}
 use Rattle.rules.specs.Queues.{flushesAtOnce, joinStatus, joinPuts, joined, received, flushChecks, flushed, polled}
-use Rattle.rules.specs.Call.{Call}
+use Rattle.rules.specs.Call.{Call, registrationIn}
 use Rattle.rules.specs.Calls.{checks, controlChecks, effect, statusOf, bufferAfter}
 use Rattle.rules.specs.declared.Answer.the-variants.{Done}
+use Rattle.rules.proofs.Dropped.{has-slot, has-slot-paged}
 use Rattle.rules.proofs.Tests.{passed-before, passed-after}
 use Rattle.rules.proofs.Variants.{slot-free}
-use Rattle.judge.specs.Log.{Log, PairNote, noteCommand, fed, ackData, Note}
+use Rattle.judge.specs.Log.{Log, PairNote, noteRegistration, noteCommand, fed, ackData, Note}
 use Rattle.judge.specs.Judge.{Standing, standing, told, domain, peer, accepted, taken, toldOfBoth, errored, rights}
 use Rattle.judge.specs.Distinct.{handed, Distinct}
 use Rattle.judge.specs.Dropped.{dropped}
-use Rattle.judge.proofs.Acks.{ack-back}
+use Rattle.judge.proofs.Acks.{keys-back, ack-back}
 use Rattle.judge.proofs.Keys
-use Rattle.judge.proofs.Keys.{Keys}
+use Rattle.judge.proofs.Keys.{Inside, Keys}
 use Rattle.judge.proofs.Pairs
 use Rattle.judge.proofs.Pairs.{Pair, Said, said, saidBy}
 use Rattle.wire.specs.Codec.{putFields}
@@ -50,6 +54,18 @@ Agree c l = Agreed (c .memory) (c .mr) (c .qp) (standing l) (dropped l) (handed 
 -- ---- control commands
 
 module _ (c : Card) (l : Log) (a : Agree c l) where
+  -- a registration of either kind
+  registers : (g : Registration) (ps : List ℕ) → freeMrn c < mrCount → Inside (c .memory) ps g →
+      Agree (registered c g ps) (noteRegistration (numbersOf (commandAck c (Command.register g))) g ps ∷ l)
+  unfolding commandAck standing dropped handed Distinct told domain peer accepted taken toldOfBoth errored rights
+  registers g ps i fits =
+      record {
+        keys =
+            Keys.registers (c .memory) (c .mr) (standing l) (dropped l) (handed l) (Distinct l) (a .keys) (freeMrn c) g ps (slot-free c i .0) (slot-free c i .1)
+            fits;
+        pairs = a .pairs;
+      }
+
   command : (k : Command) → Passed (commandChecks c k) → Agree (commandEffect c k) (noteCommand k (numbersOf (commandAck c k)) ∷ l)
   unfolding commandChecks commandEffect commandAck standing dropped handed Distinct told domain peer accepted taken toldOfBoth errored rights
   command Command.queryDevice p = a
@@ -59,14 +75,9 @@ module _ (c : Card) (l : Log) (a : Agree c l) where
   command Command.createPd p = a
   command (Command.destroyPd n) p = a
   command (Command.register g) p =
-      let i : freeMrn c < mrCount = leb-false mrCount (freeMrn c) (p .1 .1 .1 .1 .1 .0) in
-      record {
-        keys =
-            Keys.registers (c .memory) (c .mr) (standing l) (dropped l) (handed l) (Distinct l) (a .keys) (freeMrn c) g [] (slot-free c i .0) (slot-free c i .1)
-            (Keys.flat-inside (c .memory) g (ltb-false (c .memory) (g .start + g .length) (p .1 .1 .1 .0))
-            (ltb-false mostAddress (g .virt + g .length) (p .1 .1 .1 .1 .0)));
-        pairs = a .pairs;
-      }
+      registers g [] (has-slot c g p)
+      (Keys.flat-inside (c .memory) g (ltb-false (c .memory) (g .start + g .length) (p .1 .1 .1 .0))
+      (ltb-false mostAddress (g .virt + g .length) (p .1 .1 .1 .1 .0)))
   command (Command.deregister n) p =
       record { keys = Keys.deregisters (c .memory) (c .mr) (standing l) (dropped l) (handed l) (Distinct l) (a .keys) n; pairs = a .pairs }
   command (Command.createQp r) p =
@@ -81,6 +92,17 @@ module _ (c : Card) (l : Log) (a : Agree c l) where
       }
   command (Command.destroyQp q) p =
       record { keys = a .keys; pairs = split q _ (rw same (λ e. absurd (false≢true e))) (λ j e. rw e (a .pairs j)) }
+
+  -- one over pages, by the numbers that the judge reads out of its ack
+  paged : (g : Registration) (ps b : List ℕ) → ackLeast ≤ length b → Passed (pagedChecks c g ps) →
+      Agree (registered c g ps) (noteRegistration (ackData (Command.register g) (encodeAck (commandAck c (Command.register g)) b)) g ps ∷ l)
+  unfolding pagedChecks
+  paged g ps b wide p =
+      let i : freeMrn c < mrCount = has-slot-paged c g ps p in
+      rw (keys-back b wide c g i)
+      (registers g ps i
+      (Keys.paged-inside (c .memory) g ps (eqb-true (length ps) (pagesNeeded (g .start) (g .length)) (not-false _ (p .1 .1 .1 .1 .1 .1 .0)))
+      (not-false _ (p .1 .1 .1 .1 .1 .1 .1 .0)) (ltb-false mostAddress (g .virt + g .length) (p .1 .1 .1 .0))))
 
 pub start : (n : ℕ) → Agree (fresh n) []
 unfolding standing dropped handed Distinct told domain peer accepted taken toldOfBoth errored rights
@@ -246,7 +268,7 @@ posted-agrees c q w l a = record { keys = go (flushesAtOnce c q); pairs = posted
 -- ---- every accepted call
 
 pub accepted-call : (c : Card) (k : Call) (l : Log) → Passed (checks c k) → Agree c l → Agree (effect c k) (fed l k (Done (statusOf c k)) (bufferAfter c k))
-unfolding checks controlChecks flushChecks effect sendEffect flushed polled statusOf bufferAfter fed standing dropped handed Distinct told domain peer accepted taken toldOfBoth errored rights
+unfolding checks controlChecks pagesChecks flushChecks effect sendEffect flushed polled statusOf bufferAfter fed standing dropped handed Distinct told domain peer accepted taken toldOfBoth errored rights
 accepted-call c (Call.reset n) l p a = start n
 accepted-call c (Call.control k b) l p a =
     known (commandOf k) (passed-after (controlChecks k b) (maybe [] (commandChecks c) (commandOf k)) p)
@@ -262,6 +284,9 @@ accepted-call c (Call.control k b) l p a =
         (maybe Note.other (λ x. noteCommand x (maybe [] (λ y. ackData y (maybe b (λ q. encodeAck (commandAck c q) b) o)) o)) o ∷ l)
     known none t = a
     known (some x) t = rw (ack-back b wide c x t) (command c l a x t)
+accepted-call c (Call.pages k ps b) l p a =
+    paged c l a (registrationIn k) ps b (ltb-false (length b) ackLeast (p .0))
+    (passed-after (pagesChecks k b) (pagedChecks c (registrationIn k) ps) p)
 accepted-call c (Call.send q x m) l p a =
     record { keys = a .keys; pairs = sent-pairs c q (requestOf x) l (sendable c q x m p) a }
 accepted-call c (Call.receive q x) l p a = posted-agrees c q (receiveIn x) l a

@@ -10,22 +10,16 @@ use lib.ListN.{length, getD, take, length-map, List·getD-map}
 use lib.Seq.{length-take-le}
 use borrow.Author.Tests.{leb-true, eq-eqb, ne-eqb}
 use Rattle.wire.proofs.ScanLaws.{and-left, and-right}
-use Rattle.wire.specs.Scan.{all}
 use Rattle.tables.specs.Limits.{mostMessage}
 use Rattle.rules.specs.Lists.{stored}
 use Rattle.rules.specs.Touch.{Request, Byte, fills, total, sgeTotal, sgeBytes, range, ownBytes, farBytes}
+use Rattle.rules.proofs.Ranges.{all-in}
 use Rattle.rules.proofs.Stored.{stored-length, stored-other, stored-last, map-at, range-length, sge-length}
 use Rattle.judge.specs.Log.{Log}
 use Rattle.judge.specs.Judge.{errored, Party, Right, Side, passes, placed, Work, filled, near, far, allPass, fitsReceive, nearPasses, farPasses, judge, readSide, writtenSide, Source, sources, valueOf, judgedMemory}
 use Rattle.judge.specs.Demand3.{Correct, Bytewise, noByte, target, targetByte, source, sourceAt}
 use Rattle.judge.proofs.Rights.{same-fills}
 use Rattle.judge.proofs.Demand3.{Proves, correct}
-
-all-at : {A : Type 0} (p : A → Bool) (xs : List A) (i : ℕ) (d : A) → i < length xs → all p xs ≡ true → p (getD xs i d) ≡ true
-unfolding all
-all-at p [] i d h e = absurd (omega arith)
-all-at p (x ∷ xs) zero d h e = and-left (p x) (all p xs) e
-all-at p (x ∷ xs) (suc i) d h e = all-at p xs i d (omega arith) (and-right (p x) (all p xs) e)
 
 -- a source that stands in the memory, as a byte
 abbrev pub isByte : Source → Bool
@@ -110,7 +104,7 @@ module _ (l : Log) (w : Work) (ok : judge l w ≡ true) (small : w .request .opc
   pub target-passes : (i : ℕ) → i < total r → passes l (writtenSide l w .party) (writtenSide l w .right) (targetByte l w i) ≡ true
   target-passes i h =
       let n = written-whole .sized in
-      all-at (passes l (writtenSide l w .party) (writtenSide l w .right)) (writtenSide l w .bytes) i noByte (omega arith) (written-whole .passed)
+      all-in (passes l (writtenSide l w .party) (writtenSide l w .right)) (writtenSide l w .bytes) i noByte (omega arith) (written-whole .passed)
 
   pub source-passes : (i : ℕ) → i < total r → (b : Byte) → sourceAt l w i ≡ Source.byte b → passes l (readSide l w .party) (readSide l w .right) b ≡ true
   unfolding sources total
@@ -125,7 +119,7 @@ module _ (l : Log) (w : Work) (ok : judge l w ≡ true) (small : w .request .opc
           let n = y .sized in
           let is : getD (readSide l w .bytes) i noByte ≡ b = ap (byteOr noByte) (sym (List·getD-map Source.byte (readSide l w .bytes) i noByte) ∙ s) in
           ap (passes l (readSide l w .party) (readSide l w .right)) (sym is)
-          ∙ all-at (passes l (readSide l w .party) (readSide l w .right)) (readSide l w .bytes) i noByte (omega arith) (y .passed)
+          ∙ all-in (passes l (readSide l w .party) (readSide l w .right)) (readSide l w .bytes) i noByte (omega arith) (y .passed)
 
   sources-length : length (sources l w) ≡ total r
   unfolding sources total

@@ -90,6 +90,7 @@ call-puts : (c : Card) (k : Call) (n : ℕ) → effect c k .cq n .entries ≡ st
 unfolding effect sendEffect flushed polled stays puts putInto
 call-puts c (Call.reset m) n = refl
 call-puts c (Call.control k a) n = known-puts c (commandOf k) n ∙ sym (append-nil (maybe (c .cq n .entries) (λ x. staysBy c x n (c .cq n .entries)) (commandOf k)))
+call-puts c (Call.pages k ps a) n = sym (append-nil (c .cq n .entries))
 call-puts c (Call.send q x m) n = put-all (sendPuts c q (requestOf x) (sendStatus c q (requestOf x))) (c .cq) n
 call-puts c (Call.receive q x) n = received-puts c q (receiveIn x) n
 call-puts c (Call.flush q) n = put-all (flushPut c q ∷ []) (c .cq) n
@@ -269,6 +270,7 @@ counts-call c (Call.control k b) l t p a =
     known (some x) s =
         rw (ack-back b wide c x s)
         (λ q. same-sums (commandEffect c x .qp q) (noted (noteCommand x (numbersOf (commandAck c x))) q (length (c .qp q .waiting)) (t q)) (command c t a x q))
+counts-call c (Call.pages k ps b) l t p a = λ q. same-sums (c .qp q) (t q) (a q)
 counts-call c (Call.send q x m) l t p a =
     let o = sendable c q x m p in
     let r : Request = requestOf x in

@@ -29,21 +29,21 @@ use Rattle.judge.specs.Judge.{flushesAtOnce, judge, nearPasses, farPasse
 abbrev mem : List ℕ
 mem = 1 ∷ 2 ∷ 3 ∷ 4 ∷ 5 ∷ 6 ∷ 7 ∷ 8 ∷ []
 
-abbrev command : (number size : ℕ) → List ℕ
+abbrev pub command : (number size : ℕ) → List ℕ
 command n size = 6 ∷ n ∷ replicate size 0
 
-abbrev control : List ℕ → Call
+abbrev pub control : List ℕ → Call
 control k = Call.control k (replicate 13 9)
 
-abbrev registered : (start virt : ℕ) → Call
+abbrev pub registered : (start virt : ℕ) → Call
 registered s v = control (encode registerCodec (command 7 32) 2 (record { pd = 0; access = 7; start = s; length = 4; virt = v }))
 
-abbrev modified : (q mask state dest flags : ℕ) → Call
+abbrev pub modified : (q mask state dest flags : ℕ) → Call
 modified q k t d f =
     control
     (encode modifyQpCodec (command 10 20) 2 (record { qpn = q; mask = k; state = t; pad0 = 0; pad1 = 0; pad2 = 0; dest = d; flags = f }))
 
-abbrev created : Call
+abbrev pub created : Call
 created = control (encode createQpCodec (command 9 16) 2 (record { pd = 0; kind = 2; signal = 0; scq = 0; rcq = 0 }))
 
 -- one piece of 2 bytes at 101, which is memory byte 1
@@ -85,6 +85,7 @@ setup = opened 0 7
 abbrev says : Log → Call → Bool
 says l (Call.reset n) = true
 says l (Call.control k a) = true
+says l (Call.pages k ps a) = true
 says l (Call.send q x m) = judge l (record { qpn = q; request = requestOf x })
 says l (Call.receive q x) = not (flushesAtOnce l q)
 says l (Call.flush q) = true

@@ -1,23 +1,27 @@
 -- The region table against the log: a key finds the same registration in both. Assumes nothing.
 use mathlib.Core.Path.{_≡_, refl, sym, ap, subst, _∙_}
 use mathlib.Core.Bool.{Bool, true, false, cond, _&&_, _||_, false≢true}
-use mathlib.Core.List.{List, []}
+use mathlib.Core.List.{List, [], _∷_}
 use mathlib.Core.Option.{Option, none, some, Option·some-ne-none}
-use Prim.Native.Nat.{ℕ, _+_, _/_, _%_, _^_, _≤_, _<_}
+use Prim.Native.Nat.{ℕ, _+_, _-_, _/_, _%_, _^_, _≤_, _<_}
 use native.Mathlib.Omega.{arith}
 use lib.Dec.{eqb, leb, ltb}
+use lib.ListN.{length, getD}
 use borrow.Author.Tests.{eq-eqb, ne-eqb, eqb-true, eqb-false, leb-true, ltb-true}
 use Rattle.wire.specs.Slots.{upd}
 use Rattle.wire.proofs.SlotLaws.{split, same}
 use Rattle.wire.proofs.ScanLaws.{and-left, and-right, or-true}
-use Rattle.tables.specs.Limits.{mostAddress}
+use Rattle.tables.specs.Limits.{mostAddress, pageSize}
 use Rattle.tables.specs.Card.{Mr, freeMr}
+use Rattle.tables.specs.State.{pagesNeeded}
 use Rattle.tables.specs.declared.Registration.{Registration}
 use Rattle.rules.specs.Lists.{names}
 use Rattle.rules.specs.Touch.{byteIn, byteOf}
 use Rattle.rules.specs.declared.Party as rules
+use Rattle.rules.specs.Pages.{entryOk, entriesOk}
 use Rattle.rules.specs.Permit.{keyOf, lookup, covers, placeIn, Use}
 use Rattle.validate.specs.Search.{lastVariant}
+use Rattle.rules.proofs.Ranges.{all-in}
 use Rattle.rules.proofs.Variants.{slot}
 use Rattle.judge.specs.Judge.{Standing, Party, Right, grants, unless, passesBy, placeBy, opens}
 use Rattle.judge.proofs.Rights.{needs-right, same-right, same-opens}
@@ -32,6 +36,21 @@ Inside n ps g = (a : ℕ) → g .virt ≤ a → a < g .virt + g .length → Sits
 pub flat-inside : (n : ℕ) (g : Registration) → g .start + g .length ≤ n → g .virt + g .length ≤ mostAddress → Inside n [] g
 unfolding byteOf byteIn
 flat-inside n g h b a v w = (omega arith, omega arith)
+
+-- a byte of listed pages, each whole inside the memory
+listed-inside : (n : ℕ) (ps : List ℕ) (o : ℕ) → entriesOk n ps ≡ true → o / pageSize < length ps → byteIn ps o < n
+unfolding byteIn
+listed-inside n [] o e h = absurd (omega arith)
+listed-inside n (p ∷ ps) o e h =
+    let q : ℕ = getD (p ∷ ps) (o / pageSize) 0 in
+    let w : q + pageSize ≤ n =
+    leb-true (q + pageSize) n (and-right (eqb (q % pageSize) 0) (leb (q + pageSize) n) (all-in (entryOk n) (p ∷ ps) (o / pageSize) 0 h e)) in
+    omega arith
+
+pub paged-inside : (n : ℕ) (g : Registration) (ps : List ℕ) → length ps ≡ pagesNeeded (g .start) (g .length) → entriesOk n ps ≡ true →
+    g .virt + g .length ≤ mostAddress → Inside n ps g
+unfolding byteOf pagesNeeded
+paged-inside n g ps e f b a v w = (listed-inside n ps (g .start + (a - g .virt)) f (omega arith), omega arith)
 
 -- the region of the slot i, with its number, where it has the key k
 abbrev pub heldAt : Mr → (i k : ℕ) → Option Standing

@@ -11,4 +11,5 @@ pub mod Count
 pub mod Dropped
 pub mod Whole
 pub mod Example
+pub mod PagesExample
 pub mod Pinned

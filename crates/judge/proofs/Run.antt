@@ -92,6 +92,7 @@ module _ (P : CardClaim) (shows : Shows P) (l : Log) where
   unfolding statusOf memoryAfter effect
   right-done c (Call.reset n) p a o = tt
   right-done c (Call.control k b) p a o = tt
+  right-done c (Call.pages k ps b) p a o = tt
   right-done c (Call.send q x m) p a o = shows c l a q (requestOf x) m (sendable c q x m p)
   right-done c (Call.receive q x) p a o = tt
   right-done c (Call.flush q) p a o = tt
@@ -125,6 +126,7 @@ module _ (cardOf : List ℕ → Card) (accepts : List ℕ → Bool) where
   unfolding checks joinChecks statusOf joinStatus waiting
   flushes-card l c (Call.reset n) p a = tt
   flushes-card l c (Call.control k b) p a = tt
+  flushes-card l c (Call.pages k ps b) p a = tt
   flushes-card l c (Call.send q x m) p a = tt
   flushes-card l c (Call.receive q x) p a =
       let h = a .pairs q (not-false _ (passed-after (receiveChecks x) (joinChecks c q) p .0)) in
@@ -147,6 +149,7 @@ module _ (cardOf : List ℕ → Card) (accepts : List ℕ → Bool) where
     usable-accepted : (l : List ℕ) (k : Call) → accepts l ≡ true → usable cardOf accepts l k ≡ true
     usable-accepted l (Call.reset n) e = sized l e
     usable-accepted l (Call.control k a) e = e
+    usable-accepted l (Call.pages k ps a) e = e
     usable-accepted l (Call.send q y m) e = e
     usable-accepted l (Call.receive q y) e = e
     usable-accepted l (Call.flush q) e = e
@@ -186,6 +189,7 @@ fresh-done : (c : Card) (k : Call) → Passed (checks c k) → FreshAfter c k (s
 unfolding effect
 fresh-done c (Call.reset n) p base e d = record { length = n; card = refl; empty = cc }
 fresh-done c (Call.control k a) p base e d = absurd (Option·some-ne-none base (sym e))
+fresh-done c (Call.pages k ps a) p base e d = absurd (Option·some-ne-none base (sym e))
 fresh-done c (Call.send q x m) p base e d = absurd (Option·some-ne-none base (sym e))
 fresh-done c (Call.receive q x) p base e d = absurd (Option·some-ne-none base (sym e))
 fresh-done c (Call.flush q) p base e d = absurd (Option·some-ne-none base (sym e))

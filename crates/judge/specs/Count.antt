@@ -27,6 +27,7 @@ use Rattle.judge.specs.Demand3.{Seen, Claim, heard, stateAfter, Linked, 
 unfoldable pub puts : Card → Call → List Put
 puts c (Call.reset n) = []
 puts c (Call.control k a) = []
+puts c (Call.pages k ps a) = []
 puts c (Call.send q x m) = sendPuts c q (requestOf x) (sendStatus c q (requestOf x))
 puts c (Call.receive q x) = joinPuts c q (receiveIn x)
 puts c (Call.flush q) = flushPut c q ∷ []
@@ -55,6 +56,7 @@ staysBy c (Command.destroyQp q) n es = es
 unfoldable pub stays : Card → Call → (n : ℕ) → List Completion
 stays c (Call.reset m) n = []
 stays c (Call.control k a) n = maybe (c .cq n .entries) (λ x. staysBy c x n (c .cq n .entries)) (commandOf k)
+stays c (Call.pages k ps a) n = c .cq n .entries
 stays c (Call.send q x m) n = c .cq n .entries
 stays c (Call.receive q x) n = c .cq n .entries
 stays c (Call.flush q) n = c .cq n .entries

@@ -93,6 +93,7 @@ stateAfter st (x ∷ xs) = stateAfter (x .left .state) xs
 abbrev pub workBy : Log → Call → Outcome → Option Work
 workBy l (Call.reset n) o = none
 workBy l (Call.control k a) o = none
+workBy l (Call.pages k ps a) o = none
 workBy l (Call.send q x m) o = some (record { qpn = q; request = requestOf x })
 workBy l (Call.receive q x) o = none
 workBy l (Call.flush q) o = none
@@ -121,6 +122,7 @@ OfWork P st l x = Ran (λ w s. P l w s (memoryOf (x .call)) (x .left .memory)) (
 abbrev pub postedOn : Call → Option ℕ
 postedOn (Call.reset n) = none
 postedOn (Call.control k a) = none
+postedOn (Call.pages k ps a) = none
 postedOn (Call.send q x m) = none
 postedOn (Call.receive q x) = some q
 postedOn (Call.flush q) = none

@@ -12,7 +12,7 @@ use Rattle.tables.specs.declared.ModifyQp.{ModifyQp}
 use Rattle.tables.specs.declared.Registration.{Registration}
 use Rattle.rules.specs.declared.Answer.{Answer}
 use Rattle.rules.specs.declared.Answer.the-variants.{Done, Held, Refused}
-use Rattle.rules.specs.Call.{Call}
+use Rattle.rules.specs.Call.{Call, registrationIn}
 use Rattle.rules.specs.Touch.{Request, requestOf, receiveIn}
 use Rattle.rules.specs.Lists.{maybe}
 
@@ -42,10 +42,11 @@ ackNumbers (Command.destroyQp q) = 0
 unfoldable pub ackData : Command → (b : List ℕ) → List ℕ
 ackData k b = drop 1 (fieldsAt (take (1 + ackNumbers k) ackFields) b 0)
 
--- control commands have ack data, other calls have none
+-- control commands have ack data, and so has a registration over pages, which is command 7's; other calls have none
 abbrev pub ackOf : Call → (b : List ℕ) → List ℕ
 ackOf (Call.reset n) b = []
 ackOf (Call.control k a) b = maybe [] (λ c. ackData c b) (commandOf k)
+ackOf (Call.pages k ps a) b = ackData (Command.register (registrationIn k)) b
 ackOf (Call.send q x m) b = []
 ackOf (Call.receive q x) b = []
 ackOf (Call.flush q) b = []
@@ -82,6 +83,10 @@ pub data Note : Type 0 where
 abbrev pub Log : Type 0
 Log = List Note
 
+-- a registration, by the numbers of its ack: mrn, lkey, rkey; its pages are none where its bytes are adjacent
+abbrev pub noteRegistration : (ack : List ℕ) → Registration → (pages : List ℕ) → Note
+noteRegistration a g ps = Note.ofKey (KeyNote.registered (getD a 0 0) (getD a 1 0) (getD a 2 0) g ps)
+
 abbrev pub noteCommand : Command → (ack : List ℕ) → Note
 noteCommand Command.queryDevice a = Note.other
 noteCommand Command.queryPort a = Note.other
@@ -89,15 +94,17 @@ noteCommand (Command.createCq n) a = Note.other
 noteCommand (Command.destroyCq n) a = Note.other
 noteCommand Command.createPd a = Note.other
 noteCommand (Command.destroyPd n) a = Note.other
-noteCommand (Command.register g) a = Note.ofKey (KeyNote.registered (getD a 0 0) (getD a 1 0) (getD a 2 0) g [])
+noteCommand (Command.register g) a = noteRegistration a g []
 noteCommand (Command.deregister n) a = Note.ofKey (KeyNote.deregistered n)
 noteCommand (Command.createQp r) a = Note.ofPair (getD a 0 0) (PairNote.created r)
 noteCommand (Command.modifyQp r) a = Note.ofPair (r .qpn) (PairNote.changed r)
 noteCommand (Command.destroyQp q) a = Note.other
 
+-- 02, M-105: demand 3's "list takes this call too"; the pages are those of the call's arguments
 abbrev pub noteCall : Call → (status : ℕ) → (ack : List ℕ) → Note
 noteCall (Call.reset n) s a = Note.other
 noteCall (Call.control k b) s a = maybe Note.other (λ c. noteCommand c a) (commandOf k)
+noteCall (Call.pages k ps b) s a = noteRegistration a (registrationIn k) ps
 noteCall (Call.send q x m) s a = Note.ofPair q (PairNote.sent (requestOf x) s)
 noteCall (Call.receive q x) s a = Note.ofPair q (PairNote.posted (receiveIn x) s)
 noteCall (Call.flush q) s a = Note.ofPair q PairNote.flushed
@@ -111,6 +118,7 @@ note l e = noteCall (e .call) (e .status) (e .ack)
 abbrev pub begins : Call → Option Log
 begins (Call.reset n) = some []
 begins (Call.control k a) = none
+begins (Call.pages k ps a) = none
 begins (Call.send q x m) = none
 begins (Call.receive q x) = none
 begins (Call.flush q) = none

@@ -28,10 +28,11 @@ use Rattle.rules.specs.Touch.{Request, requestOf, takes, fills, total, s
 use Rattle.rules.specs.Permit.{permitsAll}
 use Rattle.rules.specs.Send.{pairChecks, readyChecks, placeChecks, holdChecks, deliveryChecks, ready, room, hasPlaces, isInError, peerOf, takenBy, ownUse, farUse, statusBy, runStatus, sendStatus}
 use Rattle.rules.specs.Queues.{flushesAtOnce, joinChecks, joinStatus, flushChecks, pollChecks}
-use Rattle.rules.specs.Call.{Call, memoryOf}
+use Rattle.rules.specs.Call.{Call, memoryOf, registrationIn}
+use Rattle.rules.specs.Pages.{pagesChecks, pagedChecks}
 use Rattle.rules.proofs.Ranges.{all-split}
-use Rattle.rules.specs.Demand1.{bufferLeft, Returns, Demand1}
-use Rattle.rules.specs.Calls.{checks, resetChecks, controlChecks, bufferChecks, settled, step, statusOf, owed, owedChecks, usable, bufferRefused, Result}
+use Rattle.rules.specs.Demand1.{ackLeft, bufferLeft, Returns, Demand1}
+use Rattle.rules.specs.Calls.{checks, resetChecks, controlChecks, bufferChecks, settled, step, statusOf, owed, owedChecks, usable, ackRefused, bufferRefused, Result}
 use Rattle.rules.specs.Lists.{maybe, isSome, isEmpty}
 use Rattle.rules.proofs.Tests.{firstOf, refusal-append}
 
@@ -87,9 +88,10 @@ hold-tests f five six c q r = go (isInError (c .qp q))
     go false = cc
 
 checks-fine : (c : Card) (k : Call) → all fine (checks c k) ≡ true
-unfolding all checks resetChecks controlChecks bufferChecks sendChecks receiveChecks pairChecks deliveryChecks joinChecks flushChecks pollChecks
+unfolding all checks resetChecks controlChecks pagesChecks pagedChecks bufferChecks sendChecks receiveChecks pairChecks deliveryChecks joinChecks flushChecks pollChecks
 checks-fine c (Call.reset n) = refl
 checks-fine c (Call.control k a) = rw (all-split fine (controlChecks k a) (maybe [] (commandChecks c) (commandOf k)), command-fine c (commandOf k))
+checks-fine c (Call.pages k ps a) = refl
 checks-fine c (Call.send q x m) = hold-tests within refl refl c q (requestOf x)
 checks-fine c (Call.receive q x) = refl
 checks-fine c (Call.flush q) = refl
@@ -174,6 +176,7 @@ pub status-small : (c : Card) (k : Call) → statusOf c k ≤ 8
 unfolding statusOf
 status-small c (Call.reset n) = omega arith
 status-small c (Call.control k a) = omega arith
+status-small c (Call.pages k ps a) = omega arith
 status-small c (Call.send q x m) = send-small c q (requestOf x)
 status-small c (Call.receive q x) = join-small c q
 status-small c (Call.flush q) = omega arith
@@ -185,6 +188,7 @@ status-small c (Call.poll n b) = omega arith
 abbrev pub mayHold : Card → Call → Bool
 mayHold c (Call.reset n) = false
 mayHold c (Call.control k a) = false
+mayHold c (Call.pages k ps a) = false
 mayHold c (Call.send q x m) =
     let o = requestOf x .opcode in
     cond (isInError (c .qp q)) (not (room (c .cq (c .qp q .scq)) 1))
@@ -240,11 +244,12 @@ send-holds c q x m =
     (takes o && isEmpty (c .qp (peerOf c q) .waiting)) (not (hasPlaces c q (peerOf c q) o))
 
 checks-plain : (c : Card) (k : Call) → mayHold c k ≡ false → Plain (checks c k)
-unfolding all checks resetChecks controlChecks bufferChecks sendChecks receiveChecks pairChecks deliveryChecks joinChecks flushChecks pollChecks
+unfolding all checks resetChecks controlChecks pagesChecks pagedChecks bufferChecks sendChecks receiveChecks pairChecks deliveryChecks joinChecks flushChecks pollChecks
 checks-plain c (Call.reset n) e = λ i. first-with plain (resetChecks n) i refl
 checks-plain c (Call.control k a) e =
     λ i. first-with plain (controlChecks k a ++ maybe [] (commandChecks c) (commandOf k)) i
     (rw (all-split (λ t. plain (t .no)) (controlChecks k a) (maybe [] (commandChecks c) (commandOf k)), command-plain c (commandOf k)))
+checks-plain c (Call.pages k ps a) e = λ i. first-with plain (pagesChecks k a ++ pagedChecks c (registrationIn k) ps) i refl
 checks-plain c (Call.send q x m) e =
     before-none (7 if not (eqb (length m) (c .memory)) ∷ (sendChecks x ++ pairChecks c q)) (holdChecks c q (requestOf x)) refl
     (send-holds c q x m ∙ e)
@@ -358,9 +363,13 @@ module _ (cardOf : List ℕ → Card) (accepts : List ℕ → Bool) where
 
 -- ---- demand 1, of the exported functions
 
+ack-left : (n : ℕ) (a : List ℕ) → ackRefused n a ≡ ackLeft n a
+ack-left n a = ap (λ (x : List ℕ). cond (eqb n 12 || eqb n 15) a x) (error-ack a)
+
 buffer-left : (n : ℕ) (k : Call) → bufferRefused n k ≡ bufferLeft n k
 buffer-left n (Call.reset k) = refl
-buffer-left n (Call.control k a) = ap (λ (x : List ℕ). cond (eqb n 12 || eqb n 15) a x) (error-ack a)
+buffer-left n (Call.control k a) = ack-left n a
+buffer-left n (Call.pages k ps a) = ack-left n a
 buffer-left n (Call.send q x m) = refl
 buffer-left n (Call.receive q x) = refl
 buffer-left n (Call.flush q) = refl

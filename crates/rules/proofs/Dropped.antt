@@ -24,7 +24,8 @@ use Rattle.rules.specs.Call.{Call}
 use Rattle.rules.specs.Calls.{checks, effect, statusOf, memoryAfter, settled, step}
 use Rattle.rules.specs.Touch.{Request, requestOf, fills, takes, total, sgeTotal, farBytes}
 use Rattle.rules.specs.Permit.{keyOf, found, lookup, covers, permits, permitsAll}
-use Rattle.rules.specs.Control.{commandChecks, commandEffect, newVariant}
+use Rattle.rules.specs.Control.{commandChecks, commandEffect, newVariant, registered}
+use Rattle.rules.specs.Pages.{pagedChecks}
 use Rattle.rules.specs.Send.{deliveryChecks, ready, peerOf, takenBy, farUse, errorIf, consumeIf, sendStatus, sendMemory, sendQps, sendPuts, sendEffect, pairChecks, readyChecks, placeChecks, holdChecks, runStatus}
 use Rattle.rules.proofs.Answers.{answered-not-done}
 use Rattle.rules.proofs.Variants.{slot-free, new-small, slot}
@@ -159,12 +160,12 @@ held-stays c n q x m d = go (refusal (checks c (Call.send q x m))) refl d
     go (some i) e h = rw (same-checks c n q x m, e)
 
 pub old-key-stale : OldKeyStale
-unfolding OldKeyStale commandEffect lookup
-old-key-stale c g k e h = rw (e, same (freeMrn c), ne-eqb (keyOf (freeMrn c) (newVariant c)) k (λ p. h (sym p)))
+unfolding OldKeyStale lookup
+old-key-stale c g ps k e h = rw (e, same (freeMrn c), ne-eqb (keyOf (freeMrn c) (newVariant c)) k (λ p. h (sym p)))
 
 pub new-key-stands : NewKeyStands
-unfolding NewKeyStands commandEffect lookup
-new-key-stands c g h =
+unfolding NewKeyStands lookup
+new-key-stands c g ps h =
     (rw (slot (freeMrn c) (newVariant c) (new-small c h), same (freeMrn c), same (keyOf (freeMrn c) (newVariant c))), refl)
 
 -- ---- a key that was handed out and dropped
@@ -175,11 +176,11 @@ module _ (c : Card) (k : ℕ) where
   unfolding lookup
   at-slot s j e = rw (← e) (s .handed .1, s .gone)
 
-  spent-registers : (g : Registration) → Spent c k → Spent (commandEffect c (Command.register g)) k
-  unfolding commandEffect lookup
-  spent-registers g s =
+  spent-registers : (g : Registration) (ps : List ℕ) → Spent c k → Spent (registered c g ps) k
+  unfolding lookup
+  spent-registers g ps s =
       let i : ℕ = freeMrn c in
-      let new : Mr = record { live = true; variant = newVariant c; reg = g; pages = [] } in
+      let new : Mr = record { live = true; variant = newVariant c; reg = g; pages = ps } in
       let both =
       split i (λ j. k / 256 ≡ j → (k % 256 ≤ upd (c .mr) i new j .variant) × (found (upd (c .mr) i new j) j k ≡ none))
       (λ e. (let h = at-slot s i e .0 in rw (same i) (omega arith, rw (ne-eqb (keyOf i (newVariant c)) k (λ p. omega arith)))))
@@ -199,19 +200,23 @@ pub drop-spends : DropSpends
 unfolding DropSpends KeysDropped commandEffect
 drop-spends c k h = record { handed = (h .0, rw (same (k / 256)) (h .1)); gone = keys-dropped c (k / 256) k refl .0 }
 
+spent-command : (c : Card) (k : ℕ) (x : Command) → Spent c k → Spent (commandEffect c x) k
+unfolding commandEffect
+spent-command c k Command.queryDevice s = s
+spent-command c k Command.queryPort s = s
+spent-command c k (Command.createCq n) s = record { handed = s .handed; gone = s .gone }
+spent-command c k (Command.destroyCq n) s = record { handed = s .handed; gone = s .gone }
+spent-command c k Command.createPd s = record { handed = s .handed; gone = s .gone }
+spent-command c k (Command.destroyPd n) s = record { handed = s .handed; gone = s .gone }
+spent-command c k (Command.register g) s = spent-registers c k g [] s
+spent-command c k (Command.deregister n) s = spent-deregisters c k n s
+spent-command c k (Command.createQp r) s = record { handed = s .handed; gone = s .gone }
+spent-command c k (Command.modifyQp r) s = record { handed = s .handed; gone = s .gone }
+spent-command c k (Command.destroyQp q) s = record { handed = s .handed; gone = s .gone }
+
 pub old-keys-gone : OldKeysGone
-unfolding OldKeysGone commandEffect
-old-keys-gone c k Command.queryDevice s = s
-old-keys-gone c k Command.queryPort s = s
-old-keys-gone c k (Command.createCq n) s = record { handed = s .handed; gone = s .gone }
-old-keys-gone c k (Command.destroyCq n) s = record { handed = s .handed; gone = s .gone }
-old-keys-gone c k Command.createPd s = record { handed = s .handed; gone = s .gone }
-old-keys-gone c k (Command.destroyPd n) s = record { handed = s .handed; gone = s .gone }
-old-keys-gone c k (Command.register g) s = spent-registers c k g s
-old-keys-gone c k (Command.deregister n) s = spent-deregisters c k n s
-old-keys-gone c k (Command.createQp r) s = record { handed = s .handed; gone = s .gone }
-old-keys-gone c k (Command.modifyQp r) s = record { handed = s .handed; gone = s .gone }
-old-keys-gone c k (Command.destroyQp q) s = record { handed = s .handed; gone = s .gone }
+unfolding OldKeysGone
+old-keys-gone c k s = (λ x. spent-command c k x s, λ g ps. spent-registers c k g ps s)
 
 -- ---- a slot whose last variant was dropped
 
@@ -219,10 +224,9 @@ pub drop-retires : DropRetires
 unfolding DropRetires commandEffect
 drop-retires c n e = rw (same n, e)
 
-stays-registers : (c : Card) (n : ℕ) (g : Registration) → freeMrn c < mrCount → retired (c .mr n) ≡ true →
-    retired (commandEffect c (Command.register g) .mr n) ≡ true
-unfolding commandEffect
-stays-registers c n g b =
+stays-registers : (c : Card) (n : ℕ) (g : Registration) (ps : List ℕ) → freeMrn c < mrCount → retired (c .mr n) ≡ true →
+    retired (registered c g ps .mr n) ≡ true
+stays-registers c n g ps b =
     split (freeMrn c) (λ j. retired (c .mr j) ≡ true → retired (upd (c .mr) (freeMrn c) new j) ≡ true)
     (λ h. (let last = leb-true lastVariant (taken .variant) (and-right (not (taken .live)) (leb lastVariant (taken .variant)) h) in
     let left = slot-free c b .1 in absurd (omega arith)))
@@ -232,7 +236,7 @@ stays-registers c n g b =
     taken = c .mr (freeMrn c)
 
     new : Mr
-    new = record { live = true; variant = newVariant c; reg = g; pages = [] }
+    new = record { live = true; variant = newVariant c; reg = g; pages = ps }
 
 stays-deregisters : (c : Card) (n i : ℕ) → not (c .mr i .live) ≡ false → retired (c .mr n) ≡ true →
     retired (commandEffect c (Command.deregister i) .mr n) ≡ true
@@ -243,24 +247,36 @@ stays-deregisters c n i live =
     (λ j e h. rw e h) n
 
 -- a registration that passes its tests has a slot
-has-slot : (c : Card) (g : Registration) → Passed (commandChecks c (Command.register g)) → freeMrn c < mrCount
+pub has-slot : (c : Card) (g : Registration) → Passed (commandChecks c (Command.register g)) → freeMrn c < mrCount
 unfolding commandChecks
 has-slot c g p = let b = leb-false _ (freeMrn c) (p .1 .1 .1 .1 .1 .0) in omega arith
 
+-- and so has one over pages
+pub has-slot-paged : (c : Card) (g : Registration) (ps : List ℕ) → Passed (pagedChecks c g ps) → freeMrn c < mrCount
+unfolding pagedChecks
+has-slot-paged c g ps p = let b = leb-false _ (freeMrn c) (p .1 .1 .1 .1 .1 .1 .1 .1 .0) in omega arith
+
+stays-command : (c : Card) (n : ℕ) (x : Command) → Passed (commandChecks c x) → retired (c .mr n) ≡ true → retired (commandEffect c x .mr n) ≡ true
+unfolding commandChecks commandEffect
+stays-command c n Command.queryDevice p h = h
+stays-command c n Command.queryPort p h = h
+stays-command c n (Command.createCq i) p h = h
+stays-command c n (Command.destroyCq i) p h = h
+stays-command c n Command.createPd p h = h
+stays-command c n (Command.destroyPd i) p h = h
+stays-command c n (Command.register g) p h = stays-registers c n g [] (has-slot c g p) h
+stays-command c n (Command.deregister i) p h = stays-deregisters c n i (p .0) h
+stays-command c n (Command.createQp r) p h = h
+stays-command c n (Command.modifyQp r) p h = h
+stays-command c n (Command.destroyQp q) p h = h
+
 pub stays-retired : StaysRetired
-unfolding StaysRetired commandChecks commandEffect
-stays-retired c n Command.queryDevice p h = h
-stays-retired c n Command.queryPort p h = h
-stays-retired c n (Command.createCq i) p h = h
-stays-retired c n (Command.destroyCq i) p h = h
-stays-retired c n Command.createPd p h = h
-stays-retired c n (Command.destroyPd i) p h = h
-stays-retired c n (Command.register g) p h = stays-registers c n g (has-slot c g p) h
-stays-retired c n (Command.deregister i) p h = stays-deregisters c n i (p .0) h
-stays-retired c n (Command.createQp r) p h = h
-stays-retired c n (Command.modifyQp r) p h = h
-stays-retired c n (Command.destroyQp q) p h = h
+unfolding StaysRetired
+stays-retired c n h = (λ x p. stays-command c n x p h, λ g ps p. stays-registers c n g ps (has-slot-paged c g ps p) h)
+
+slot-key : (c : Card) → freeMrn c < mrCount → keyOf (freeMrn c) (newVariant c) ≤ 65535
+slot-key c b = let v = new-small c b in omega arith
 
 pub largest-key : LargestKey
 unfolding LargestKey
-largest-key c g p = let b = has-slot c g p in let v = new-small c b in omega arith
+largest-key c g = (λ p. slot-key c (has-slot c g p), λ ps p. slot-key c (has-slot-paged c g ps p))

@@ -4,10 +4,10 @@ use mathlib.Core.Path.{_≡_, refl, sym, ap, _∙_}
 use mathlib.Core.Bool.{Bool, true, false, cond, _&&_}
 use mathlib.Core.List.{List, [], _∷_, _++_}
 use mathlib.Core.Option.{Option, none, some}
-use Prim.Native.Nat.{ℕ, zero, suc, _+_, _-_, _≤_}
+use Prim.Native.Nat.{ℕ, zero, suc, _+_, _-_, _≤_, _<_}
 use native.Mathlib.Omega.{arith}
 use lib.Dec.{eqb, leb, ltb}
-use lib.ListN.{length, take}
+use lib.ListN.{length, getD, take}
 use lib.Seq.{take-append-le, take-append-add}
 use borrow.Author.Tests.{le-leb, leb-true, ne-eqb}
 use Rattle.wire.proofs.ScanLaws.{and-left, and-right, both-true}
@@ -28,6 +28,13 @@ all-split p (x ∷ xs) ys = rw (all-split p xs ys) (and-assoc (p x) (all p xs) (
     and-assoc : (a b c : Bool) → (a && (b && c)) ≡ (a && b && c)
     and-assoc true b c = refl
     and-assoc false b c = refl
+
+-- an element of a list whose elements all pass
+pub all-in : {A : Type 0} (p : A → Bool) (xs : List A) (i : ℕ) (d : A) → i < length xs → all p xs ≡ true → p (getD xs i d) ≡ true
+unfolding all
+all-in p [] i d h e = absurd (omega arith)
+all-in p (x ∷ xs) zero d h e = and-left (p x) (all p xs) e
+all-in p (x ∷ xs) (suc i) d h e = all-in p xs i d (omega arith) (and-right (p x) (all p xs) e)
 
 -- ---- one range
 

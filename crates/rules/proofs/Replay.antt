@@ -30,6 +30,7 @@ blind : (m l : List ℕ) (k : Call) → length m ≡ length (memoryOf k) → Bli
 unfolding checks statusOf effectBytes bufferAfter
 blind m l (Call.reset n) e = no-memory l (Call.reset n)
 blind m l (Call.control k a) e = no-memory l (Call.control k a)
+blind m l (Call.pages k ps a) e = no-memory l (Call.pages k ps a)
 blind m l (Call.send q x m₀) e = record { usable = refl; checks = rw e; status = refl; bytes = refl; buffer = refl; refused = λ n. refl }
 blind m l (Call.receive q x) e = no-memory l (Call.receive q x)
 blind m l (Call.flush q) e = no-memory l (Call.flush q)

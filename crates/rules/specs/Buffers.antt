@@ -20,4 +20,6 @@ pub record Wrote (n : ℕ) (a b : List ℕ) : Type 0 where
 pub record LaterStay : Type 0 where
   -- the bytes of the command's ack
   pub control : (c : Card) (k a : List ℕ) → Wrote (maybe 0 (λ q. ackSize (commandAck c q)) (commandOf k)) a (bufferAfter c (Call.control k a))
+  -- that of a registration
+  pub pages : (c : Card) (k ps a : List ℕ) → Wrote 13 a (bufferAfter c (Call.pages k ps a))
   pub poll : (c : Card) (n : ℕ) (b : List ℕ) → Wrote (completionCodec .size) b (bufferAfter c (Call.poll n b))

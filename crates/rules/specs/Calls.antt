@@ -13,17 +13,18 @@ use Rattle.wire.specs.Le.{leAt}
 use Rattle.validate.specs.Accept.{memoryOk}
 use Rattle.tables.specs.Layout.{stateSize}
 use Rattle.tables.specs.Card.{Card, fresh}
-use Rattle.tables.specs.Commands.{controlClass, encodeAck, ackNeed, dataSize, commandOf}
+use Rattle.tables.specs.Commands.{Command, controlClass, encodeAck, ackNeed, dataSize, commandOf}
 use Rattle.tables.specs.declared.Ack.the-variants as ack
 use Rattle.tables.specs.Records.{sendChecks, receiveChecks, completionCodec}
 use Rattle.rules.specs.Lists.{isSome, maybe}
 use Rattle.rules.specs.declared.Answer.{Answer}
 use Rattle.rules.specs.Answer.{answered, isDone}
 use Rattle.rules.specs.Touch.{requestOf, receiveIn}
-use Rattle.rules.specs.Control.{commandChecks, commandAck, commandEffect}
+use Rattle.rules.specs.Control.{commandChecks, commandAck, commandEffect, registered}
+use Rattle.rules.specs.Pages.{pagesChecks, pagedChecks}
 use Rattle.rules.specs.Send.{deliveryChecks, sendStatus, sendEffect, sendMemory}
 use Rattle.rules.specs.Queues.{joinChecks, joinStatus, received, flushChecks, flushed, pollChecks, polled, oldestEntry}
-use Rattle.rules.specs.Call.{Call, memoryOf, Outcome}
+use Rattle.rules.specs.Call.{Call, memoryOf, registrationIn, Outcome}
 
 -- ---- the tests
 
@@ -49,6 +50,7 @@ bufferChecks b = 12 if ltb (length b) (completionCodec .size) ∷ []
 unfoldable pub checks : Card → Call → List Check
 checks c (Call.reset n) = resetChecks n
 checks c (Call.control k a) = controlChecks k a ++ maybe [] (commandChecks c) (commandOf k)
+checks c (Call.pages k ps a) = pagesChecks k a ++ pagedChecks c (registrationIn k) ps
 checks c (Call.send q x m) = 7 if not (eqb (length m) (c .memory)) ∷ (sendChecks x ++ deliveryChecks c q (requestOf x))
 checks c (Call.receive q x) = receiveChecks x ++ joinChecks c q
 checks c (Call.flush q) = flushChecks c q
@@ -60,6 +62,7 @@ checks c (Call.poll n b) = bufferChecks b ++ pollChecks c n
 unfoldable pub statusOf : Card → Call → ℕ
 statusOf c (Call.reset n) = 0
 statusOf c (Call.control k a) = 0
+statusOf c (Call.pages k ps a) = 0
 statusOf c (Call.send q x m) = sendStatus c q (requestOf x)
 statusOf c (Call.receive q x) = joinStatus c q
 statusOf c (Call.flush q) = 0
@@ -68,6 +71,7 @@ statusOf c (Call.poll n b) = 0
 unfoldable pub effect : Card → Call → Card
 effect c (Call.reset n) = fresh n
 effect c (Call.control k a) = maybe c (commandEffect c) (commandOf k)
+effect c (Call.pages k ps a) = registered c (registrationIn k) ps
 effect c (Call.send q x m) = sendEffect c q (requestOf x)
 effect c (Call.receive q x) = received c q (receiveIn x)
 effect c (Call.flush q) = flushed c q
@@ -76,15 +80,18 @@ effect c (Call.poll n b) = polled c n
 unfoldable pub memoryAfter : Card → Call → List ℕ
 memoryAfter c (Call.reset n) = []
 memoryAfter c (Call.control k a) = []
+memoryAfter c (Call.pages k ps a) = []
 memoryAfter c (Call.send q x m) = sendMemory c q (requestOf x) m
 memoryAfter c (Call.receive q x) = []
 memoryAfter c (Call.flush q) = []
 memoryAfter c (Call.poll n b) = []
 
--- "On OK the ack byte and its data are written, later bytes stay"; a completion "fills the first 24 bytes"
+-- "On OK the ack byte and its data are written, later bytes stay"; 02, M-105: "command 7's .. ack as before"; a completion "fills the first 24
+-- bytes"
 unfoldable pub bufferAfter : Card → Call → List ℕ
 bufferAfter c (Call.reset n) = []
 bufferAfter c (Call.control k a) = maybe a (λ q. encodeAck (commandAck c q) a) (commandOf k)
+bufferAfter c (Call.pages k ps a) = encodeAck (commandAck c (Command.register (registrationIn k))) a
 bufferAfter c (Call.send q x m) = []
 bufferAfter c (Call.receive q x) = []
 bufferAfter c (Call.flush q) = []
@@ -93,9 +100,13 @@ bufferAfter c (Call.poll n b) = encode completionCodec b 0 (oldestEntry c n)
 -- ---- a call that does not
 
 -- "a control refusal other than 12 and 15 writes 1 as the first ack byte"
+abbrev pub ackRefused : (n : ℕ) → (ack : List ℕ) → List ℕ
+ackRefused n a = cond (eqb n 12 || eqb n 15) a (encodeAck ack.Error a)
+
 abbrev pub bufferRefused : (n : ℕ) → Call → List ℕ
 bufferRefused n (Call.reset k) = []
-bufferRefused n (Call.control k a) = cond (eqb n 12 || eqb n 15) a (encodeAck ack.Error a)
+bufferRefused n (Call.control k a) = ackRefused n a
+bufferRefused n (Call.pages k ps a) = ackRefused n a
 bufferRefused n (Call.send q x m) = []
 bufferRefused n (Call.receive q x) = []
 bufferRefused n (Call.flush q) = []
@@ -123,6 +134,7 @@ module _ (cardOf : List ℕ → Card) (accepts : List ℕ → Bool) where
   abbrev pub usable : List ℕ → Call → Bool
   usable l (Call.reset n) = eqb (length l) stateSize
   usable l (Call.control k a) = accepts l
+  usable l (Call.pages k ps a) = accepts l
   usable l (Call.send q x m) = accepts l
   usable l (Call.receive q x) = accepts l
   usable l (Call.flush q) = accepts l

@@ -10,10 +10,15 @@ use Rattle.rules.specs.Answer.{listed}
 use Rattle.rules.specs.Call.{Call, memoryOf}
 use Rattle.rules.specs.Contract.{Exports}
 
--- the answer buffer after a call answered n, not 0: as it was, but for the first ack byte, which "a control refusal other than 12 and 15" sets to 1
+-- the ack buffer after a refusal with n: as it was, but for the first byte, which "a control refusal other than 12 and 15" sets to 1
+abbrev pub ackLeft : (n : ℕ) → (ack : List ℕ) → List ℕ
+ackLeft n a = cond (eqb n 12 || eqb n 15) a (set a 0 1)
+
+-- the answer buffer after a call answered n, not 0
 abbrev pub bufferLeft : (n : ℕ) → Call → List ℕ
 bufferLeft n (Call.reset k) = []
-bufferLeft n (Call.control k a) = cond (eqb n 12 || eqb n 15) a (set a 0 1)
+bufferLeft n (Call.control k a) = ackLeft n a
+bufferLeft n (Call.pages k ps a) = ackLeft n a
 bufferLeft n (Call.send q x m) = []
 bufferLeft n (Call.receive q x) = []
 bufferLeft n (Call.flush q) = []

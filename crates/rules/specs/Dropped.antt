@@ -20,7 +20,8 @@ use Rattle.rules.specs.declared.Answer.the-variants.{Done}
 use Rattle.rules.specs.Answer.{isDone}
 use Rattle.rules.specs.Touch.{Request, requestOf, fills, total, sgeTotal, ownBytes, farBytes}
 use Rattle.rules.specs.Permit.{keyOf, lookup, permitsAll}
-use Rattle.rules.specs.Control.{commandChecks, commandEffect, newVariant}
+use Rattle.rules.specs.Control.{commandChecks, commandEffect, newVariant, registered}
+use Rattle.rules.specs.Pages.{pagedChecks}
 use Rattle.rules.specs.Send.{peerOf, takenBy, ownUse, senderPut, receiverPut, putAll, isInError}
 use Rattle.rules.specs.Call.{Call}
 use Rattle.rules.specs.Calls.{step}
@@ -116,34 +117,38 @@ pub record Spent (c : Card) (k : ℕ) : Type 0 where
 unfoldable pub DropSpends : Type 0
 DropSpends = (c : Card) (k : ℕ) → HandedOut c k → Spent (commandEffect c (Command.deregister (k / 256))) k
 
--- 02, M-109, "Never hand out an old key": whatever command follows, no such key, however old, finds one again
+-- 02, M-109, "Never hand out an old key": whatever command follows, or registration over pages, no such key, however old, finds one again
 unfoldable pub OldKeysGone : Type 0
-OldKeysGone = (c : Card) (k : ℕ) (x : Command) → Spent c k → Spent (commandEffect c x) k
+OldKeysGone =
+    (c : Card) (k : ℕ) → Spent c k →
+    ((x : Command) → Spent (commandEffect c x) k) × ((g : Registration) (ps : List ℕ) → Spent (registered c g ps) k)
 
 -- "A slot whose variant 255 was handed out and dropped is retired"
 unfoldable pub DropRetires : Type 0
 DropRetires =
     (c : Card) (n : ℕ) → c .mr n .variant ≡ lastVariant → retired (commandEffect c (Command.deregister n) .mr n) ≡ true
 
--- "until reset": a command that passes its tests leaves a retired slot so
+-- "until reset": a command, or a registration over pages, that passes its tests leaves a retired slot so
 unfoldable pub StaysRetired : Type 0
 StaysRetired =
-    (c : Card) (n : ℕ) (x : Command) → Passed (commandChecks c x) → retired (c .mr n) ≡ true → retired (commandEffect c x .mr n) ≡ true
+    (c : Card) (n : ℕ) → retired (c .mr n) ≡ true →
+    ((x : Command) → Passed (commandChecks c x) → retired (commandEffect c x .mr n) ≡ true) ×
+    ((g : Registration) (ps : List ℕ) → Passed (pagedChecks c g ps) → retired (registered c g ps .mr n) ≡ true)
 
--- 02, M-106: "The largest key is 65,535", of a registration that passes its tests
+-- 02, M-106: "The largest key is 65,535", of a registration of either kind that passes its tests
 unfoldable pub LargestKey : Type 0
 LargestKey =
-    (c : Card) (g : Registration) → Passed (commandChecks c (Command.register g)) → keyOf (freeMrn c) (newVariant c) ≤ 65535
+    (c : Card) (g : Registration) → let k = keyOf (freeMrn c) (newVariant c) in
+    (Passed (commandChecks c (Command.register g)) → k ≤ 65535) × ((ps : List ℕ) → Passed (pagedChecks c g ps) → k ≤ 65535)
 
--- another region in the slot has the new key alone
+-- another region in the slot, of either kind, has the new key alone
 unfoldable pub OldKeyStale : Type 0
 OldKeyStale =
-    (c : Card) (g : Registration) (k : ℕ) → k / 256 ≡ freeMrn c → k ≢ keyOf (freeMrn c) (newVariant c) →
-    lookup (commandEffect c (Command.register g) .mr) k ≡ none
+    (c : Card) (g : Registration) (ps : List ℕ) (k : ℕ) → k / 256 ≡ freeMrn c → k ≢ keyOf (freeMrn c) (newVariant c) →
+    lookup (registered c g ps .mr) k ≡ none
 
 -- and that stands at once, also for a receive that was posted before, where a slot could be taken
 unfoldable pub NewKeyStands : Type 0
 NewKeyStands =
-    (c : Card) (g : Registration) → freeMrn c < mrCount →
-    (lookup (commandEffect c (Command.register g) .mr) (keyOf (freeMrn c) (newVariant c)) ≡ some g) ×
-    (commandEffect c (Command.register g) .qp ≡ c .qp)
+    (c : Card) (g : Registration) (ps : List ℕ) → freeMrn c < mrCount →
+    (lookup (registered c g ps .mr) (keyOf (freeMrn c) (newVariant c)) ≡ some g) × (registered c g ps .qp ≡ c .qp)

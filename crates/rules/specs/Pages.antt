@@ -1,5 +1,6 @@
 -- Document 02, M-105, "Regions over page lists": "a second registration call: command 7's record, tests and ack as before .. with the page
--- list lent beside it as 64-bit numbers". Its tests in order, and the state's bytes after it; the card after it is Control.antt's registered.
+-- list lent beside it as 64-bit numbers". Its tests in order, and the state's bytes after a registration of either kind; the card after it is
+-- Control.antt's registered.
 -- Assumes nothing.
 use mathlib.Core.Bool.{Bool, not, _&&_}
 use mathlib.Core.List.{List, [], _∷_}
@@ -55,10 +56,15 @@ pagedChecks c g ps =
     8 if leb mrCount (freeMrn c) ∷
     []
 
--- ---- the state's bytes after it
+-- ---- the state's bytes after a registration
 
-abbrev pub pagedRow : Registration → (variant : ℕ) → Region
-pagedRow g v = record { access = g .access; variant = v; pd = g .pd; kind = 1; start = g .start; length = g .length; virt = g .virt }
+-- a region's row: kind 0 is of adjacent bytes, 1 over pages
+abbrev pub regionRow : (kind : ℕ) → Registration → (variant : ℕ) → Region
+regionRow kind g v = record { access = g .access; variant = v; pd = g .pd; kind = kind; start = g .start; length = g .length; virt = g .virt }
+
+-- the slot that the registration takes, of either kind
+abbrev pub regionBytes : List ℕ → (kind : ℕ) → Registration → List ℕ
+regionBytes l kind g = let n = freeMrn (card l) in putRow mrFlagT (putRow mrT l n (regionRow kind g (newVariant (card l)))) n 1
 
 -- the numbers of the pages, from place k of the slot n on
 unfoldable pub putPages : List ℕ → (n k : ℕ) → (pages : List ℕ) → List ℕ
@@ -66,6 +72,4 @@ putPages l n k [] = l
 putPages l n k (p ∷ ps) = putPages (putRow pageT l (mostPages * n + k) (p / pageSize)) n (k + 1) ps
 
 unfoldable pub pagedBytes : List ℕ → Registration → (pages : List ℕ) → List ℕ
-pagedBytes l g ps =
-    let n = freeMrn (card l) in
-    putRow mrFlagT (putRow mrT (putPages l n 0 ps) n (pagedRow g (newVariant (card l)))) n 1
+pagedBytes l g ps = putPages (regionBytes l 1 g) (freeMrn (card l)) 0 ps

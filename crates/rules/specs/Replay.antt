@@ -10,6 +10,7 @@ use Rattle.rules.specs.Contract.{Exports}
 abbrev pub lending : (m : List ℕ) → Call → Call
 lending m (Call.reset n) = Call.reset n
 lending m (Call.control k a) = Call.control k a
+lending m (Call.pages k ps a) = Call.pages k ps a
 lending m (Call.send q x m₀) = Call.send q x m
 lending m (Call.receive q x) = Call.receive q x
 lending m (Call.flush q) = Call.flush q

@@ -93,6 +93,7 @@ ack-most (Refused n) c k = picked-most (eqb n 12 || eqb n 15) (omega arith) (ome
 written-most : (r : Answer) (c : Card) (k : Call) → writtenBy r c k ≤ 129
 written-most r c (Call.reset n) = omega arith
 written-most r c (Call.control k a) = ack-most r c k
+written-most r c (Call.pages k ps a) = ack-most r c k
 written-most r c (Call.send q x m) = omega arith
 written-most r c (Call.receive q x) = omega arith
 written-most r c (Call.flush q) = omega arith

@@ -81,10 +81,11 @@ callOf k n b m =
     (cond (eqb k 2) (Call.send n b m)
     (cond (eqb k 3) (Call.receive n b) (cond (eqb k 4) (Call.poll n (zeros completionSize)) (Call.flush n))))
 
--- the memory after the call k on the state l; only a send is lent it
+-- the memory after the call k on the state l; only a send is lent it; no record makes a reset or a registration over pages
 abbrev pub memoryLeft : (l m : List ℕ) → Call → List ℕ
 memoryLeft l m (Call.reset n) = m
 memoryLeft l m (Call.control k a) = m
+memoryLeft l m (Call.pages k ps a) = m
 memoryLeft l m (Call.send q x n) = owed card accepts l (Call.send q x n) .memory
 memoryLeft l m (Call.receive q x) = m
 memoryLeft l m (Call.flush q) = m
@@ -102,6 +103,7 @@ ackWritten (Refused n) c k = cond (eqb n 12 || eqb n 15) 0 1
 abbrev pub writtenBy : Answer → Card → Call → ℕ
 writtenBy r c (Call.reset n) = 0
 writtenBy r c (Call.control k a) = ackWritten r c k
+writtenBy r c (Call.pages k ps a) = ackWritten r c k
 writtenBy r c (Call.send q x m) = 0
 writtenBy r c (Call.receive q x) = 0
 writtenBy r c (Call.flush q) = 0

@@ -1,5 +1,4 @@
 use mathlib.Core.Path.{ap, _≡_, _∙_}
-use Rattle.rules.specs.Bytes.{commandBytes}
 use Rattle.rules.specs.Control.{newVariant}
 use Rattle.tables.specs.State.{card}
 use denote.Ref.{now}
@@ -25,11 +24,11 @@ add-variant c =
     let e : c .before .load-mr .result .variant ≡ rowAt mrT (now (s .args .state)) (s .args .n) .variant = ap (λ (x : Region). x .variant) (c .before .load-mr .ensures) in
     rw e (omega arith)
 
-cast-t9 : tie.Need-cast-t9
-cast-t9 c = let s = c .before .before .before .before .before in omega (arith, access-most (s .args .g .access) (s .pre .3))
-
 cast-t10 : tie.Need-cast-t10
-cast-t10 c =
+cast-t10 c = let s = c .before .before .before .before .before in omega (arith, access-most (s .args .g .access) (s .pre .3))
+
+cast-t11 : tie.Need-cast-t11
+cast-t11 c =
     let s = c .before .before .before .before .before .before in
     omega (arith, pd-below (now (s .args .state)) (s .args .g .pd) (s .pre .4))
 
@@ -43,7 +42,6 @@ same-length : tie.Need-same-length
 same-length c = search needs
 
 returns : tie.Need-returns
-unfolding commandBytes
 returns c =
     let made = c .before .before .before .before .before .before .before .before .before .before .before in
     let s = made .before .before .before in
@@ -57,8 +55,8 @@ put-region-spec =
     (tie.spec
     load-mr-requires
     add-variant
-    cast-t9
     cast-t10
+    cast-t11
     store-mr-requires
     store-mr-flag-requires
     same-length

@@ -3,7 +3,7 @@ use denote.Ref.{now}
 use mathlib.Core.Path.{_∙_}
 use native.Mathlib.Omega.{arith}
 use Rattle.tables.specs.State.{card}
-use Rattle.dma.proofs.RegionLaws.{front-mapped, back-mapped}
+use Rattle.dma.proofs.EntryLaws.{front-mapped, back-mapped}
 use Rattle.dma.proofs.MoveLaws.{room, written, lies-kept, in-one, in-two}
 use borrow.Author.Needs.{needs}
 use Rattle.dma.proofs.transfer.copy_in.Statement.{statement}
@@ -21,8 +21,11 @@ run-of-requires c κs =
 
 place-of-requires : tie.Need-place-of-requires
 place-of-requires c κs =
-    let s = c .before .before .before .before .before in
-    (s .pre .0 .accepted, s .pre .0 .size, front-mapped (now (s .args .state)) (now (s .args .memory)) (s .pre .0) (s .args .s) (s .pre .1 .0) _ (c .run-of .ensures .most))
+    let s = c .before .before .before .before .before in (
+      s .pre .0 .accepted,
+      s .pre .0 .size,
+      front-mapped (now (s .args .state)) (now (s .args .memory)) (s .pre .0) (s .args .s) (s .pre .1 .0) _ (c .run-of .ensures .most),
+    )
 
 cast-copy-bytes : tie.Need-cast-copy-bytes
 cast-copy-bytes c = search needs
@@ -45,8 +48,12 @@ sub-t20 c = c .before .before .before .before .before .before .before .before .b
 
 place-of-requires-2 : tie.Need-place-of-requires-2
 place-of-requires-2 c κs =
-    let s = c .before .before .before .before .before .before .before .before .before .before .before .before .before .before in
-    (s .pre .0 .accepted, s .pre .0 .size, back-mapped (now (s .args .state)) (now (s .args .memory)) (s .pre .0) (s .args .s) (s .pre .1 .0) _ (c .before .before .before .before .before .before .before .before .before .run-of .ensures .most))
+    let run = c .before .before .before .before .before .before .before .before .before in
+    let s = run .before .before .before .before .before in (
+      s .pre .0 .accepted,
+      s .pre .0 .size,
+      back-mapped (now (s .args .state)) (now (s .args .memory)) (s .pre .0) (s .args .s) (s .pre .1 .0) _ (run .run-of .ensures .most),
+    )
 
 cast-copy-bytes-2 : tie.Need-cast-copy-bytes-2
 cast-copy-bytes-2 c = search needs
@@ -59,31 +66,49 @@ cast-copy-bytes-3 c = search needs
 
 copy-bytes-requires-2 : tie.Need-copy-bytes-requires-2
 copy-bytes-requires-2 c κs =
-    let s = c .before .before .before .before .before .before .before .before .before .before .before .before .before .before .before .before .before in
-    let d = c .before .before .before .before .before .before .before .before .before .before .before .before .run-of .ensures in
+    let one = c .before .before .before .before .before .before .before .before .before in
+    let run = one .before .before .before in
+    let s = run .before .before .before .before .before in
+    let d = run .run-of .ensures in
     let k = room (card (now (s .args .state))) (now (s .args .memory)) _ (d .others) _ (c .before .before .place-of2 .ensures) in
-    (omega (arith, c .before .before .before .before .before .before .before .before .before .copy-bytes .kept .0), omega (arith, d .most))
+    (omega (arith, one .copy-bytes .kept .0), omega (arith, d .most))
 
 same-length : tie.Need-same-length
-same-length c = c .before .before .copy-bytes2 .kept .0 ∙ c .before .before .before .before .before .before .before .before .before .before .before .before .copy-bytes .kept .0
+same-length c =
+    let two = c .before .before in
+    let one = two .before .before .before .before .before .before .before .before .before .before in
+    two .copy-bytes2 .kept .0 ∙ one .copy-bytes .kept .0
 
 returns : tie.Need-returns
 returns c =
-    let s = c .before .before .before .before .before .before .before .before .before .before .before .before .before .before .before .before .before .before .before .before in
-    let d = c .before .before .before .before .before .before .before .before .before .before .before .before .before .before .before .run-of .ensures in
-    in-two (card (now (s .args .state))) (now (s .args .memory)) (s .args .s) _ (d .most) _ _ (now (s .args .staging)) (s .args .at) (s .pre .1 .2)
-    (written (card (now (s .args .state))) (now (s .args .memory)) _ (d .first) _ (c .before .before .before .before .before .before .before .before .before .before .before .before .before .before .place-of .ensures) _ _ (simp length-drop (omega (arith, d .most))) (c .before .before .before .before .before .before .before .before .before .before .before .before .copy-bytes .ensures))
-    (written (card (now (s .args .state))) _ _ (lies-kept (card (now (s .args .state))) _ _ _ (c .before .before .before .before .before .before .before .before .before .before .before .before .copy-bytes .kept .0) (d .others)) _ (c .before .before .before .before .before .place-of2 .ensures) _ _ (simp length-drop (omega (arith, d .most))) (c .before .before .copy-bytes2 .ensures))
+    let two = c .before .before in
+    let then = two .before .before .before in
+    let one = then .before .before .before .before .before .before .before in
+    let at = one .before .before in
+    let run = at .before in
+    let s = run .before .before .before .before .before in
+    let d = run .run-of .ensures in
+    let k = card (now (s .args .state)) in
+    let m = now (s .args .memory) in
+    in-two k m (s .args .s) _ (d .most) _ _ (now (s .args .staging)) (s .args .at) (s .pre .1 .2)
+    (written k m _ (d .first) _ (at .place-of .ensures) _ _ (simp length-drop (omega (arith, d .most))) (one .copy-bytes .ensures))
+    (written k _ _ (lies-kept k _ _ _ (one .copy-bytes .kept .0) (d .others)) _ (then .place-of2 .ensures) _ _
+    (simp length-drop (omega (arith, d .most))) (two .copy-bytes2 .ensures))
 
 same-length-2 : tie.Need-same-length-2
 same-length-2 c = c .before .before .before .before .copy-bytes .kept .0
 
 returns-2 : tie.Need-returns-2
 returns-2 c =
-    let s = c .before .before .before .before .before .before .before .before .before .before .before .before in
-    let d = c .before .before .before .before .before .before .before .run-of .ensures in
-    in-one (card (now (s .args .state))) (now (s .args .memory)) (s .args .s) _ (d .most) (c .if1 .left) _ _
-    (written (card (now (s .args .state))) (now (s .args .memory)) _ (d .first) _ (c .before .before .before .before .before .before .place-of .ensures) _ _ (simp length-drop (omega (arith, d .most))) (c .before .before .before .before .copy-bytes .ensures))
+    let one = c .before .before .before .before in
+    let at = one .before .before in
+    let run = at .before in
+    let s = run .before .before .before .before .before in
+    let d = run .run-of .ensures in
+    let k = card (now (s .args .state)) in
+    let m = now (s .args .memory) in
+    in-one k m (s .args .s) _ (d .most) (c .if1 .left) _ _
+    (written k m _ (d .first) _ (at .place-of .ensures) _ _ (simp length-drop (omega (arith, d .most))) (one .copy-bytes .ensures))
 
 pub copy-in-spec : {M : Type 1} → statement M
 copy-in-spec =

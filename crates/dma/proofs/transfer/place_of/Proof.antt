@@ -2,7 +2,7 @@ use denote.Ref.{now}
 use mathlib.Core.Path.{sym}
 use native.Mathlib.Omega.{arith}
 use Rattle.tables.specs.State.{card}
-use Rattle.dma.proofs.RegionLaws.{empty-place, slot-below, row-low, row-small, row-flat, row-index, row-page}
+use Rattle.dma.proofs.EntryLaws.{empty-place, slot-below, row-low, row-small, row-flat, row-index, row-page}
 use borrow.Author.Needs.{needs}
 use Rattle.dma.proofs.transfer.place_of.Statement.{statement}
 use Rattle.dma.proofs.transfer.place_of.Tie as tie

@@ -1,7 +1,7 @@
 use denote.Ref.{now}
 use native.Mathlib.Omega.{arith}
 use mathlib.Core.Path.{refl}
-use Rattle.dma.proofs.RegionLaws.{slot-below, row-low, row-small, run-none, run-flat, run-within, run-across}
+use Rattle.dma.proofs.EntryLaws.{slot-below, row-low, row-small, run-none, run-flat, run-within, run-across}
 use borrow.Author.Needs.{needs}
 use Rattle.dma.proofs.transfer.run_of.Statement.{statement}
 use Rattle.dma.proofs.transfer.run_of.Tie as tie
