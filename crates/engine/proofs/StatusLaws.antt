@@ -17,6 +17,7 @@ use Rattle.tables.specs.declared.Sge.{Sge}
 use Rattle.rules.specs.Send.{statusBy}
 use Rattle.rules.specs.Touch.{fills, sgeBytes, sgeTotal, cut}
 use Rattle.rules.proofs.Runs.{cut-total}
+use Rattle.rules.specs.declared.Party.{Party}
 use Rattle.dma.specs.Grants.{allowsAll}
 use Rattle.dma.proofs.UseLaws.{permitted-mapped-all}
 use Rattle.engine.specs.Deliver.{partyIn, ownMask, farMask, ownBy, farList, farCount, Sending, OwnSide, Delivery, Carries, carried}
@@ -68,17 +69,22 @@ module _ (l m : List ℕ) (e : Ends) (s : SendRecord) (sges : List Sge) (v : Lis
   pub too-long : mostMessage < n → Delivery l m e s sges v w n 1 m
   too-long h = record { status = rw (lt-leb n mostMessage h); memory = refl }
 
+  -- the judgement of the sender's entries, as the code has it
+  pub own-judged : (p : Party) → p ≡ partyIn (e .own) → (b : Bool) → b ≡ allowsAll (card l) p (ownMask o) (ownBy s sges) → b ≡ mine
+  own-judged p who b judged = judged ∙ ap (λ (y : Party). allowsAll (card l) y (ownMask o) (ownBy s sges)) who
+
   pub own-refused : n ≤ mostMessage → mine ≡ false → Delivery l m e s sges v w n 3 m
   own-refused most h = record { status = rw (le-leb n mostMessage most, h); memory = refl }
 
   -- the judgement of the peer's entries, as the code has them
-  module _ (mask : ℕ) (masks : mask ≡ farMask o) (four : List Sge) (count : ℕ) (counts : count ≡ farCount o w) (is : take (farCount o w) four ≡ farList s w n)
-      (b : Bool) (judged : b ≡ allowsAll (card l) (partyIn (e .far)) mask (sgeBytes (take count four))) where
+  module _ (p : Party) (who : p ≡ partyIn (e .far)) (mask : ℕ) (masks : mask ≡ farMask o) (four : List Sge) (count : ℕ) (counts : count ≡ farCount o w) (is : take (farCount o w) four ≡ farList s w n)
+      (b : Bool) (judged : b ≡ allowsAll (card l) p mask (sgeBytes (take count four))) where
     pub far-entries : take count four ≡ farList s w n
     far-entries = ap (λ (j : ℕ). take j four) counts ∙ is
 
     pub far-judged : b ≡ theirs
-    far-judged = judged ∙ ap₂ (λ (y : ℕ) (z : List Sge). allowsAll (card l) (partyIn (e .far)) y (sgeBytes z)) masks far-entries
+    far-judged = judged ∙ ap (λ (y : Party). allowsAll (card l) y mask (sgeBytes (take count four))) who
+        ∙ ap₂ (λ (y : ℕ) (z : List Sge). allowsAll (card l) (partyIn (e .far)) y (sgeBytes z)) masks far-entries
 
   module _ (side : OwnSide (card l) e s sges n) where
     short : leb n mostMessage ≡ true

@@ -2,7 +2,7 @@
 -- definition s is the head of a request, sges are its scatter/gather entries, of which it has count, b its inline bytes, w is the receive
 -- that it takes, and n the number of bytes of the message. Assumes nothing.
 use mathlib.Core.Path.{_≡_}
-use mathlib.Core.Bool.{true, false, cond}
+use mathlib.Core.Bool.{Bool, true, false, cond, not, _&&_}
 use mathlib.Core.List.{List, [], _∷_}
 use Prim.Native.Nat.{ℕ, _+_, _*_, _≤_}
 use lib.Dec.{eqb, leb}
@@ -46,6 +46,10 @@ ownBy s sges = cond (isInline s) [] (sgeBytes (take (s .count) sges))
 -- the peer's side: "The first total bytes of that list" of the receive, or "remote range (total bytes from the remote address)"
 abbrev pub farList : SendRecord → ReceiveRecord → (n : ℕ) → List Sge
 farList s w n = cond (fills (s .opcode)) (cut n (receiveSges w)) (record { address = s .address; length = n; key = s .key } ∷ [])
+
+-- a request of one entry whose other side is the remote range
+abbrev pub isSingle : SendRecord → Bool
+isSingle s = not (isInline s) && eqb (s .count) 1 && not (fills (s .opcode))
 
 abbrev pub farCount : (opcode : ℕ) → ReceiveRecord → ℕ
 farCount o w = cond (fills o) (w .count) 1
