@@ -19,6 +19,7 @@ use Rattle.tables.specs.declared.QueuePair.{QueuePair}
 use Rattle.tables.specs.declared.ReceiveRecord.{ReceiveRecord}
 use Rattle.tables.specs.declared.SendRecord.{SendRecord}
 use Rattle.tables.specs.declared.Sge.{Sge}
+use Rattle.tables.specs.Queue.{pushBytes}
 use Rattle.rules.specs.Answer.{answered}
 use Rattle.rules.specs.declared.Answer.{Answer}
 use Rattle.rules.specs.declared.Answer.the-variants.{Done}
@@ -27,12 +28,13 @@ use Rattle.rules.specs.Send.{holdChecks, readyChecks, deliveryChecks, isInError
 use Rattle.rules.specs.Touch.{Request, total}
 use Rattle.engine.specs.Meet.{bare, endsAt, metBy, meeting}
 use Rattle.engine.specs.Deliver.{totalBy, takenRow, Sending, Delivery}
-use Rattle.engine.specs.Settle.{putFirst, settledBytes, Settling}
+use Rattle.engine.specs.Settle.{senderEntry, putFirst, settledBytes, Settling}
 use Rattle.engine.specs.Send.{requestBy, Runs, Met, Carried, Ran}
 use Rattle.engine.proofs.RequestLaws.{Told, sending, far-below, first-below, taken-count, status-same, done-short, memory-is}
 use Rattle.engine.proofs.CardLaws.{Open}
 use Rattle.engine.proofs.LimitLaws.{Flushing, flushing}
 use Rattle.engine.proofs.OwedLaws.{flush-open, flush-status, flush-bytes}
+use Rattle.engine.proofs.SettleLaws.{put-told}
 use Rattle.engine.proofs.StoreLaws.{settled-is, settling, open-place}
 use Rattle.engine.specs.declared.meet.Ends.{Ends}
 use Rattle.engine.specs.declared.meet.Meeting.the-variants.{Pairs, Flushed, Stopped}
@@ -176,12 +178,12 @@ module _ (l m : List ℕ) (q : ℕ) (a : accepts l ≡ true) (s : SendRecord) (s
   unfolding pairAt
   put-is = rw (row-is, met-error l q (s .opcode) own i .0)
 
-  pub ran-flush : (l′ : List ℕ) → l′ ≡ pushAll l (putFirst q own s 4 0) → Ran l q asked m (Done 4) l′ m
+  pub ran-flush : (l′ : List ℕ) → l′ ≡ pushBytes l (own .scq) (senderEntry q (s .wr) (s .opcode) 4 0) → Ran l q asked m (Done 4) l′ m
   unfolding sendMemory
   ran-flush l′ e =
       let st = flush-status l (accepted l a) q asked wr f in
       record {
         answer = rw (passes, st);
-        bytes = rw passes (e ∙ ap (pushAll l) (sym put-is) ∙ sym (flush-bytes l (accepted l a) q asked wr f));
+        bytes = rw passes (e ∙ put-told l q own s 4 0 refl ∙ ap (pushAll l) (sym put-is) ∙ sym (flush-bytes l (accepted l a) q asked wr f));
         memory = rw (passes, st);
       }

@@ -85,7 +85,7 @@ module _ (l : List ℕ) (a : accepts l ≡ true) (q : ℕ) (s : SendRecord) (sge
         go true i = told (rw i)
         go false i = refl
 
-    first-is : senderPut c q r st ≡ record { cqn = e .own .scq; entry = senderEntry q s st k }
+    first-is : senderPut c q r st ≡ record { cqn = e .own .scq; entry = senderEntry q (s .wr) o st (cond (eqb st 0) k 0) }
     unfolding pairAt
     first-is = rw (own-is l a q s sges b t good, length-is)
 

@@ -21,10 +21,9 @@ use Rattle.engine.specs.declared.meet.Ends.{Ends}
 
 -- ---- completions
 
--- "Length is the total on success, else 0"
-abbrev pub senderEntry : (q : ℕ) → SendRecord → (st n : ℕ) → Completion
-senderEntry q s st n =
-    record { wr = s .wr; status = st; opcode = senderOpcode (s .opcode); length = cond (eqb st 0) n 0; imm = 0; owner = q }
+-- of the work wr with the opcode o; told is the length
+abbrev pub senderEntry : (q wr o st told : ℕ) → Completion
+senderEntry q wr o st told = record { wr = wr; status = st; opcode = senderOpcode o; length = told; imm = 0; owner = q }
 
 -- "total over the receive list's: sender 7, receiver 1. The first total bytes of that list not all permitted ..: sender 7, receiver 3"
 abbrev pub receiverStatus : ReceiveRecord → (st n : ℕ) → ℕ
@@ -42,10 +41,11 @@ receiverEntry e s w st n =
       owner = e .d;
     }
 
--- "Sender's success is put if signal is 0 or the flag is set; errors and receiver completions always."
+-- "Sender's success is put if signal is 0 or the flag is set; errors and receiver completions always." "Length is the total on success, else 0"
 abbrev pub putFirst : (q : ℕ) → (own : QueuePair) → SendRecord → (st n : ℕ) → List Put
 putFirst q own s st n =
-    cond (not (eqb st 0) || eqb (own .signal) 0 || isSignaled s) (record { cqn = own .scq; entry = senderEntry q s st n } ∷ []) []
+    cond (not (eqb st 0) || eqb (own .signal) 0 || isSignaled s)
+    (record { cqn = own .scq; entry = senderEntry q (s .wr) (s .opcode) st (cond (eqb st 0) n 0) } ∷ []) []
 
 abbrev pub putSecond : Ends → SendRecord → ReceiveRecord → (st n : ℕ) → List Put
 putSecond e s w st n = cond (consumes (s .opcode) st) (record { cqn = e .far .rcq; entry = receiverEntry e s w st n } ∷ []) []

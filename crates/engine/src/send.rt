@@ -59,7 +59,7 @@ fn send_checked(
             Answer::Done(st)
         }
         Meeting::Flushed(own) => {
-            settle::put_sender(state, qpn as usize, own, s, FLUSHED, 0);
+            settle::put_work(state, own.scq, qpn as usize, s.wr, s.opcode, FLUSHED, 0);
             Answer::Done(FLUSHED)
         }
         Meeting::Stopped(a) => a,

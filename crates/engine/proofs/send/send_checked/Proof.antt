@@ -5,7 +5,6 @@ use Prim.Native.Nat.{ℕ}
 use Rattle.rules.specs.Touch.{Request}
 use Rattle.engine.specs.Send.{requestBy}
 use Rattle.engine.proofs.EndLaws.{is-met, ran-on, stopped, flush-asks, ran-flush}
-use native.Mathlib.Omega.{arith}
 use borrow.Author.Needs.{needs}
 use Rattle.engine.proofs.send.send_checked.Statement.{statement}
 use Rattle.engine.proofs.send.send_checked.Tie as tie
@@ -32,12 +31,12 @@ carry-out-requires c κs =
 enum-known-own : tie.Need-enum-known-own
 enum-known-own c = search needs
 
-put-sender-requires : tie.Need-put-sender-requires
-put-sender-requires c κs =
+put-work-requires : tie.Need-put-work-requires
+put-work-requires c κs =
     let b = c .before .before .before .before .before .before .before .before .before in
     let a = b .args in
     let i = sym (c .before .before .own .given .1) ∙ c .before .before .before .before .meet .ensures in
-    (flush-asks (now (a .state)) (now (a .memory)) (a .qpn) (b .pre .0 .accepted) (a .s) (a .sges) (now (a .inline)) (search needs) _ i, λ z. omega arith)
+    flush-asks (now (a .state)) (now (a .memory)) (a .qpn) (b .pre .0 .accepted) (a .s) (a .sges) (now (a .inline)) (search needs) _ i
 
 enum-known-a : tie.Need-enum-known-a
 enum-known-a c = search needs
@@ -69,7 +68,7 @@ returns-2 c =
     let a = b .args in
     let i = sym (c .before .before .before .before .before .own .given .1) ∙ c .before .before .before .before .before .before .before .meet .ensures in
     ran-flush (now (a .state)) (now (a .memory)) (a .qpn) (b .pre .0 .accepted) (a .s) (a .sges) (now (a .inline)) (search needs) _ i _
-    (c .before .before .put-sender .ensures)
+    (c .before .before .put-work .ensures)
 
 same-length-4 : tie.Need-same-length-4
 same-length-4 c = search needs
@@ -92,7 +91,7 @@ send-checked-spec =
     enum-known-e
     carry-out-requires
     enum-known-own
-    put-sender-requires
+    put-work-requires
     enum-known-a
     same-length
     same-length-2
