@@ -65,7 +65,7 @@ fn holds_ends(r: Region, address: u64, n: u64) -> bool
 }
 
 // Whether each of the n bytes from an address on is permitted: it looks at the two ends only, and of an empty range at no key and no flags.
-fn range_permitted(state: &[u8], p: Party, mask: u8, address: u64, n: u64, key: u32) -> bool
+pub fn range_permitted(state: &[u8], p: Party, mask: u8, address: u64, n: u64, key: u32) -> bool
     requires { ⌜ length (now state) ≡ stateSize ⌝ }
     ensures { λ b. ⌜ b ≡ allowsAll (card (now (state .entry))) p mask (range address key n) ⌝ }
 {

@@ -178,7 +178,32 @@ fn transfer_many(
     scatter(state, memory, to, nt, &staging);
 }
 
-// The same; a message of one entry to one entry is one move where no page ends in between.
+// Moves one entry's bytes to one entry: one move where no page ends in between.
+pub fn transfer_single(state: &[u8], memory: &mut [u8], from: Sge, to: Sge)
+    requires { ⌜ Ready (now state) (now memory) ⌝ }
+    requires { ⌜ Message (card (now state)) (from ∷ []) (to ∷ []) ⌝ }
+    ensures { λ _. ⌜ now (memory .exit) ≡ moved (now (memory .entry)) (places (card (now (state .entry))) (from ∷ [])) (places (card (now (state .entry))) (to ∷ [])) ⌝ }
+{
+    if (run_of(state, memory, from) == from.length) & (run_of(state, memory, to) == to.length) {
+        transfer_one(state, memory, from, to);
+        return;
+    }
+    let none = Sge {
+        address: 0,
+        length: 0,
+        key: 0,
+    };
+    transfer_many(
+        state,
+        memory,
+        [from, none, none, none],
+        1,
+        [to, none, none, none],
+        1,
+    );
+}
+
+// Moves the bytes of the first nf entries of from to the first nt entries of to, of one entry to one entry by themselves.
 pub fn transfer(state: &[u8], memory: &mut [u8], from: [Sge; 4], nf: usize, to: [Sge; 4], nt: usize)
     requires { ⌜ Ready (now state) (now memory) ⌝ }
     requires { ⌜ (nf ≤ 4) × (nt ≤ 4) × Message (card (now state)) (take nf from) (take nt to) ⌝ }
@@ -187,10 +212,8 @@ pub fn transfer(state: &[u8], memory: &mut [u8], from: [Sge; 4], nf: usize, to: 
     if (nf == 1) & (nt == 1) {
         let s = from[0];
         let t = to[0];
-        if (run_of(state, memory, s) == s.length) & (run_of(state, memory, t) == t.length) {
-            transfer_one(state, memory, s, t);
-            return;
-        }
+        transfer_single(state, memory, s, t);
+        return;
     }
     transfer_many(state, memory, from, nf, to, nt);
 }

@@ -5,6 +5,8 @@ pub mod MeetLaws
 pub mod SettleLaws
 pub mod MoveLaws
 pub mod StatusLaws
+pub mod SingleLaws
+pub mod RecordLaws
 pub mod RequestLaws
 pub mod StoreLaws
 pub mod EndLaws

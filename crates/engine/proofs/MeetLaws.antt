@@ -73,7 +73,7 @@ needed-most false n e = omega arith
 
 -- ---- the tests of a peer that is ready
 
-module _ (l : List ℕ) (e : Ends) (o : ℕ) (t : Bool) (is : t ≡ takes o) (h : WaitingHead) (at : h ≡ rowAt waitingT l (e .own .dest)) where
+module _ (l : List ℕ) (e : Ends) (o : ℕ) (t : Bool) (is : t ≡ takes o) (h : WaitingHead) (at : h ≡ rowAt waitingT l (e .d)) where
   pub none-waits : (t && eqb (h .count) 0) ≡ true → Stopped (Held Peer) ≡ peerMeeting l e o
   none-waits x = rw (← is, ← at, x)
 
@@ -264,5 +264,5 @@ module _ (l : List ℕ) (q o : ℕ) (own : QueuePair) (s : Sender l q own) where
               receive-queue l ok q o (s .below) (s .live) sends named (seen ∙ a),
             )
 
-        pub peer-met : peerMeeting l (record { q = q; own = own; far = far }) o ≡ meeting l q o
+        pub peer-met : peerMeeting l (record { q = q; own = own; d = own .dest; far = far }) o ≡ meeting l q o
         peer-met = rw (at, s .row) (met l ok q o (s .below) (s .live) sends named (seen ∙ a))

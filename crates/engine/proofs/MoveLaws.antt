@@ -11,7 +11,7 @@ use Rattle.tables.specs.Records.{isInline}
 use Rattle.dma.specs.Moves.{Message}
 use Rattle.engine.specs.Deliver.{Carries}
 
-module _ (c : Card) (s : SendRecord) (x : List ℕ) (own far : List Sge) (k : Carries c s x own far) (e : isInline s ≡ false) where
+module _ (c : Card) (s : SendRecord) (b : List ℕ) (own far : List Sge) (k : Carries c s b own far) (e : isInline s ≡ false) where
   pub there : Message c own far
   there =
       let h = k .plain e in

@@ -1,6 +1,6 @@
 -- The stores of post send, each ending by a law. Assumes nothing.
 use mathlib.Core.Path.{_≡_, refl}
-use mathlib.Core.Bool.{Bool, true, false, not, _&&_, _||_}
+use mathlib.Core.Bool.{Bool, true, false, cond, not, _&&_, _||_}
 use mathlib.Core.List.{List, [], _∷_}
 use Prim.Native.Nat.{ℕ, zero, suc, _<_, _≤_}
 use native.Mathlib.Omega.{arith}
@@ -62,7 +62,7 @@ module _ (l : List ℕ) (q : ℕ) (own : QueuePair) (s : SendRecord) (st n : ℕ
   unfolding pushAll
   put-silent h = rw (wanted (eqb st 0) (eqb (own .signal) 0) (eqb (bitAnd (s .flags) 2) 0), h)
 
-  pub put-told : silent ≡ false → pushBytes l (own .scq) (senderEntry q s st n) ≡ pushAll l (putFirst q own s st n)
+  pub put-told : silent ≡ false → pushBytes l (own .scq) (senderEntry q (s .wr) (s .opcode) st (cond (eqb st 0) n 0)) ≡ pushAll l (putFirst q own s st n)
   unfolding pushAll
   put-told h = rw (wanted (eqb st 0) (eqb (own .signal) 0) (eqb (bitAnd (s .flags) 2) 0), h)
 

@@ -53,7 +53,7 @@ count-most o w h n e = go (fills o) e
 
 -- ---- each ending
 
-module _ (l m : List ℕ) (e : Ends) (s : SendRecord) (x : List ℕ) (sges : List Sge) (w : ReceiveRecord) (n : ℕ) where
+module _ (l m : List ℕ) (e : Ends) (s : SendRecord) (sges : List Sge) (v : List ℕ) (w : ReceiveRecord) (n : ℕ) where
   abbrev o : ℕ
   o = s .opcode
 
@@ -66,14 +66,14 @@ module _ (l m : List ℕ) (e : Ends) (s : SendRecord) (x : List ℕ) (sges : Lis
   abbrev theirs : Bool
   theirs = allowsAll (card l) (partyIn (e .far)) (farMask o) (sgeBytes (farList s w n))
 
-  pub too-long : mostMessage < n → Delivery l m e s x sges w n 1 m
+  pub too-long : mostMessage < n → Delivery l m e s sges v w n 1 m
   too-long h = record { status = rw (lt-leb n mostMessage h); memory = refl }
 
   -- the judgement of the sender's entries, as the code has it
   pub own-judged : (p : Party) → p ≡ partyIn (e .own) → (b : Bool) → b ≡ allowsAll (card l) p (ownMask o) (ownBy s sges) → b ≡ mine
   own-judged p who b judged = judged ∙ ap (λ (y : Party). allowsAll (card l) y (ownMask o) (ownBy s sges)) who
 
-  pub own-refused : n ≤ mostMessage → mine ≡ false → Delivery l m e s x sges w n 3 m
+  pub own-refused : n ≤ mostMessage → mine ≡ false → Delivery l m e s sges v w n 3 m
   own-refused most h = record { status = rw (le-leb n mostMessage most, h); memory = refl }
 
   -- the judgement of the peer's entries, as the code has them
@@ -93,23 +93,23 @@ module _ (l m : List ℕ) (e : Ends) (s : SendRecord) (x : List ℕ) (sges : Lis
     h : mine ≡ true
     h = side .permitted
 
-    pub too-much : (not (fills o) || fit) ≡ false → Delivery l m e s x sges w n 7 m
+    pub too-much : (not (fills o) || fit) ≡ false → Delivery l m e s sges v w n 7 m
     too-much k = record { status = rw (short, h) (long-status (fills o) fit theirs k); memory = refl }
 
     module _ (k : (not (fills o) || fit) ≡ true) where
-      pub far-refused : (st : ℕ) → st ≡ cond (fills o) 7 8 → theirs ≡ false → Delivery l m e s x sges w n st m
+      pub far-refused : (st : ℕ) → st ≡ cond (fills o) 7 8 → theirs ≡ false → Delivery l m e s sges v w n st m
       far-refused st i z =
           record {
             status = rw (short, h, z) (i ∙ far-status (fills o) fit k);
-            memory = rw i (unmoved (fills o) (carried (card l) s x (take (s .count) sges) (farList s w n) m) m);
+            memory = rw i (unmoved (fills o) (carried (card l) s v (take (s .count) sges) (farList s w n) m) m);
           }
 
       module _ (z : theirs ≡ true) (list : List Sge) (is : list ≡ farList s w n) where
-        pub all-moved : (m′ : List ℕ) → m′ ≡ carried (card l) s x (take (s .count) sges) list m → Delivery l m e s x sges w n 0 m′
+        pub all-moved : (m′ : List ℕ) → m′ ≡ carried (card l) s v (take (s .count) sges) list m → Delivery l m e s sges v w n 0 m′
         all-moved m′ i =
             record {
               status = rw (short, h, z) (done-status (fills o) fit k);
-              memory = i ∙ ap (λ (y : List Sge). carried (card l) s x (take (s .count) sges) y m) is;
+              memory = i ∙ ap (λ (y : List Sge). carried (card l) s v (take (s .count) sges) y m) is;
             }
 
         far-total : (f : Bool) → (not f || fit) ≡ true → sgeTotal (cond f (cut n (receiveSges w)) (record { address = s .address; length = n; key = s .key } ∷ [])) ≡ n
@@ -117,13 +117,12 @@ module _ (l m : List ℕ) (e : Ends) (s : SendRecord) (x : List ℕ) (sges : Lis
         far-total true i = cut-total n (receiveSges w) (leb-true n (sgeTotal (receiveSges w)) i)
         far-total false i = add-zero n
 
-        pub carries : Sending s x sges n → Carries (card l) s x (take (s .count) sges) list
+        pub carries : Sending s sges v n → Carries (card l) s v (take (s .count) sges) list
         carries y =
             let f : sgeTotal list ≡ n = rw is (far-total (fills o) k) in
             record {
-              size = y .size;
               most = rw f (side .short);
               target = permitted-mapped-all (card l) (partyIn (e .far)) (farMask o) (sgeBytes list) (rw is z);
               plain = λ i. (permitted-mapped-all (card l) (partyIn (e .own)) (ownMask o) (sgeBytes (take (s .count) sges)) (rw i at h), (rw i at (y .total)) ∙ sym f);
-              short = λ i. rw f (y .short i);
+              short = λ i. (y .short i, (rw i at (y .total)) ∙ sym f);
             }

@@ -2,12 +2,11 @@
 use mathlib.Core.Path.{_≡_, refl, sym, ap, ap₂, subst, _∙_}
 use mathlib.Core.Bool.{Bool, true, false, cond, not, _||_}
 use mathlib.Core.List.{List, [], _∷_, _++_}
-use Prim.Native.Nat.{ℕ, _+_, _^_, _≤_, _<_}
+use Prim.Native.Nat.{ℕ, _+_, _≤_, _<_}
 use native.Mathlib.Omega.{arith}
 use lib.Dec.{eqb}
 use lib.ListN.{length}
 use Rattle.wire.proofs.ScanLaws.{and-left, and-right}
-use Rattle.wire.specs.Codec.{Fit}
 use Rattle.wire.specs.Table.{rowAt}
 use Rattle.validate.specs.Accept.{accepts}
 use Rattle.validate.proofs.AcceptedLaws.{Accepted}
@@ -16,19 +15,19 @@ use Rattle.tables.specs.State.{card, queueAt, pairAt}
 use Rattle.tables.specs.Layout.{cqT, qpT, waitingT}
 use Rattle.tables.specs.Limits.{mostPlaces, mostMessage}
 use Rattle.validate.proofs.QueueLaws.{queue-sound}
-use Rattle.tables.specs.Records.{sendCodec}
 use Rattle.tables.specs.declared.ReceiveRecord.{ReceiveRecord}
 use Rattle.tables.specs.declared.SendRecord.{SendRecord}
+use Rattle.tables.specs.declared.Sge.{Sge}
 use Rattle.rules.specs.Send.{Put, sendStatus, consumes, fails, sendPuts, senderPut, receiverPut, putAll, pushed}
-use Rattle.rules.specs.Touch.{Request, requestOf, takes, total}
+use Rattle.rules.specs.Touch.{Request, takes, total}
 use Rattle.rules.specs.Bytes.{pushAll, errorBytes, sendBytes}
 use Rattle.engine.specs.Meet.{endsAt}
 use Rattle.engine.specs.Deliver.{takenRow}
-use Rattle.engine.specs.Send.{Runs}
+use Rattle.engine.specs.Send.{requestBy, Runs}
 use Rattle.engine.specs.Settle.{senderEntry, receiverEntry, putFirst, putSecond, putBytes, failedBytes, settledBytes, Settling}
 use Rattle.engine.proofs.CardLaws.{Stands, CanAll, Open, opened, push-all}
-use Rattle.engine.proofs.OwedLaws.{can-put, send-open, waits-then, send-fits}
-use Rattle.engine.proofs.RequestLaws.{requestBy, Told, entries, ok, goes, own-below, own-is, peer-is, far-below, far-is, taken-is, taken-count}
+use Rattle.engine.proofs.OwedLaws.{can-put, send-open, waits-then}
+use Rattle.engine.proofs.RequestLaws.{Told, ok, goes, own-below, own-is, peer-is, far-below, far-is, taken-is, taken-count}
 use Rattle.engine.specs.declared.meet.Ends.{Ends}
 
 -- ---- completions in two parts
@@ -58,7 +57,7 @@ open-place l k n o =
 
 -- ---- two queue pairs that passed the tests; st is the status and k the number of bytes that the stores are told
 
-module _ (l : List ℕ) (a : accepts l ≡ true) (q : ℕ) (x : List ℕ) (s : SendRecord) (t : Told x s)
+module _ (l : List ℕ) (a : accepts l ≡ true) (q : ℕ) (s : SendRecord) (sges : List Sge) (b : List ℕ) (t : Told s b)
     (good : Runs l q (s .opcode)) where
   abbrev c : Card
   c = card l
@@ -67,7 +66,7 @@ module _ (l : List ℕ) (a : accepts l ≡ true) (q : ℕ) (x : List ℕ) (s : S
   o = s .opcode
 
   abbrev r : Request
-  r = requestBy s x
+  r = requestBy s sges b
 
   abbrev e : Ends
   e = endsAt l q
@@ -86,20 +85,20 @@ module _ (l : List ℕ) (a : accepts l ≡ true) (q : ℕ) (x : List ℕ) (s : S
         go true i = told (rw i)
         go false i = refl
 
-    first-is : senderPut c q r st ≡ record { cqn = e .own .scq; entry = senderEntry q s st k }
+    first-is : senderPut c q r st ≡ record { cqn = e .own .scq; entry = senderEntry q (s .wr) o st (cond (eqb st 0) k 0) }
     unfolding pairAt
-    first-is = rw (own-is l a q x s t good, length-is)
+    first-is = rw (own-is l a q s sges b t good, length-is)
 
     firsts : cond (not (eqb st 0) || eqb (c .qp q .signal) 0 || r .signaled) (senderPut c q r st ∷ []) [] ≡ putFirst q (e .own) s st k
     unfolding pairAt
-    firsts = rw (first-is, own-is l a q x s t good)
+    firsts = rw (first-is, own-is l a q s sges b t good)
 
     second-is : consumes o st ≡ true → receiverPut c q r st ≡ record { cqn = e .far .rcq; entry = receiverEntry e s w st k }
     unfolding receiveOf pairAt
     second-is i =
         let y : takes o ≡ true = and-left (takes o) (eqb st 0 || eqb st 7) i in
         let z : total r ≡ k = told (and-right (takes o) (eqb st 0 || eqb st 7) i) in
-        rw (taken-is l a q x s t good y, peer-is l a q x s t good, far-is l a q x s t good, z)
+        rw (taken-is l a q s sges b t good y, peer-is l a q s sges b t good, far-is l a q s sges b t good, z)
 
     seconds : cond (consumes o st) (receiverPut c q r st ∷ []) [] ≡ putSecond e s w st k
     seconds = go (consumes o st) refl
@@ -120,7 +119,7 @@ module _ (l : List ℕ) (a : accepts l ≡ true) (q : ℕ) (x : List ℕ) (s : S
 
     pub settled-is : settledBytes l e s w st k ≡ sendBytes l q r
     unfolding sendBytes
-    settled-is = rw (peer-is l a q x s t good, failed-bytes, ← is)
+    settled-is = rw (peer-is l a q s sges b t good, failed-bytes, ← is)
 
     abbrev first : List Put
     first = putFirst q (e .own) s st k
@@ -128,21 +127,13 @@ module _ (l : List ℕ) (a : accepts l ≡ true) (q : ℕ) (x : List ℕ) (s : S
     abbrev second : List Put
     second = putSecond e s w st k
 
-    wr : r .wr < 2 ^ 64
-    unfolding requestOf sendCodec Fit
-    wr = subst (λ (y : Request). y .wr < 2 ^ 64) (t .request) (send-fits x .0)
-
-    imm : r .imm < 2 ^ 32
-    unfolding requestOf sendCodec Fit
-    imm = subst (λ (y : Request). y .imm < 2 ^ 32) (t .request) (send-fits x .1 .1 .1 .0)
-
     can : CanAll c (first ++ second)
     can =
         subst (λ (y : List Put). CanAll c y) puts-are
-        (subst (λ (y : ℕ). CanAll c (sendPuts c q r y)) (sym is) (can-put l (ok l a q x s t good) q r wr imm (goes l a q x s t good)))
+        (subst (λ (y : ℕ). CanAll c (sendPuts c q r y)) (sym is) (can-put l (ok l a q s sges b t good) q r (t .wr) (t .imm) (goes l a q s sges b t good)))
 
     first-stands : Stands (pushAll l first) (withCq c (putAll first (c .cq)))
-    first-stands = push-all first l (ok l a q x s t good) (can-first first second c can)
+    first-stands = push-all first l (ok l a q s sges b t good) (can-first first second c can)
 
     second-open : consumes o st ≡ true → Open (pushAll l first) (e .far .rcq)
     unfolding CanAll
@@ -153,23 +144,23 @@ module _ (l : List ℕ) (a : accepts l ≡ true) (q : ℕ) (x : List ℕ) (s : S
 
     first-open : Open l (e .own .scq)
     unfolding pairAt
-    first-open = subst (λ (y : Qp). Open l (y .scq)) (own-is l a q x s t good) (send-open l (ok l a q x s t good) q r wr imm (goes l a q x s t good))
+    first-open = subst (λ (y : Qp). Open l (y .scq)) (own-is l a q s sges b t good) (send-open l (ok l a q s sges b t good) q r (t .wr) (t .imm) (goes l a q s sges b t good))
 
     then-waits : consumes o st ≡ true → 0 < rowAt waitingT (failedBytes l e s w st k) d .count
     then-waits i =
-        let y = waits-then l (ok l a q x s t good) q r wr imm (goes l a q x s t good) (rw (← is) i) in
-        subst (λ (z : List ℕ). 0 < rowAt waitingT z d .count) failed-bytes (rw (peer-is l a q x s t good) at y)
+        let y = waits-then l (ok l a q s sges b t good) q r (t .wr) (t .imm) (goes l a q s sges b t good) (rw (← is) i) in
+        subst (λ (z : List ℕ). 0 < rowAt waitingT z d .count) failed-bytes (rw (peer-is l a q s sges b t good) at y)
 
     pub settling : (st ≡ 0 → k ≤ mostMessage) → Settling l e s w st k
     settling short =
         record {
-          size = ok l a q x s t good .sized;
-          own = own-below l a q x s t good;
-          far = far-below l a q x s t good;
-          count = taken-count l a q x s t good;
+          size = ok l a q s sges b t good .sized;
+          own = own-below l a q s sges b t good;
+          far = far-below l a q s sges b t good;
+          count = taken-count l a q s sges b t good;
           short = short;
           first = first-open .below;
-          free = open-place l (ok l a q x s t good) (e .own .scq) first-open;
+          free = open-place l (ok l a q s sges b t good) (e .own .scq) first-open;
           second = λ i. (second-open i .below, open-place (pushAll l first) (first-stands .ok) (e .far .rcq) (second-open i));
           waits = then-waits;
         }

@@ -37,7 +37,7 @@ placesBy h k same o = leb (h .count + cond (takes o && same) 2 1) (h .places) &&
 -- "Opcodes 1, 2, 3 with no receive waiting there: 5", and step 2's "else 6"
 abbrev pub peerMeeting : List ℕ → Ends → (opcode : ℕ) → Meeting
 peerMeeting l e o =
-    cond (takes o && eqb (rowAt waitingT l (e .own .dest) .count) 0) (Stopped (Held Peer))
+    cond (takes o && eqb (rowAt waitingT l (e .d) .count) 0) (Stopped (Held Peer))
     (cond (not (placesBy (rowAt cqT l (e .own .scq)) (rowAt cqT l (e .far .rcq)) (eqb (e .own .scq) (e .far .rcq)) o))
     (Stopped (Held Place)) (Pairs e))
 
@@ -59,9 +59,9 @@ pub record Sender (l : List ℕ) (q : ℕ) (own : QueuePair) : Type 0 where
 abbrev pub bare : (opcode : ℕ) → Request
 bare o = record { wr = 0; opcode = o; signaled = false; inline = false; bytes = []; imm = 0; address = 0; key = 0; sges = [] }
 
--- the queue pair q and its peer
+-- the queue pair q and its peer: "Peer (destination)"
 abbrev pub endsAt : List ℕ → (q : ℕ) → Ends
-endsAt l q = record { q = q; own = rowAt qpT l q; far = rowAt qpT l (rowAt qpT l q .dest) }
+endsAt l q = let p = rowAt qpT l q in record { q = q; own = p; d = p .dest; far = rowAt qpT l (p .dest) }
 
 -- a request that passed is flushed where its sender is in error
 abbrev pub metBy : Option ℕ → (error : Bool) → Ends → Meeting

@@ -1,26 +1,44 @@
--- Post send as a whole, document 01, "Posting and delivering": what each part of the code hands to the next, in the rules' words. Assumes nothing.
+-- Post send as a whole, document 01, "Posting and delivering": what each part of the code hands to the next, in the rules' words. A request
+-- is its head s, its scatter/gather entries sges, of which it has count, and its inline bytes b, wherever these stand. Assumes nothing.
 use mathlib.Core.Path.{_≡_}
-use mathlib.Core.Bool.{false}
+use mathlib.Core.Bool.{true, false}
 use mathlib.Core.List.{List}
 use mathlib.Core.Option.{Option, none, some}
-use Prim.Native.Nat.{ℕ}
+use Prim.Native.Nat.{ℕ, _≤_}
+use lib.ListN.{length, take}
 use Rattle.wire.specs.Checks.{refusal}
-use Rattle.wire.specs.Codec.{decode}
-use Rattle.tables.specs.Records.{sendCodec, sendChecks}
+use Rattle.tables.specs.Limits.{mostSges, mostInline}
+use Rattle.tables.specs.Records.{isSignaled, isInline}
 use Rattle.tables.specs.State.{card}
 use Rattle.tables.specs.declared.SendRecord.{SendRecord}
+use Rattle.tables.specs.declared.Sge.{Sge}
 use Rattle.rules.specs.Answer.{answered}
 use Rattle.rules.specs.Bytes.{sendBytes}
 use Rattle.rules.specs.Send.{deliveryChecks, isInError, sendStatus, sendMemory}
-use Rattle.rules.specs.Touch.{Request}
+use Rattle.rules.specs.Touch.{Request, reads}
 use Rattle.rules.specs.declared.Answer.{Answer}
 use Rattle.engine.specs.Meet.{bare, endsAt}
 use Rattle.engine.specs.declared.meet.Ends.{Ends}
 
--- s begins the send record x, which passes its own tests
-pub record Posted (x : List ℕ) (s : SendRecord) : Type 0 where
-  pub head : s ≡ decode sendCodec x 0
-  pub good : refusal (sendChecks x) ≡ none
+abbrev pub requestBy : SendRecord → List Sge → (b : List ℕ) → Request
+requestBy s sges b =
+    record {
+      wr = s .wr;
+      opcode = s .opcode;
+      signaled = isSignaled s;
+      inline = isInline s;
+      bytes = b;
+      imm = s .imm;
+      address = s .address;
+      key = s .key;
+      sges = take (s .count) sges;
+    }
+
+-- what its record's own tests have shown: "inline with opcode 4, inline length over 512, or count over 4 gives 4"
+pub record Bounded (s : SendRecord) (b : List ℕ) : Type 0 where
+  pub plain : isInline s ≡ false → s .count ≤ mostSges
+  pub short : isInline s ≡ true → length b ≤ mostInline
+  pub there : isInline s ≡ true → reads (s .opcode) ≡ false
 
 -- the queue pair q passed the tests for the opcode o, and is not in error
 pub record Runs (l : List ℕ) (q o : ℕ) : Type 0 where

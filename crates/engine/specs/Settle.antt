@@ -21,10 +21,9 @@ use Rattle.engine.specs.declared.meet.Ends.{Ends}
 
 -- ---- completions
 
--- "Length is the total on success, else 0"
-abbrev pub senderEntry : (q : ℕ) → SendRecord → (st n : ℕ) → Completion
-senderEntry q s st n =
-    record { wr = s .wr; status = st; opcode = senderOpcode (s .opcode); length = cond (eqb st 0) n 0; imm = 0; owner = q }
+-- of the work wr with the opcode o; told is the length
+abbrev pub senderEntry : (q wr o st told : ℕ) → Completion
+senderEntry q wr o st told = record { wr = wr; status = st; opcode = senderOpcode o; length = told; imm = 0; owner = q }
 
 -- "total over the receive list's: sender 7, receiver 1. The first total bytes of that list not all permitted ..: sender 7, receiver 3"
 abbrev pub receiverStatus : ReceiveRecord → (st n : ℕ) → ℕ
@@ -39,13 +38,14 @@ receiverEntry e s w st n =
       opcode = receiverOpcode (s .opcode);
       length = cond (eqb st 0) n 0;
       imm = cond (eqb st 0 && (eqb (s .opcode) 1 || eqb (s .opcode) 3)) (s .imm) 0;
-      owner = e .own .dest;
+      owner = e .d;
     }
 
--- "Sender's success is put if signal is 0 or the flag is set; errors and receiver completions always."
+-- "Sender's success is put if signal is 0 or the flag is set; errors and receiver completions always." "Length is the total on success, else 0"
 abbrev pub putFirst : (q : ℕ) → (own : QueuePair) → SendRecord → (st n : ℕ) → List Put
 putFirst q own s st n =
-    cond (not (eqb st 0) || eqb (own .signal) 0 || isSignaled s) (record { cqn = own .scq; entry = senderEntry q s st n } ∷ []) []
+    cond (not (eqb st 0) || eqb (own .signal) 0 || isSignaled s)
+    (record { cqn = own .scq; entry = senderEntry q (s .wr) (s .opcode) st (cond (eqb st 0) n 0) } ∷ []) []
 
 abbrev pub putSecond : Ends → SendRecord → ReceiveRecord → (st n : ℕ) → List Put
 putSecond e s w st n = cond (consumes (s .opcode) st) (record { cqn = e .far .rcq; entry = receiverEntry e s w st n } ∷ []) []
@@ -63,17 +63,17 @@ failedBytes l e s w st n = errorBytes (fails st) (putBytes l e s w st n) (e .q)
 -- "The receive is consumed, both QPs go to error."
 abbrev pub settledBytes : List ℕ → Ends → SendRecord → ReceiveRecord → (st n : ℕ) → List ℕ
 settledBytes l e s w st n =
-    errorBytes (eqb st 7) (consumeBytes (consumes (s .opcode) st) (failedBytes l e s w st n) (e .own .dest)) (e .own .dest)
+    errorBytes (eqb st 7) (consumeBytes (consumes (s .opcode) st) (failedBytes l e s w st n) (e .d)) (e .d)
 
 -- what the stores ask: numbers within their tables, a length that is not too long, a free place for each completion, a receive that waits
 pub record Settling (l : List ℕ) (e : Ends) (s : SendRecord) (w : ReceiveRecord) (st n : ℕ) : Type 0 where
   pub size : length l ≡ stateSize
   pub own : e .q < qpCount
-  pub far : e .own .dest < qpCount
+  pub far : e .d < qpCount
   pub count : w .count ≤ 2
   pub short : st ≡ 0 → n ≤ mostMessage
   pub first : e .own .scq < cqCount
   pub free : rowAt cqT l (e .own .scq) .count < mostPlaces
   pub second : consumes (s .opcode) st ≡ true →
       (e .far .rcq < cqCount) × (rowAt cqT (pushAll l (putFirst (e .q) (e .own) s st n)) (e .far .rcq) .count < mostPlaces)
-  pub waits : consumes (s .opcode) st ≡ true → 0 < rowAt waitingT (failedBytes l e s w st n) (e .own .dest) .count
+  pub waits : consumes (s .opcode) st ≡ true → 0 < rowAt waitingT (failedBytes l e s w st n) (e .d) .count

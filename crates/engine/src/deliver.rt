@@ -6,7 +6,6 @@ use crate::settle;
 use dma::permit;
 use dma::transfer;
 use rules::Party;
-use tables::QueuePair;
 use tables::ReceiveRecord;
 use tables::SendRecord;
 use tables::Sge;
@@ -22,22 +21,21 @@ use tables::limits::REMOTE_READ;
 use tables::limits::REMOTE_WRITE;
 use tables::limits::SUCCESS;
 use tables::queue;
-use tables::records;
 ghost use mathlib.Core.Path.{_≡_};
-ghost use mathlib.Core.Bool.{false, not, _||_};
+ghost use mathlib.Core.Bool.{true, false, not, _||_};
+ghost use mathlib.Core.List.{[], _∷_};
 ghost use Prim.Native.Nat.{_<_, _≤_};
 ghost use lib.Dec.{leb};
 ghost use lib.ListN.{length, take};
 ghost use Rattle.wire.specs.Table.{rowAt};
-ghost use Rattle.tables.specs.State.{card};
+ghost use Rattle.tables.specs.State.{card, noRecord};
 ghost use Rattle.tables.specs.Layout.{stateSize, waitingT};
 ghost use Rattle.tables.specs.Limits.{qpCount, mostWaiting};
 ghost use Rattle.tables.specs.Records.{isInline, receiveSges};
 ghost use Rattle.rules.specs.Touch.{fills, sgeTotal};
 ghost use Rattle.dma.specs.Grants.{allowsAll};
 ghost use Rattle.dma.specs.Moves.{Ready};
-ghost use Rattle.rules.specs.declared.Party.{Party};
-ghost use Rattle.engine.specs.Deliver.{partyIn, takenRow, Sending, Delivery, totalBy, ownMask, ownBy, farCount, farList, farMask, Carries, carried, OwnSide};
+ghost use Rattle.engine.specs.Deliver.{partyIn, takenRow, Sending, Delivery, isSingle, totalBy, ownMask, ownBy, farCount, farList, farMask, Carries, carried, OwnSide};
 
 fn is_inline(s: SendRecord) -> bool
     ensures { λ r. ⌜ r ≡ isInline s ⌝ }
@@ -45,24 +43,45 @@ fn is_inline(s: SendRecord) -> bool
     s.flags & INLINE_FLAG != 0
 }
 
+// Whether the request has one entry, whose other side is the remote range.
+fn is_single(s: SendRecord) -> bool
+    ensures { λ r. ⌜ r ≡ isSingle s ⌝ }
+{
+    !is_inline(s) & (s.count == 1) & !meet::fills_receive(s.opcode)
+}
+
 // The number of bytes of the message.
-pub fn total_of(s: SendRecord, sges: [Sge; 4]) -> u64
+pub fn total_of(s: SendRecord, sges: [Sge; 4], inline: &[u8]) -> u64
     requires { ⌜ (isInline s ≡ false → s .count ≤ 4) ⌝ }
-    ensures { λ r. ⌜ r ≡ totalBy s sges ⌝ }
+    ensures { λ r. ⌜ r ≡ totalBy s sges (now (inline .entry)) ⌝ }
 {
     if is_inline(s) {
-        return (s.count % 65536) as u64;
+        return inline.len() as u64;
+    }
+    if s.count == 1 {
+        let a = sges[0];
+        return a.length as u64;
     }
     permit::sges_total(sges, s.count as usize)
 }
 
-// Whose use of memory a queue pair's is.
-fn party_of(p: QueuePair) -> Party
-    ensures { λ r. ⌜ r ≡ partyIn p ⌝ }
+// Whose use of memory the sender's is.
+fn own_party(e: Ends) -> Party
+    ensures { λ r. ⌜ r ≡ partyIn (e .own) ⌝ }
 {
     Party {
-        pd: p.pd,
-        rights: p.rights,
+        pd: e.own.pd,
+        rights: e.own.rights,
+    }
+}
+
+// Whose use of memory the peer's is.
+fn far_party(e: Ends) -> Party
+    ensures { λ r. ⌜ r ≡ partyIn (e .far) ⌝ }
+{
+    Party {
+        pd: e.far.pd,
+        rights: e.far.rights,
     }
 }
 
@@ -74,8 +93,7 @@ fn own_permitted(state: &[u8], p: Party, s: SendRecord, sges: [Sge; 4]) -> bool
     if is_inline(s) {
         return true;
     }
-    let mask = settle::choose(s.opcode == READ, LOCAL_WRITE, 0);
-    permit::sges_permitted(state, p, mask, sges, s.count as usize)
+    permit::sges_permitted(state, p, own_mask(s.opcode), sges, s.count as usize)
 }
 
 // Whether a message of n bytes fits the receive that it fills.
@@ -121,6 +139,13 @@ fn far_count(opcode: u8, w: ReceiveRecord) -> usize
     1
 }
 
+// The access bit that the sender's side needs.
+fn own_mask(opcode: u8) -> u8
+    ensures { λ r. ⌜ r ≡ ownMask opcode ⌝ }
+{
+    settle::choose(opcode == READ, LOCAL_WRITE, 0)
+}
+
 // The access bit that the peer's side needs.
 fn far_mask(opcode: u8) -> u8
     ensures { λ r. ⌜ r ≡ farMask opcode ⌝ }
@@ -137,18 +162,17 @@ fn move_bytes(
     state: &[u8],
     memory: &mut [u8],
     s: SendRecord,
-    sent: &[u8],
     sges: [Sge; 4],
+    inline: &[u8],
     far: [Sge; 4],
     count: usize,
 )
     requires { ⌜ Ready (now state) (now memory) × (count ≤ 4) × (isInline s ≡ false → s .count ≤ 4) ⌝ }
-    requires { ⌜ Carries (card (now state)) s (now sent) (take (s .count) sges) (take count far) ⌝ }
-    ensures { λ _. ⌜ now (memory .exit) ≡ carried (card (now (state .entry))) s (now (sent .entry)) (take (s .count) sges) (take count far) (now (memory .entry)) ⌝ }
+    requires { ⌜ Carries (card (now state)) s (now inline) (take (s .count) sges) (take count far) ⌝ }
+    ensures { λ _. ⌜ now (memory .exit) ≡ carried (card (now (state .entry))) s (now (inline .entry)) (take (s .count) sges) (take count far) (now (memory .entry)) ⌝ }
 {
     if is_inline(s) {
-        let bytes = records::inline_bytes(sent);
-        transfer::scatter_inline(state, memory, bytes, far, count);
+        transfer::scatter_inline(state, memory, inline, far, count);
         return;
     }
     let own = s.count as usize;
@@ -186,14 +210,14 @@ fn deliver_far(
     memory: &mut [u8],
     e: Ends,
     s: SendRecord,
-    sent: &[u8],
     sges: [Sge; 4],
+    inline: &[u8],
     w: ReceiveRecord,
     n: u32,
 ) -> u8
     requires { ⌜ Ready (now state) (now memory) ⌝ }
-    requires { ⌜ (w .count ≤ 2) × Sending s (now sent) sges n × OwnSide (card (now state)) e s sges n ⌝ }
-    ensures { λ r. ⌜ Delivery (now (state .entry)) (now (memory .entry)) e s (now (sent .entry)) sges w n r (now (memory .exit)) ⌝ }
+    requires { ⌜ (w .count ≤ 2) × Sending s sges (now inline) n × OwnSide (card (now state)) e s sges n ⌝ }
+    ensures { λ r. ⌜ Delivery (now (state .entry)) (now (memory .entry)) e s sges (now (inline .entry)) w n r (now (memory .exit)) ⌝ }
 {
     if !fits_receive(s.opcode, w, n) {
         return REMOTE_INVALID;
@@ -201,10 +225,47 @@ fn deliver_far(
     let far = far_sges(s, w, n);
     let count = far_count(s.opcode, w);
     let mask = far_mask(s.opcode);
-    if !permit::sges_permitted(state, party_of(e.far), mask, far, count) {
+    if !permit::sges_permitted(state, far_party(e), mask, far, count) {
         return settle::choose(meet::fills_receive(s.opcode), REMOTE_INVALID, REMOTE_ACCESS);
     }
-    move_bytes(state, memory, s, sent, sges, far, count);
+    move_bytes(state, memory, s, sges, inline, far, count);
+    SUCCESS
+}
+
+// Step 6 of a request of one entry and a remote range.
+fn move_single(state: &[u8], memory: &mut [u8], s: SendRecord, a: Sge)
+    requires { ⌜ Ready (now state) (now memory) × (isSingle s ≡ true) ⌝ }
+    requires { ⌜ Carries (card (now state)) s [] (a ∷ []) (farList s noRecord (a .length)) ⌝ }
+    ensures { λ _. ⌜ now (memory .exit) ≡ carried (card (now (state .entry))) s [] (a ∷ []) (farList s noRecord (a .length)) (now (memory .entry)) ⌝ }
+{
+    let b = Sge {
+        address: s.address,
+        length: a.length,
+        key: s.key,
+    };
+    if s.opcode == READ {
+        transfer::transfer_single(state, memory, b, a);
+        return;
+    }
+    transfer::transfer_single(state, memory, a, b);
+}
+
+// Steps 3 to 6 of such a request; no array is made of its one entry.
+fn deliver_single(state: &[u8], memory: &mut [u8], e: Ends, s: SendRecord, a: Sge) -> u8
+    requires { ⌜ Ready (now state) (now memory) × (isSingle s ≡ true) ⌝ }
+    ensures { λ r. ⌜ Delivery (now (state .entry)) (now (memory .entry)) e s (a ∷ []) [] noRecord (a .length) r (now (memory .exit)) ⌝ }
+{
+    if MOST_MESSAGE < a.length {
+        return LOCAL_LENGTH;
+    }
+    let n = a.length as u64;
+    if !permit::range_permitted(state, own_party(e), own_mask(s.opcode), a.address, n, a.key) {
+        return LOCAL_PROTECTION;
+    }
+    if !permit::range_permitted(state, far_party(e), far_mask(s.opcode), s.address, n, s.key) {
+        return REMOTE_ACCESS;
+    }
+    move_single(state, memory, s, a);
     SUCCESS
 }
 
@@ -214,20 +275,24 @@ pub fn deliver(
     memory: &mut [u8],
     e: Ends,
     s: SendRecord,
-    sent: &[u8],
     sges: [Sge; 4],
+    inline: &[u8],
     w: ReceiveRecord,
     total: u64,
 ) -> u8
     requires { ⌜ Ready (now state) (now memory) ⌝ }
-    requires { ⌜ (w .count ≤ 2) × Sending s (now sent) sges total ⌝ }
-    ensures { λ r. ⌜ Delivery (now (state .entry)) (now (memory .entry)) e s (now (sent .entry)) sges w total r (now (memory .exit)) ⌝ }
+    requires { ⌜ (w .count ≤ 2) × Sending s sges (now inline) total ⌝ }
+    ensures { λ r. ⌜ Delivery (now (state .entry)) (now (memory .entry)) e s sges (now (inline .entry)) w total r (now (memory .exit)) ⌝ }
 {
+    if is_single(s) {
+        let a = sges[0];
+        return deliver_single(state, memory, e, s, a);
+    }
     if (MOST_MESSAGE as u64) < total {
         return LOCAL_LENGTH;
     }
-    if !own_permitted(state, party_of(e.own), s, sges) {
+    if !own_permitted(state, own_party(e), s, sges) {
         return LOCAL_PROTECTION;
     }
-    deliver_far(state, memory, e, s, sent, sges, w, total as u32)
+    deliver_far(state, memory, e, s, sges, inline, w, total as u32)
 }

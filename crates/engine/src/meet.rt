@@ -27,10 +27,11 @@ ghost use Rattle.tables.specs.State.{isLive};
 ghost use Rattle.rules.specs.Touch.{takes, fills};
 ghost use Rattle.engine.specs.Meet.{answers, placesBy, peerMeeting, flushMeeting, meeting, Sender};
 
-// A sender and its peer, whose number is the sender's destination.
+// A sender and its peer: their numbers and rows.
 pub struct Ends {
     pub q: usize,
     pub own: QueuePair,
+    pub d: usize,
     pub far: QueuePair,
 }
 
@@ -104,10 +105,10 @@ fn has_places(state: &[u8], s: u8, r: u8, opcode: u8) -> bool
 
 // The tests of a peer that is ready: a receive that waits, and places for the completions.
 fn meet_peer(state: &[u8], e: Ends, opcode: u8) -> Meeting
-    requires { ⌜ (e .own .scq < cqCount) × (e .far .rcq < cqCount) × (e .own .dest < qpCount) × (length (now state) ≡ stateSize) ⌝ }
+    requires { ⌜ (e .own .scq < cqCount) × (e .far .rcq < cqCount) × (e .d < qpCount) × (length (now state) ≡ stateSize) ⌝ }
     ensures { λ r. ⌜ r ≡ peerMeeting (now (state .entry)) e opcode ⌝ }
 {
-    let h = rows::load_waiting(state, e.own.dest as usize);
+    let h = rows::load_waiting(state, e.d);
     if takes_receive(opcode) & (h.count == 0) {
         return Meeting::Stopped(Answer::Held(Cause::Peer));
     }
@@ -131,7 +132,7 @@ fn meet_far(state: &[u8], q: usize, own: QueuePair, opcode: u8) -> Meeting
     if !answers_to(live, far, q) {
         return Meeting::Stopped(Answer::Held(Cause::Peer));
     }
-    let e = Ends { q, own, far };
+    let e = Ends { q, own, d, far };
     meet_peer(state, e, opcode)
 }
 

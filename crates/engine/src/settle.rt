@@ -31,11 +31,12 @@ ghost use lib.Dec.{eqb};
 ghost use lib.ListN.{length, take};
 ghost use Rattle.wire.specs.Table.{rowAt};
 ghost use Rattle.tables.specs.Layout.{stateSize, cqT, waitingT};
+ghost use Rattle.tables.specs.Queue.{pushBytes};
 ghost use Rattle.tables.specs.Limits.{cqCount, qpCount, mostPlaces, mostMessage};
 ghost use Rattle.tables.specs.Records.{receiveSges};
 ghost use Rattle.rules.specs.Send.{senderOpcode, receiverOpcode, consumes};
 ghost use Rattle.rules.specs.Bytes.{pushAll, errorBytes, consumeBytes};
-ghost use Rattle.engine.specs.Settle.{receiverStatus, putFirst, putSecond, settledBytes, Settling};
+ghost use Rattle.engine.specs.Settle.{senderEntry, receiverStatus, putFirst, putSecond, settledBytes, Settling};
 
 // x where b holds, else y.
 pub fn choose(b: bool, x: u8, y: u8) -> u8
@@ -116,8 +117,24 @@ fn receiver_status(st: u8, n: u64, w: ReceiveRecord) -> u8
     LOCAL_PROTECTION
 }
 
+// A completion of queue pair q's work wr, in completion queue cqn.
+pub fn put_work(state: &mut [u8], cqn: u8, q: usize, wr: u64, opcode: u8, st: u8, told: u32)
+    requires { ⌜ (q < qpCount) × (cqn < cqCount) × (length (now state) ≡ stateSize) × (rowAt cqT (now state) cqn .count < mostPlaces) ⌝ }
+    ensures { λ _. ⌜ now (state .exit) ≡ pushBytes (now (state .entry)) cqn (senderEntry q wr opcode st told) ⌝ }
+{
+    let entry = Completion {
+        wr,
+        status: st,
+        opcode: sender_opcode(opcode),
+        length: told,
+        imm: 0,
+        owner: q as u32,
+    };
+    queue::push_completion(state, cqn as usize, entry);
+}
+
 // The sender's completion, where one is put.
-pub fn put_sender(state: &mut [u8], q: usize, own: QueuePair, s: SendRecord, st: u8, n: u64)
+fn put_sender(state: &mut [u8], q: usize, own: QueuePair, s: SendRecord, st: u8, n: u64)
     requires { ⌜ (q < qpCount) × (own .scq < cqCount) × (length (now state) ≡ stateSize) × (rowAt cqT (now state) (own .scq) .count < mostPlaces) ⌝ }
     requires { ⌜ (st ≡ 0 → n ≤ mostMessage) ⌝ }
     ensures { λ _. ⌜ now (state .exit) ≡ pushAll (now (state .entry)) (putFirst q own s st n) ⌝ }
@@ -126,22 +143,12 @@ pub fn put_sender(state: &mut [u8], q: usize, own: QueuePair, s: SendRecord, st:
     if silent {
         return;
     }
-    let opcode = sender_opcode(s.opcode);
-    let length = told_length(st, n);
-    let entry = Completion {
-        wr: s.wr,
-        status: st,
-        opcode,
-        length,
-        imm: 0,
-        owner: q as u32,
-    };
-    queue::push_completion(state, own.scq as usize, entry);
+    put_work(state, own.scq, q, s.wr, s.opcode, st, told_length(st, n));
 }
 
 // The receiver's completion, where the receive is consumed.
 fn put_receiver(state: &mut [u8], e: Ends, s: SendRecord, w: ReceiveRecord, st: u8, n: u64)
-    requires { ⌜ (w .count ≤ 2) × (length (now state) ≡ stateSize) × (st ≡ 0 → n ≤ mostMessage) ⌝ }
+    requires { ⌜ (e .d < qpCount) × (w .count ≤ 2) × (length (now state) ≡ stateSize) × (st ≡ 0 → n ≤ mostMessage) ⌝ }
     requires { ⌜ (consumes (s .opcode) st ≡ true → (e .far .rcq < cqCount) × (rowAt cqT (now state) (e .far .rcq) .count < mostPlaces)) ⌝ }
     ensures { λ _. ⌜ now (state .exit) ≡ pushAll (now (state .entry)) (putSecond e s w st n) ⌝ }
 {
@@ -157,7 +164,7 @@ fn put_receiver(state: &mut [u8], e: Ends, s: SendRecord, w: ReceiveRecord, st: 
         opcode,
         length,
         imm: kept_if(carries, s.imm),
-        owner: e.own.dest as u32,
+        owner: e.d as u32,
     };
     queue::push_completion(state, e.far.rcq as usize, entry);
 }
@@ -206,10 +213,9 @@ pub fn settle(state: &mut [u8], e: Ends, s: SendRecord, w: ReceiveRecord, st: u8
     requires { ⌜ Settling (now state) e s w st n ⌝ }
     ensures { λ _. ⌜ now (state .exit) ≡ settledBytes (now (state .entry)) e s w st n ⌝ }
 {
-    let d = e.own.dest as usize;
     put_sender(state, e.q, e.own, s, st, n);
     put_receiver(state, e, s, w, st, n);
     fail_if(state, (st != SUCCESS) & (st != FLUSHED), e.q);
-    consume_if(state, is_consumed(s.opcode, st), d);
-    fail_if(state, st == REMOTE_INVALID, d);
+    consume_if(state, is_consumed(s.opcode, st), e.d);
+    fail_if(state, st == REMOTE_INVALID, e.d);
 }

@@ -13,7 +13,7 @@ returns : tie.Need-returns
 returns c =
     let b = c .before .before .before .before .before in
     let a = b .args in
-    too-much (now (a .state)) (now (a .memory)) (a .e) (a .s) (now (a .sent)) (a .sges) (a .w) (a .n) (b .pre .1 .2)
+    too-much (now (a .state)) (now (a .memory)) (a .e) (a .s) (a .sges) (now (a .inline)) (a .w) (a .n) (b .pre .1 .2)
     (sym (c .before .fits-receive .ensures) ∙ not-true _ (c .if1 .taken))
 
 far-sges-requires : tie.Need-far-sges-requires
@@ -25,8 +25,8 @@ far-count-requires c κs = search needs
 far-mask-requires : tie.Need-far-mask-requires
 far-mask-requires c κs = search needs
 
-party-of-requires : tie.Need-party-of-requires
-party-of-requires c κs = search needs
+far-party-requires : tie.Need-far-party-requires
+far-party-requires c κs = search needs
 
 sges-permitted-requires : tie.Need-sges-permitted-requires
 sges-permitted-requires c κs =
@@ -46,13 +46,13 @@ returns-2 c =
     let a = b .args in
     let l = now (a .state) in
     let m = now (a .memory) in
-    let x = now (a .sent) in
+    let x = now (a .inline) in
     let f = c .before .before .before .before .before .before .before in
     let p = c .before .before .before in
-    far-refused l m (a .e) (a .s) x (a .sges) (a .w) (a .n) (b .pre .1 .2)
+    far-refused l m (a .e) (a .s) (a .sges) x (a .w) (a .n) (b .pre .1 .2)
     (sym (f .before .before .fits-receive .ensures) ∙ not-false _ (f .before .if1 .left)) (c .choose .result)
     (c .choose .ensures ∙ rw (c .before .fills-receive .ensures))
-    (sym (far-judged l m (a .e) (a .s) x (a .sges) (a .w) (a .n) (p .before .party-of .result) (p .before .party-of .ensures)
+    (sym (far-judged l m (a .e) (a .s) (a .sges) x (a .w) (a .n) (p .before .far-party .result) (p .before .far-party .ensures)
     (p .before .before .far-mask .result) (p .before .before .far-mask .ensures) (f .far-sges .result)
     (p .before .before .before .far-count .result) (p .before .before .before .far-count .ensures) (f .far-sges .ensures) (p .sges-permitted .result) (p .sges-permitted .ensures))
     ∙ not-true _ (c .before .before .if2 .taken))
@@ -63,17 +63,17 @@ move-bytes-requires c κs =
     let a = b .args in
     let l = now (a .state) in
     let m = now (a .memory) in
-    let x = now (a .sent) in
+    let x = now (a .inline) in
     let p = c .before .before in
     let k = p .before .before .before in
     let f = k .before in
-    let j = far-judged l m (a .e) (a .s) x (a .sges) (a .w) (a .n) (p .before .party-of .result) (p .before .party-of .ensures)
+    let j = far-judged l m (a .e) (a .s) (a .sges) x (a .w) (a .n) (p .before .far-party .result) (p .before .far-party .ensures)
     (p .before .before .far-mask .result) (p .before .before .far-mask .ensures) (f .far-sges .result)
     (k .far-count .result) (k .far-count .ensures) (f .far-sges .ensures) (p .sges-permitted .result) (p .sges-permitted .ensures) in
-    let i = far-entries l m (a .e) (a .s) x (a .sges) (a .w) (a .n) (p .before .party-of .result) (p .before .party-of .ensures)
+    let i = far-entries l m (a .e) (a .s) (a .sges) x (a .w) (a .n) (p .before .far-party .result) (p .before .far-party .ensures)
     (p .before .before .far-mask .result) (p .before .before .far-mask .ensures) (f .far-sges .result)
     (k .far-count .result) (k .far-count .ensures) (f .far-sges .ensures) (p .sges-permitted .result) (p .sges-permitted .ensures) in
-    let y = carries l m (a .e) (a .s) x (a .sges) (a .w) (a .n) (b .pre .1 .2) (sym (f .before .before .fits-receive .ensures) ∙ not-false _ (f .before .if1 .left))
+    let y = carries l m (a .e) (a .s) (a .sges) x (a .w) (a .n) (b .pre .1 .2) (sym (f .before .before .fits-receive .ensures) ∙ not-false _ (f .before .if1 .left))
     (sym j ∙ not-false _ (c .before .if2 .left)) _ i (b .pre .1 .1) in
     ((b .pre .0, count-most (a .s .opcode) (a .w) (b .pre .1 .0) (k .far-count .result) (k .far-count .ensures), b .pre .1 .1 .plain), y)
 
@@ -86,17 +86,17 @@ returns-3 c =
     let a = b .args in
     let l = now (a .state) in
     let m = now (a .memory) in
-    let x = now (a .sent) in
+    let x = now (a .inline) in
     let p = c .before .before .before .before .before in
     let k = p .before .before .before in
     let f = k .before in
-    let j = far-judged l m (a .e) (a .s) x (a .sges) (a .w) (a .n) (p .before .party-of .result) (p .before .party-of .ensures)
+    let j = far-judged l m (a .e) (a .s) (a .sges) x (a .w) (a .n) (p .before .far-party .result) (p .before .far-party .ensures)
     (p .before .before .far-mask .result) (p .before .before .far-mask .ensures) (f .far-sges .result)
     (k .far-count .result) (k .far-count .ensures) (f .far-sges .ensures) (p .sges-permitted .result) (p .sges-permitted .ensures) in
-    let i = far-entries l m (a .e) (a .s) x (a .sges) (a .w) (a .n) (p .before .party-of .result) (p .before .party-of .ensures)
+    let i = far-entries l m (a .e) (a .s) (a .sges) x (a .w) (a .n) (p .before .far-party .result) (p .before .far-party .ensures)
     (p .before .before .far-mask .result) (p .before .before .far-mask .ensures) (f .far-sges .result)
     (k .far-count .result) (k .far-count .ensures) (f .far-sges .ensures) (p .sges-permitted .result) (p .sges-permitted .ensures) in
-    all-moved l m (a .e) (a .s) x (a .sges) (a .w) (a .n) (b .pre .1 .2) (sym (f .before .before .fits-receive .ensures) ∙ not-false _ (f .before .if1 .left))
+    all-moved l m (a .e) (a .s) (a .sges) x (a .w) (a .n) (b .pre .1 .2) (sym (f .before .before .fits-receive .ensures) ∙ not-false _ (f .before .if1 .left))
     (sym j ∙ not-false _ (c .before .before .before .before .if2 .left)) _ i _ (c .before .before .move-bytes .ensures)
 
 pub deliver-far-spec : {M : Type 1} → statement M
@@ -108,7 +108,7 @@ deliver-far-spec =
     far-sges-requires
     far-count-requires
     far-mask-requires
-    party-of-requires
+    far-party-requires
     sges-permitted-requires
     fills-receive-requires
     choose-requires

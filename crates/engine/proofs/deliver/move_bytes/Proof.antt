@@ -1,48 +1,33 @@
-use mathlib.Core.Path.{_≡_, sym, ap, _∙_}
+use mathlib.Core.Path.{_≡_, sym, _∙_}
 use mathlib.Core.Bool.{true, false}
 use Rattle.tables.specs.Records.{isInline}
 use denote.Ref.{now}
-use mathlib.Core.List.{List}
-use Prim.Native.Nat.{ℕ}
-use lib.ListN.{length, take}
+use lib.ListN.{take}
 use borrow.Author.Tests.{eq-eqb, ne-eqb}
 use Rattle.tables.specs.State.{card}
-use Rattle.rules.specs.Lists.{stored}
-use Rattle.dma.specs.Moves.{places}
 use Rattle.engine.proofs.MoveLaws.{there, back}
 use borrow.Author.Needs.{needs}
 use Rattle.engine.proofs.deliver.move_bytes.Statement.{statement}
 use Rattle.engine.proofs.deliver.move_bytes.Tie as tie
-use Rattle.rules.specs.Touch.{sgeTotal}
 
 is-inline-requires : tie.Need-is-inline-requires
 is-inline-requires c κs = search needs
 
-inline-bytes-requires : tie.Need-inline-bytes-requires
-inline-bytes-requires c κs = search needs
-
 scatter-inline-requires : tie.Need-scatter-inline-requires
 scatter-inline-requires c κs =
-    let b = c .before .before .before .before .before .before .before in
-    let a = b .args in
+    let b = c .before .before .before .before .before .before in
     let k = b .pre .1 in
-    let h = k .short (sym (c .before .before .before .is-inline .ensures) ∙ c .before .before .if1 .taken) in
-    let z : length (now (c .before .inline-bytes .result)) ≡ sgeTotal (take (a .count) (a .far)) = ap (λ (v : List ℕ). length v) (c .before .inline-bytes .ensures) ∙ h .1 in
-    (b .pre .0 .0, (b .pre .0 .1, k .target, sym z, rw z (h .0)))
+    let h = k .short (sym (c .before .before .is-inline .ensures) ∙ c .before .if1 .taken) in
+    (b .pre .0 .0, (b .pre .0 .1, k .target, sym (h .1), h .0))
 
 same-length : tie.Need-same-length
 same-length c = search needs
 
 returns : tie.Need-returns
 returns c =
-    let b = c .before .before .before .before .before .before .before .before .before .before in
-    let a = b .args in
-    let k = b .pre .1 in
-    let e : isInline (a .s) ≡ true = sym (c .before .before .before .before .before .before .is-inline .ensures)
-    ∙ c .before .before .before .before .before .if1 .taken in
-    rw e (c .before .before .scatter-inline .ensures ∙ ap
-    (λ (v : List ℕ). stored (now (a .memory)) (places (card (now (a .state))) (take (a .count) (a .far))) v)
-    (c .before .before .before .before .inline-bytes .ensures))
+    let b = c .before .before .before .before .before .before .before .before .before in
+    let e : isInline (b .args .s) ≡ true = sym (c .before .before .before .before .before .is-inline .ensures) ∙ c .before .before .before .before .if1 .taken in
+    rw e (c .before .before .scatter-inline .ensures)
 
 cast-own : tie.Need-cast-own
 cast-own c = search needs
@@ -58,7 +43,7 @@ transfer-requires c κs =
       (
         b .pre .0 .1,
         b .pre .0 .2 e,
-        back (card (now (a .state))) (a .s) (now (a .sent)) (take (a .s .count) (a .sges))
+        back (card (now (a .state))) (a .s) (now (a .inline)) (take (a .s .count) (a .sges))
             (take (a .count) (a .far)) k e,
       ),
     )
@@ -86,7 +71,7 @@ transfer-requires-2 c κs =
       (
         b .pre .0 .2 e,
         b .pre .0 .1,
-        there (card (now (a .state))) (a .s) (now (a .sent)) (take (a .s .count) (a .sges))
+        there (card (now (a .state))) (a .s) (now (a .inline)) (take (a .s .count) (a .sges))
             (take (a .count) (a .far)) k e,
       ),
     )
@@ -108,7 +93,6 @@ move-bytes-spec =
     tie.close
     (tie.spec
     is-inline-requires
-    inline-bytes-requires
     scatter-inline-requires
     same-length
     returns

@@ -13,23 +13,23 @@ returns : tie.Need-returns
 unfolding all
 returns c = let e : isInline (c .before .before .before .args .s) ≡ true = sym (c .before .is-inline .ensures) ∙ c .if1 .taken in rw e
 
-choose-requires : tie.Need-choose-requires
-choose-requires c κs = search needs
+own-mask-requires : tie.Need-own-mask-requires
+own-mask-requires c κs = search needs
 
 cast-sges-permitted : tie.Need-cast-sges-permitted
 cast-sges-permitted c = search needs
 
 sges-permitted-requires : tie.Need-sges-permitted-requires
 sges-permitted-requires c κs =
-    let e : isInline (c .before .before .before .before .before .before .args .s) ≡ false = sym (c .before .before .before .before .is-inline .ensures)
-    ∙ c .before .before .before .if1 .left in
-    (c .before .before .before .before .before .before .pre .1 e, c .before .before .before .before .before .before .pre .0)
+    let b = c .before .before .before .before .before in
+    let e : isInline (b .args .s) ≡ false = sym (c .before .before .before .is-inline .ensures) ∙ c .before .before .if1 .left in
+    (b .pre .1 e, b .pre .0)
 
 returns-2 : tie.Need-returns-2
 returns-2 c =
-    let e : isInline (c .before .before .before .before .before .before .before .args .s) ≡ false = sym
-    (c .before .before .before .before .before .is-inline .ensures) ∙ c .before .before .before .before .if1 .left in
-    rw (e, c .sges-permitted .ensures, c .before .before .choose .ensures)
+    let b = c .before .before .before .before .before .before in
+    let e : isInline (b .args .s) ≡ false = sym (c .before .before .before .before .is-inline .ensures) ∙ c .before .before .before .if1 .left in
+    rw (e, c .sges-permitted .ensures, c .before .before .own-mask .ensures)
 
 pub own-permitted-spec : {M : Type 1} → statement M
 own-permitted-spec =
@@ -37,7 +37,7 @@ own-permitted-spec =
     (tie.spec
     is-inline-requires
     returns
-    choose-requires
+    own-mask-requires
     cast-sges-permitted
     sges-permitted-requires
     returns-2)

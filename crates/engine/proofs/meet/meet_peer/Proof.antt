@@ -5,9 +5,6 @@ use borrow.Author.Needs.{needs}
 use Rattle.engine.proofs.meet.meet_peer.Statement.{statement}
 use Rattle.engine.proofs.meet.meet_peer.Tie as tie
 
-cast-load-waiting : tie.Need-cast-load-waiting
-cast-load-waiting c = search needs
-
 load-waiting-requires : tie.Need-load-waiting-requires
 load-waiting-requires c κs = search needs
 
@@ -16,7 +13,7 @@ takes-receive-requires c κs = search needs
 
 returns : tie.Need-returns
 returns c =
-    let a = c .before .before .before .before .before .before .args in
+    let a = c .before .before .before .before .before .args in
     none-waits (now (a .state)) (a .e) (a .opcode) _ (c .before .before .takes-receive .ensures) _ (c .before .before .before .load-waiting .ensures)
     (c .if1 .taken)
 
@@ -25,14 +22,14 @@ has-places-requires c κs = search needs
 
 returns-2 : tie.Need-returns-2
 returns-2 c =
-    let a = c .before .before .before .before .before .before .before .before .args in
+    let a = c .before .before .before .before .before .before .before .args in
     no-place (now (a .state)) (a .e) (a .opcode) _ (c .before .before .before .before .takes-receive .ensures) _
     (c .before .before .before .before .before .load-waiting .ensures) (c .before .before .if1 .left) _ (c .before .has-places .ensures)
     (not-true _ (c .if2 .taken))
 
 returns-3 : tie.Need-returns-3
 returns-3 c =
-    let a = c .before .before .before .before .before .before .before .before .args in
+    let a = c .before .before .before .before .before .before .before .args in
     ends-meet (now (a .state)) (a .e) (a .opcode) _ (c .before .before .before .before .takes-receive .ensures) _
     (c .before .before .before .before .before .load-waiting .ensures) (c .before .before .if1 .left) _ (c .before .has-places .ensures)
     (not-false _ (c .if2 .left))
@@ -41,7 +38,6 @@ pub meet-peer-spec : {M : Type 1} → statement M
 meet-peer-spec =
     tie.close
     (tie.spec
-    cast-load-waiting
     load-waiting-requires
     takes-receive-requires
     returns

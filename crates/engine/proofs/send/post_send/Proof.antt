@@ -10,7 +10,7 @@ use Rattle.validate.proofs.AcceptedLaws.{accepted}
 use Rattle.tables.specs.State.{card}
 use Rattle.tables.proofs.ObjectLaws.{memory-is}
 use Rattle.engine.proofs.OwedLaws.{not-accepted, other-memory, bad-record, ran}
-use Rattle.engine.proofs.EndLaws.{posted}
+use Rattle.engine.proofs.RecordLaws.{posted, long-enough, bounded, ran-record}
 use borrow.Author.Needs.{needs}
 use Rattle.engine.proofs.send.post_send.Statement.{statement}
 use Rattle.engine.proofs.send.post_send.Tie as tie
@@ -59,9 +59,18 @@ read-send-requires c κs = search needs
 enum-known-s : tie.Need-enum-known-s
 enum-known-s c = search needs
 
+send-sges-requires : tie.Need-send-sges-requires
+send-sges-requires c κs = search needs
+
+inline-bytes-requires : tie.Need-inline-bytes-requires
+inline-bytes-requires c κs =
+    let r = c .before .before .before .before in
+    let x : List ℕ = now (r .before .before .before .before .before .before .before .before .before .before .args .sent) in
+    long-enough x (posted x _ (sym (c .before .before .s .given .1) ∙ r .read-send .ensures) .good)
+
 send-checked-requires : tie.Need-send-checked-requires
 send-checked-requires c κs =
-    let r = c .before .before .before .before .before in
+    let r = c .before .before .before .before .before .before .before in
     let t = r .before .before .before .before .before in
     let b = t .before .before .before .before .before in
     let a = b .args in
@@ -71,7 +80,8 @@ send-checked-requires c κs =
     let y : accepts l ≡ true = sym (t .accepted .ensures) ∙ not-false _ (r .before .before .before .before .if1 .left) in
     let v : length m ≡ card l .memory = r .before .if2 .left ∙ r .before .before .load-memory .ensures ∙ sym (memory-is l) in (
       record { accepted = y; size = accepted l y .sized; whole = v ∙ memory-is l },
-      posted x _ (sym (c .before .before .before .s .given .1) ∙ r .read-send .ensures),
+      rw (c .before .before .inline-bytes .ensures)
+          (bounded x _ (posted x _ (sym (c .before .before .before .before .before .s .given .1) ∙ r .read-send .ensures))),
     )
 
 enum-known-n : tie.Need-enum-known-n
@@ -85,7 +95,9 @@ same-length-4 c = search needs
 
 returns-3 : tie.Need-returns-3
 returns-3 c =
-    let r = c .before .before .before .before .before .before .before .before .before .before in
+    let k = c .before .before .before .before in
+    let i = k .before .before .before in
+    let r = i .before .before .before .before .before in
     let t = r .before .before .before .before .before in
     let b = t .before .before .before .before .before in
     let a = b .args in
@@ -94,7 +106,9 @@ returns-3 c =
     let x : List ℕ = now (a .sent) in
     let y : accepts l ≡ true = sym (t .accepted .ensures) ∙ not-false _ (r .before .before .before .before .if1 .left) in
     let v : length m ≡ card l .memory = r .before .if2 .left ∙ r .before .before .load-memory .ensures ∙ sym (memory-is l) in
-    ran l (a .qpn) x m y v (posted x _ (sym (c .before .before .before .before .before .before .before .before .s .given .1) ∙ r .read-send .ensures) .good) _ _ _ (c .before .before .before .before .send-checked .ensures)
+    let p = posted x _ (sym (i .before .before .before .s .given .1) ∙ r .read-send .ensures) in
+    ran l (a .qpn) x m y v (p .good) _ _ _
+    (ran-record x _ p l (a .qpn) m _ (i .before .send-sges .ensures) _ (i .inline-bytes .ensures) _ _ _ (k .send-checked .ensures))
 
 same-length-5 : tie.Need-same-length-5
 same-length-5 c = search needs
@@ -124,6 +138,8 @@ post-send-spec =
     returns-2
     read-send-requires
     enum-known-s
+    send-sges-requires
+    inline-bytes-requires
     send-checked-requires
     enum-known-n
     same-length-3

@@ -1,10 +1,10 @@
-use mathlib.Core.Path.{sym, _∙_}
+use mathlib.Core.Path.{refl, sym, _∙_}
 use denote.Ref.{now}
 use mathlib.Core.List.{List}
 use Prim.Native.Nat.{ℕ}
-use Rattle.rules.specs.Touch.{requestOf}
-use Rattle.engine.proofs.EndLaws.{is-met, ran-on, stopped, opcode-is, flush-asks, ran-flush}
-use native.Mathlib.Omega.{arith}
+use Rattle.rules.specs.Touch.{Request}
+use Rattle.engine.specs.Send.{requestBy}
+use Rattle.engine.proofs.EndLaws.{is-met, ran-on, stopped, flush-asks, ran-flush}
 use borrow.Author.Needs.{needs}
 use Rattle.engine.proofs.send.send_checked.Statement.{statement}
 use Rattle.engine.proofs.send.send_checked.Tie as tie
@@ -19,9 +19,7 @@ carry-out-requires : tie.Need-carry-out-requires
 carry-out-requires c κs =
     let b = c .before .before .before .before .before .before .before .before .before .before in
     let a = b .args in
-    let l : List ℕ = now (a .state) in
-    let m : List ℕ = now (a .memory) in
-    let x : List ℕ = now (a .sent) in (
+    let l : List ℕ = now (a .state) in (
       b .pre .0,
       (
         b .pre .1,
@@ -33,12 +31,12 @@ carry-out-requires c κs =
 enum-known-own : tie.Need-enum-known-own
 enum-known-own c = search needs
 
-put-sender-requires : tie.Need-put-sender-requires
-put-sender-requires c κs =
+put-work-requires : tie.Need-put-work-requires
+put-work-requires c κs =
     let b = c .before .before .before .before .before .before .before .before .before in
     let a = b .args in
     let i = sym (c .before .before .own .given .1) ∙ c .before .before .before .before .meet .ensures in
-    (flush-asks (now (a .state)) (now (a .memory)) (now (a .sent)) (a .s) (a .qpn) (b .pre .0 .accepted) (b .pre .1) _ i, λ z. omega arith)
+    flush-asks (now (a .state)) (now (a .memory)) (a .qpn) (b .pre .0 .accepted) (a .s) (a .sges) (now (a .inline)) (search needs) _ i
 
 enum-known-a : tie.Need-enum-known-a
 enum-known-a c = search needs
@@ -55,8 +53,8 @@ returns c =
     let a = b .args in
     let l : List ℕ = now (a .state) in
     let m : List ℕ = now (a .memory) in
-    let x : List ℕ = now (a .sent) in
-    ran-on l (a .qpn) (a .s .opcode) (requestOf x) (opcode-is x (a .s) (b .pre .1)) m _
+    let r : Request = requestBy (a .s) (a .sges) (now (a .inline)) in
+    ran-on l (a .qpn) (a .s .opcode) r refl m _
     (sym (c .before .before .before .before .before .before .before .before .e .given .1)
     ∙ c .before .before .before .before .before .before .before .before .before .before .meet .ensures) _ _ _
     (c .before .before .before .before .carry-out .ensures)
@@ -69,8 +67,8 @@ returns-2 c =
     let b = c .before .before .before .before .before .before .before .before .before .before .before .before in
     let a = b .args in
     let i = sym (c .before .before .before .before .before .own .given .1) ∙ c .before .before .before .before .before .before .before .meet .ensures in
-    ran-flush (now (a .state)) (now (a .memory)) (now (a .sent)) (a .s) (a .qpn) (b .pre .0 .accepted) (b .pre .1) _ i _
-    (c .before .before .put-sender .ensures)
+    ran-flush (now (a .state)) (now (a .memory)) (a .qpn) (b .pre .0 .accepted) (a .s) (a .sges) (now (a .inline)) (search needs) _ i _
+    (c .before .before .put-work .ensures)
 
 same-length-4 : tie.Need-same-length-4
 same-length-4 c = search needs
@@ -81,8 +79,8 @@ returns-3 c =
     let a = b .args in
     let l : List ℕ = now (a .state) in
     let m : List ℕ = now (a .memory) in
-    let x : List ℕ = now (a .sent) in
-    stopped l (a .qpn) (a .s .opcode) (requestOf x) (opcode-is x (a .s) (b .pre .1)) m _
+    let r : Request = requestBy (a .s) (a .sges) (now (a .inline)) in
+    stopped l (a .qpn) (a .s .opcode) r refl m _
     (sym (c .before .a .given .1) ∙ c .before .before .before .meet .ensures)
 
 pub send-checked-spec : {M : Type 1} → statement M
@@ -93,7 +91,7 @@ send-checked-spec =
     enum-known-e
     carry-out-requires
     enum-known-own
-    put-sender-requires
+    put-work-requires
     enum-known-a
     same-length
     same-length-2

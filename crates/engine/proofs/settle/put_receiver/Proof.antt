@@ -37,7 +37,7 @@ push-completion-requires c κs =
     let b = c .before .before .before .before .before .before .before .before .before .before .before .before in
     let k = b .pre .1 (sym (c .before .before .before .before .before .before .before .before .before .before .is-consumed .ensures) ∙ not-false _
     (c .before .before .before .before .before .before .before .before .before .if1 .left)) in
-    (k .0, b .pre .0 .1, k .1)
+    (k .0, b .pre .0 .2, k .1)
 
 same-length : tie.Need-same-length
 same-length c = search needs

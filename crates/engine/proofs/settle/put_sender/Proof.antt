@@ -7,43 +7,21 @@ use Rattle.engine.proofs.settle.put_sender.Tie as tie
 returns : tie.Need-returns
 returns c = let a = c .before .before .before .before .args in put-silent (now (a .state)) (a .q) (a .own) (a .s) (a .st) (a .n) (c .if1 .taken)
 
-sender-opcode-requires : tie.Need-sender-opcode-requires
-sender-opcode-requires c κs = search needs
-
 told-length-requires : tie.Need-told-length-requires
 told-length-requires c κs = search needs
 
-cast-t16 : tie.Need-cast-t16
-cast-t16 c = search needs
-
-cast-push-completion : tie.Need-cast-push-completion
-cast-push-completion c = search needs
-
-push-completion-requires : tie.Need-push-completion-requires
-push-completion-requires c κs = search needs
+put-work-requires : tie.Need-put-work-requires
+put-work-requires c κs = search needs
 
 same-length : tie.Need-same-length
 same-length c = search needs
 
 returns-2 : tie.Need-returns-2
 returns-2 c =
-    let a = c .before .before .before .before .before .before .before .before .before .before .before .args in
-    rw (
-      c .before .before .push-completion .ensures,
-      c .before .before .before .before .before .told-length .ensures,
-      c .before .before .before .before .before .before .sender-opcode .ensures,
-    )
-    (put-told (now (a .state)) (a .q) (a .own) (a .s) (a .st) (a .n) (c .before .before .before .before .before .before .before .if1 .left))
+    let a = c .before .before .before .before .before .before .before .before .before .args in
+    rw (c .before .before .put-work .ensures, c .before .before .before .told-length .ensures)
+    (put-told (now (a .state)) (a .q) (a .own) (a .s) (a .st) (a .n) (c .before .before .before .before .before .if1 .left))
 
 pub put-sender-spec : {M : Type 1} → statement M
 put-sender-spec =
-    tie.close
-    (tie.spec
-    returns
-    sender-opcode-requires
-    told-length-requires
-    cast-t16
-    cast-push-completion
-    push-completion-requires
-    same-length
-    returns-2)
+    tie.close (tie.spec returns told-length-requires put-work-requires same-length returns-2)

@@ -10,16 +10,13 @@ use borrow.Author.Needs.{needs}
 use Rattle.engine.proofs.settle.settle.Statement.{statement}
 use Rattle.engine.proofs.settle.settle.Tie as tie
 
-cast-d : tie.Need-cast-d
-cast-d c = search needs
-
 put-sender-requires : tie.Need-put-sender-requires
 put-sender-requires c κs = search needs
 
 put-receiver-requires : tie.Need-put-receiver-requires
 put-receiver-requires c κs =
-    let p = c .before .before .before .before .before .before .before .pre in
-    ((p .count, search needs, p .short), λ t. rw (c .before .before .before .put-sender .ensures) (p .second t))
+    let p = c .before .before .before .before .before .before .pre in
+    ((p .far, p .count, search needs, p .short), λ t. rw (c .before .before .before .put-sender .ensures) (p .second t))
 
 fail-if-requires : tie.Need-fail-if-requires
 fail-if-requires c κs = search needs
@@ -29,7 +26,7 @@ is-consumed-requires c κs = search needs
 
 consume-if-requires : tie.Need-consume-if-requires
 consume-if-requires c κs =
-    let p = c .before .before .before .before .before .before .before .before .before .before .before .before .before .before .before .before .pre in (
+    let p = c .before .before .before .before .before .before .before .before .before .before .before .before .before .before .before .pre in (
       p .far,
       search needs,
       λ t. rw (
@@ -53,8 +50,8 @@ returns c =
     let own = took .before .before .before .before .before in
     let second = own .before .before .before .before in
     let first = second .before .before .before .before in
-    let a = first .before .before .before .before .args in
-    let d : ℕ = a .e .own .dest in
+    let a = first .before .before .before .args in
+    let d : ℕ = a .e .d in
     far .fail-if2 .ensures
     ∙ ap (λ (x : List ℕ). errorBytes (eqb (a .st) 7) x d)
     (took .consume-if .ensures ∙ ap (λ (t : Bool). consumeBytes t (own .fail-if .last .0) d) (took .before .is-consumed .ensures)
@@ -67,7 +64,6 @@ pub settle-spec : {M : Type 1} → statement M
 settle-spec =
     tie.close
     (tie.spec
-    cast-d
     put-sender-requires
     put-receiver-requires
     fail-if-requires

@@ -1,0 +1,72 @@
+-- A request of one entry whose other side is the remote range: what the code finds of it without an array, and that it fares as any. Assumes nothing.
+use mathlib.Core.Path.{_≡_, sym, ap, _∙_}
+use mathlib.Core.Bool.{Bool, true, false, not, _&&_, false≢true}
+use mathlib.Core.List.{List, [], _∷_}
+use Prim.Native.Nat.{ℕ}
+use native.Mathlib.Omega.{arith}
+use lib.Dec.{eqb}
+use lib.ListN.{take}
+use borrow.Author.Tests.{eqb-true, not-true}
+use Rattle.wire.proofs.ScanLaws.{and-left, and-right}
+use Rattle.tables.specs.Records.{isInline}
+use Rattle.tables.specs.State.{card, noRecord}
+use Rattle.tables.specs.declared.ReceiveRecord.{ReceiveRecord}
+use Rattle.tables.specs.declared.SendRecord.{SendRecord}
+use Rattle.tables.specs.declared.Sge.{Sge}
+use Rattle.rules.specs.Touch.{fills, range, sgeBytes}
+use Rattle.rules.specs.declared.Party.{Party}
+use Rattle.dma.specs.Grants.{allowsAll}
+use Rattle.dma.proofs.SgeLaws.{one-bytes, one-total}
+use Rattle.engine.specs.Deliver.{isSingle, partyIn, ownMask, farMask, ownBy, farList, Sending, Delivery}
+use Rattle.engine.specs.declared.meet.Ends.{Ends}
+
+module _ (s : SendRecord) (i : isSingle s ≡ true) where
+  abbrev lone : Bool
+  lone = not (isInline s) && eqb (s .count) 1
+
+  pub plain : isInline s ≡ false
+  plain = not-true (isInline s) (and-left (not (isInline s)) (eqb (s .count) 1) (and-left lone (not (fills (s .opcode))) i))
+
+  pub one : s .count ≡ 1
+  one = eqb-true (s .count) 1 (and-right (not (isInline s)) (eqb (s .count) 1) (and-left lone (not (fills (s .opcode))) i))
+
+  pub unfilled : fills (s .opcode) ≡ false
+  unfilled = not-true (fills (s .opcode)) (and-right lone (not (fills (s .opcode))) i)
+
+  module _ (a : Sge) where
+    pub list-is : take (s .count) (a ∷ []) ≡ a ∷ []
+    list-is = ap (λ (k : ℕ). take k (a ∷ [])) one
+
+    own-range : ownBy s (a ∷ []) ≡ range (a .address) (a .key) (a .length)
+    own-range = rw (plain, list-is) (one-bytes a)
+
+    far-range : sgeBytes (farList s noRecord (a .length)) ≡ range (s .address) (s .key) (a .length)
+    far-range = rw unfilled (one-bytes (record { address = s .address; length = a .length; key = s .key }))
+
+    pub single-sending : Sending s (a ∷ []) [] (a .length)
+    single-sending =
+        record {
+          plain = λ e. omega (arith, one);
+          short = λ e. absurd (false≢true (sym plain ∙ e));
+          total = rw (plain, list-is) (one-total a);
+        }
+
+    module _ (l m : List ℕ) (e : Ends) where
+      -- the judgements of both sides, as the code has them
+      pub own-judged : (p : Party) → p ≡ partyIn (e .own) → (mask : ℕ) → mask ≡ ownMask (s .opcode) → (b : Bool) →
+          b ≡ allowsAll (card l) p mask (range (a .address) (a .key) (a .length)) → b ≡ allowsAll (card l) (partyIn (e .own)) (ownMask (s .opcode)) (ownBy s (a ∷ []))
+      own-judged p who mask is b j = rw own-range (rw (who, is) at j)
+
+      pub far-judged : (p : Party) → p ≡ partyIn (e .far) → (mask : ℕ) → mask ≡ farMask (s .opcode) → (b : Bool) →
+          b ≡ allowsAll (card l) p mask (range (s .address) (s .key) (a .length)) →
+          b ≡ allowsAll (card l) (partyIn (e .far)) (farMask (s .opcode)) (sgeBytes (farList s noRecord (a .length)))
+      far-judged p who mask is b j = rw far-range (rw (who, is) at j)
+
+      -- the delivery of the request whose entries are sges, whatever its inline bytes and the receive are
+      pub single-same : (sges : List Sge) → take (s .count) sges ≡ a ∷ [] → (b : List ℕ) (w : ReceiveRecord) (n : ℕ) → n ≡ a .length → (st : ℕ) (m′ : List ℕ)
+          → Delivery l m e s (a ∷ []) [] noRecord (a .length) st m′ → Delivery l m e s sges b w n st m′
+      single-same sges is b w n k st m′ d =
+          record {
+            status = rw (k, unfilled, plain, is) (rw (unfilled, plain, list-is) at (d .status));
+            memory = rw (k, unfilled, plain, is) (rw (unfilled, plain, list-is) at (d .memory));
+          }
