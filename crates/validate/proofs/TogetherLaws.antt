@@ -4,7 +4,7 @@ use mathlib.Core.Bool.{Bool, true, false, _&&_, _||_}
 use mathlib.Core.List.{List}
 use mathlib.Core.Logic.{_⊎_, ⊎-elim, inl, inr}
 use Prim.Native.Nat.{ℕ, zero, suc, _+_, _-_, _*_, _/_, _%_, _^_, _≤_, _<_}
-use native.Mathlib.Nat.{mul-one, add-zero}
+use native.Mathlib.Nat.{mul-one, add-zero, mod-lt}
 use native.Mathlib.Decide.{decLe, decLt}
 use native.Mathlib.Omega.{arith}
 use lib.Dec.{eqb, ltb, leb}
@@ -12,16 +12,18 @@ use lib.ListN.{getD}
 use borrow.Author.Tests.{eq-eqb, eqb-true, le-leb, lt-leb, leb-true, lt-ltb, le-ltb, ltb-true, not-false}
 use Rattle.wire.specs.Codec.{fieldsAt}
 use Rattle.wire.specs.Le.{leAt}
-use Rattle.wire.specs.Scan.{allBelow, lowest, clearAt}
+use Rattle.wire.specs.Ring.{ringList}
+use Rattle.wire.specs.Scan.{all, allBelow, lowest, clearAt}
 use Rattle.wire.specs.Table.{rowAt, place}
 use Rattle.wire.proofs.LeLaws.{leAt-below}
-use Rattle.wire.proofs.ScanLaws.{all-each, all-at, lowest-least, and-left, and-right, both-true}
-use Rattle.tables.specs.Layout.{memoryT, pdFlagT, pdFlagBase, mrFlagT, mrFlagBase, mrT, mrBase, pageT, flagCodec, regionCodec}
-use Rattle.tables.specs.Limits.{pdCount, mostAddress, mostAccess, pageSize, mostPages}
-use Rattle.tables.specs.State.{card, regionAt, pagesAt, pagesNeeded}
+use Rattle.wire.proofs.ScanLaws.{all-each, all-at, all-nil, all-cons, lowest-least, and-left, and-right, both-true}
+use Rattle.tables.specs.Layout.{memoryT, pdFlagT, pdFlagBase, mrFlagT, mrFlagBase, mrT, mrBase, pageT, entryT, receiveT, flagCodec, regionCodec}
+use Rattle.tables.specs.Limits.{pdCount, qpCount, mostPlaces, mostWaiting, mostMessage, mostAddress, mostAccess, pageSize, mostPages}
+use Rattle.tables.specs.State.{card, regionAt, pagesAt, pagesNeeded, ringAt, receivesAt, noCompletion, noRecord}
+use Rattle.tables.specs.declared.Completion.{Completion}
 use Rattle.tables.specs.declared.Region.{Region}
-use Rattle.tables.proofs.ObjectLaws.{pd-is, page-at}
-use Rattle.validate.specs.Accept.{accessOk, fieldsOk, landOk, mrOk}
+use Rattle.tables.proofs.ObjectLaws.{pd-is, page-at, entry-at, receive-at}
+use Rattle.validate.specs.Accept.{accessOk, fieldsOk, landOk, mrOk, completionOk, receiveOk}
 use Rattle.validate.specs.Together.{eightOk, variantOk, virtOk, firstWord, wordsOk, wordOk, rangeOk, rowOk}
 use Rattle.validate.proofs.BitLaws.{Between}
 use Rattle.validate.proofs.TestLaws.{mr-rest, need-most, paged-rest, land-flat, land-paged}
@@ -251,3 +253,33 @@ module _ (l : List ℕ) where
   pub live-pds : pdCount ≤ lowest 8 (clearAt l pdFlagBase) → allBelow pdCount (card l .pd) ≡ true
   unfolding rowAt pdFlagT flagCodec fieldsAt place
   live-pds h = all-each pdCount (card l .pd) (λ i b. pd-is l i b ∙ rw (mul-one, add-zero) (set-at pdFlagBase i h b))
+
+-- ---- rings
+
+-- a ring whose places all pass, passes from any place on
+ring-each : {A : Type 0} (d : A) (cap : ℕ) (p : A → Bool) (r : List A) → ((k : ℕ) → k < cap → p (getD r k d) ≡ true) → (f n : ℕ) → f < cap
+    → all p (ringList d cap r f n) ≡ true
+unfolding ringList
+ring-each d cap p r h f zero b = all-nil p
+ring-each d cap p r h f (suc n) b =
+    all-cons p (getD r f d) (ringList d cap r ((f + 1) % cap) n)
+    ∙ both-true (p (getD r f d)) (all p (ringList d cap r ((f + 1) % cap) n)) (h f b) (ring-each d cap p r h ((f + 1) % cap) n (mod-lt (f + 1) (omega arith)))
+
+module _ (l : List ℕ) (n : ℕ) where
+  pub unread-by : allBelow mostPlaces (λ k. completionOk (rowAt entryT l (mostPlaces * n + k))) ≡ true → (f c : ℕ) → f < mostPlaces
+      → all completionOk (ringList noCompletion mostPlaces (ringAt l n) f c) ≡ true
+  unread-by h f c b =
+      ring-each noCompletion mostPlaces completionOk (ringAt l n)
+      (λ k m. rw (entry-at l n k m) (all-at mostPlaces (λ k. completionOk (rowAt entryT l (mostPlaces * n + k))) k m h)) f c b
+
+  pub posted-by : allBelow mostWaiting (λ k. receiveOk (rowAt receiveT l (mostWaiting * n + k))) ≡ true → (f c : ℕ) → f < mostWaiting
+      → all receiveOk (ringList noRecord mostWaiting (receivesAt l n) f c) ≡ true
+  posted-by h f c b =
+      ring-each noRecord mostWaiting receiveOk (receivesAt l n)
+      (λ k m. rw (receive-at l n k m) (all-at mostWaiting (λ k. receiveOk (rowAt receiveT l (mostWaiting * n + k))) k m h)) f c b
+
+-- a completion by what the statuses, the opcodes and the owners of several are at most
+pub completion-by : (e : Completion) (statuses opcodes owners : ℕ) → statuses ≤ 1 → opcodes ≤ 4 → owners < qpCount → e .status ≤ statuses → e .opcode ≤ opcodes
+    → e .owner ≤ owners → e .length ≤ mostMessage → completionOk e ≡ true
+completion-by e statuses opcodes owners a b c x y z m =
+    rw (le-leb (e .status) 1 (omega arith), le-leb (e .opcode) 4 (omega arith), le-leb (e .length) mostMessage m, lt-ltb (e .owner) qpCount (omega arith))

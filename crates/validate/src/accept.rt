@@ -213,6 +213,9 @@ fn entries_ok(state: &[u8], n: usize, h: QueueHead) -> bool
     requires { ⌜ (n < cqCount) × (h .first < mostPlaces) × (length (now state) ≡ stateSize) ⌝ }
     ensures { λ x. ⌜ x ≡ all completionOk (ringList noCompletion mostPlaces (ringAt (now (state .entry)) n) (h .first) (h .count)) ⌝ }
 {
+    if together::completions_pass(state, n, h.count) {
+        return true;
+    }
     let mut at = h.first as usize;
     let mut left = h.count;
     while 0 < left {
@@ -230,6 +233,9 @@ fn receives_ok(state: &[u8], n: usize, h: WaitingHead) -> bool
     requires { ⌜ (n < qpCount) × (h .first < mostWaiting) × (length (now state) ≡ stateSize) ⌝ }
     ensures { λ x. ⌜ x ≡ all receiveOk (ringList noRecord mostWaiting (receivesAt (now (state .entry)) n) (h .first) (h .count)) ⌝ }
 {
+    if together::receives_pass(state, n, h.count) {
+        return true;
+    }
     let mut at = h.first as usize;
     let mut left = h.count;
     while 0 < left {

@@ -2,12 +2,19 @@
 // state test looks at the rows one by one.
 use tables::Region;
 use tables::limits::FLAT;
+use tables::limits::LOCAL_LENGTH;
 use tables::limits::MOST_ACCESS;
 use tables::limits::MOST_ADDRESS;
+use tables::limits::MOST_MESSAGE;
 use tables::limits::MOST_PAGES;
+use tables::limits::MOST_PLACES;
+use tables::limits::MOST_RECEIVE_SGES;
+use tables::limits::MOST_WAITING;
 use tables::limits::PAGE_SIZE;
 use tables::limits::PAGED;
 use tables::limits::PD_COUNT;
+use tables::limits::QP_COUNT;
+use tables::limits::RECEIVED_WRITE;
 use tables::rows;
 ghost use mathlib.Core.Path.{_≡_};
 ghost use mathlib.Core.Bool.{true, cond};
@@ -16,11 +23,16 @@ ghost use lib.Dec.{eqb, ltb, leb};
 ghost use lib.ListN.{length};
 ghost use Rattle.wire.specs.Scan.{allBelow};
 ghost use Rattle.wire.specs.Table.{rowAt};
-ghost use Rattle.tables.specs.Layout.{stateSize, memoryT, mrFlagT, mrT, pageT};
-ghost use Rattle.tables.specs.Limits.{pdCount, mrCount, mostPages, pageSize};
+ghost use Rattle.tables.specs.Layout.{stateSize, memoryT, mrFlagT, mrT, pageT, entryT, receiveT};
+ghost use Rattle.tables.specs.Limits.{pdCount, cqCount, mrCount, qpCount, mostPages, pageSize, mostPlaces, mostWaiting};
 ghost use Rattle.tables.specs.State.{card};
-ghost use Rattle.validate.specs.Accept.{mrOk};
+ghost use Rattle.validate.specs.Accept.{mrOk, completionOk, receiveOk};
 ghost use Rattle.validate.specs.Together.{Enough, eightOk, firstWord, wordsOk, wordOk, variantOk, virtOk, rangeOk, rowOk};
+
+// From how many unread completions and waiting receives on all places are looked at.
+const MANY_UNREAD: u8 = 8;
+
+const MANY_WAITING: u8 = 2;
 
 // ---- the rows of the eight region slots from 8 g on
 
@@ -218,4 +230,50 @@ pub fn regions_pass(state: &[u8], memory: u64, g: usize) -> bool
         return false;
     }
     live_pass(state, memory, g)
+}
+
+// ---- rings
+
+// All places of completion queue n, whatever its first is: worth it where many hold an unread completion.
+pub fn completions_pass(state: &[u8], n: usize, count: u8) -> bool
+    requires { ⌜ (n < cqCount) × (length (now state) ≡ stateSize) ⌝ }
+    ensures { λ x. ⌜ Enough x (allBelow mostPlaces (λ k. completionOk (rowAt entryT (now (state .entry)) (mostPlaces * n + k)))) ⌝ }
+{
+    if count < MANY_UNREAD {
+        return false;
+    }
+    let mut statuses: u8 = 0;
+    let mut opcodes: u8 = 0;
+    let mut owners: u32 = 0;
+    let mut k = 0;
+    while k < MOST_PLACES {
+        let e = rows::load_entry(state, MOST_PLACES * n + k);
+        if MOST_MESSAGE < e.length {
+            return false;
+        }
+        statuses = statuses | e.status;
+        opcodes = opcodes | e.opcode;
+        owners = owners | e.owner;
+        k += 1;
+    }
+    (statuses <= LOCAL_LENGTH) & (opcodes <= RECEIVED_WRITE) & (owners < QP_COUNT as u32)
+}
+
+// All places of queue pair n's receives.
+pub fn receives_pass(state: &[u8], n: usize, count: u8) -> bool
+    requires { ⌜ (n < qpCount) × (length (now state) ≡ stateSize) ⌝ }
+    ensures { λ x. ⌜ Enough x (allBelow mostWaiting (λ k. receiveOk (rowAt receiveT (now (state .entry)) (mostWaiting * n + k)))) ⌝ }
+{
+    if count < MANY_WAITING {
+        return false;
+    }
+    let mut k = 0;
+    while k < MOST_WAITING {
+        let r = rows::load_receive(state, MOST_WAITING * n + k);
+        if MOST_RECEIVE_SGES < r.count {
+            return false;
+        }
+        k += 1;
+    }
+    true
 }
