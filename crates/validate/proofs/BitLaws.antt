@@ -5,10 +5,10 @@ use native.Mathlib.Decide.{decLt}
 use native.Mathlib.Omega.{arith}
 use lib.Bits.{bitAnd, bitOr, and-le-l, and-le-r, or-add-and, and-shr, and-mod, or-shr, or-mod}
 
-or-most-l : (a b : ℕ) → a ≤ bitOr a b
+pub or-most-l : (a b : ℕ) → a ≤ bitOr a b
 or-most-l a b = omega (arith, or-add-and a b, and-le-r a b)
 
-or-most-r : (a b : ℕ) → b ≤ bitOr a b
+pub or-most-r : (a b : ℕ) → b ≤ bitOr a b
 or-most-r a b = omega (arith, or-add-and a b, and-le-l a b)
 
 -- any is at least each number that was or-ed into it

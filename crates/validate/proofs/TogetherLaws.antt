@@ -24,7 +24,7 @@ use Rattle.tables.specs.declared.Completion.{Completion}
 use Rattle.tables.specs.declared.Region.{Region}
 use Rattle.tables.proofs.ObjectLaws.{pd-is, page-at, entry-at, receive-at}
 use Rattle.validate.specs.Accept.{accessOk, fieldsOk, landOk, mrOk, completionOk, receiveOk}
-use Rattle.validate.specs.Together.{eightOk, variantOk, virtOk, firstWord, wordsOk, wordOk, rangeOk, rowOk}
+use Rattle.validate.specs.Together.{eightOk, pagesOk, variantOk, virtOk, firstWord, wordsOk, wordOk, rangeOk, rowOk}
 use Rattle.validate.proofs.BitLaws.{Between}
 use Rattle.validate.proofs.TestLaws.{mr-rest, need-most, paged-rest, land-flat, land-paged}
 
@@ -39,13 +39,21 @@ all-four n p q r s a b c d =
     all-each n (λ k. p k && q k && r k && s k)
     (λ k h. both-true (p k && q k && r k) (s k) (both-true (p k && q k) (r k) (both-true (p k) (q k) (all-at n p k h a) (all-at n q k h b)) (all-at n r k h c)) (all-at n s k h d))
 
--- the largest number so far
+-- the largest of the page numbers so far, or more
 pub max-more : (f : ℕ → ℕ) (i top new : ℕ) → top ≤ new → f i ≤ new → ((k : ℕ) → k < i → f k ≤ top) → (k : ℕ) → k < i + 1 → f k ≤ new
 max-more f i top new a b h k l =
     elim (decLt k i) [
       | yes q ↦ let x = h k q in omega arith
       | no q ↦ let z : k ≡ i = omega arith in rw z b
     ]
+
+-- page numbers that are all at most one which passes
+pub pages-by : (memory : ℕ) (l : List ℕ) (g top : ℕ) → ltb top (memory / pageSize) ≡ true → ((k : ℕ) → k < 128 → rowAt pageT l (128 * g + k) ≤ top)
+    → pagesOk memory l g ≡ true
+pages-by memory l g top e m =
+    let t : top < memory / pageSize = ltb-true top (memory / pageSize) e in
+    all-each 128 (λ k. ltb (rowAt pageT l (128 * g + k)) (memory / pageSize))
+    (λ k b. let x = m k b in lt-ltb (rowAt pageT l (128 * g + k)) (memory / pageSize) (omega arith))
 
 -- ---- a region's row
 
@@ -229,7 +237,7 @@ module _ (l : List ℕ) (g kind limit : ℕ) (live : allBelow 8 (λ i. eqb (rowA
       all-each 8 (λ i. mrOk l (8 * g + i)) (λ i h. flat-by l kind limit (8 * g + i) (is-live i h) pds most (row-ok i h) k m)
 
   pub eight-paged : kind ≡ 1 → limit ≡ mostPages * pageSize → eightOk (λ r. leb (r .start) (pageSize - 1)) l g ≡ true
-      → allBelow 128 (λ k. ltb (rowAt pageT l (128 * g + k)) (rowAt memoryT l 0 / pageSize)) ≡ true → allBelow 8 (λ i. mrOk l (8 * g + i)) ≡ true
+      → pagesOk (rowAt memoryT l 0) l g ≡ true → allBelow 8 (λ i. mrOk l (8 * g + i)) ≡ true
   eight-paged k m starts pages =
       all-each 8 (λ i. mrOk l (8 * g + i))
       (λ i h. paged-by l kind limit (8 * g + i) (is-live i h) pds most (row-ok i h) k m

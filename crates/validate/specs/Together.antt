@@ -6,8 +6,8 @@ use Prim.Native.Nat.{ℕ, _+_, _-_, _*_, _/_, _%_}
 use lib.Dec.{eqb, ltb, leb}
 use Rattle.wire.specs.Scan.{allBelow}
 use Rattle.wire.specs.Table.{rowAt}
-use Rattle.tables.specs.Layout.{mrT}
-use Rattle.tables.specs.Limits.{pdCount, mostAddress, mostAccess}
+use Rattle.tables.specs.Layout.{mrT, pageT}
+use Rattle.tables.specs.Limits.{pdCount, mostAddress, mostAccess, pageSize}
 use Rattle.tables.specs.declared.Region.{Region}
 use Rattle.validate.specs.Accept.{accessOk}
 
@@ -18,6 +18,10 @@ Enough x b = x ≡ true → b ≡ true
 -- the rows of the eight region slots from 8 g on
 abbrev pub eightOk : (Region → Bool) → List ℕ → ℕ → Bool
 eightOk p l g = allBelow 8 (λ i. p (rowAt mrT l (8 * g + i)))
+
+-- the page numbers of these slots, 16 for each
+abbrev pub pagesOk : (memory : ℕ) → List ℕ → ℕ → Bool
+pagesOk memory l g = allBelow 128 (λ k. ltb (rowAt pageT l (128 * g + k)) (memory / pageSize))
 
 abbrev pub variantOk : Region → Bool
 variantOk r = leb 1 (r .variant)

@@ -19,15 +19,15 @@ use tables::rows;
 ghost use mathlib.Core.Path.{_≡_};
 ghost use mathlib.Core.Bool.{true, cond};
 ghost use Prim.Native.Nat.{_<_, _≤_, _+_, _-_, _*_, _/_};
-ghost use lib.Dec.{eqb, ltb, leb};
+ghost use lib.Dec.{eqb, leb};
 ghost use lib.ListN.{length};
 ghost use Rattle.wire.specs.Scan.{allBelow};
 ghost use Rattle.wire.specs.Table.{rowAt};
-ghost use Rattle.tables.specs.Layout.{stateSize, memoryT, mrFlagT, mrT, pageT, entryT, receiveT};
+ghost use Rattle.tables.specs.Layout.{stateSize, memoryT, mrFlagT, mrT, entryT, receiveT};
 ghost use Rattle.tables.specs.Limits.{pdCount, cqCount, mrCount, qpCount, mostPages, pageSize, mostPlaces, mostWaiting};
 ghost use Rattle.tables.specs.State.{card};
 ghost use Rattle.validate.specs.Accept.{mrOk, completionOk, receiveOk};
-ghost use Rattle.validate.specs.Together.{Enough, eightOk, firstWord, wordsOk, wordOk, variantOk, virtOk, rangeOk, rowOk};
+ghost use Rattle.validate.specs.Together.{Enough, eightOk, pagesOk, firstWord, wordsOk, wordOk, variantOk, virtOk, rangeOk, rowOk};
 
 // From how many unread completions and waiting receives on all places are looked at.
 const MANY_UNREAD: u8 = 8;
@@ -146,16 +146,37 @@ fn starts_pass(state: &[u8], g: usize) -> bool
     any <= PAGE_SIZE - 1
 }
 
+fn joined(a: u16, b: u16) -> u16
+    ensures { λ x. ⌜ (a ≤ x) × (b ≤ x) × (x < 65536) ⌝ }
+{
+    a | b
+}
+
 fn larger(a: u16, b: u16) -> u16
     ensures { λ x. ⌜ (a ≤ x) × (b ≤ x) × (x < 65536) ⌝ }
 {
     if a < b { b } else { a }
 }
 
-// Their page numbers, also those that a region does not need.
-fn pages_pass(state: &[u8], g: usize, memory: u64) -> bool
+// Their page numbers, also those that a region does not need, by the bits that they have: the quicker of two ways, and all that it takes
+// where the memory's pages are a power of two.
+fn page_bits_pass(state: &[u8], g: usize, memory: u64) -> bool
     requires { ⌜ (8 * g + 8 ≤ mrCount) × (length (now state) ≡ stateSize) ⌝ }
-    ensures { λ x. ⌜ Enough x (allBelow 128 (λ k. ltb (rowAt pageT (now (state .entry)) (128 * g + k)) (memory / pageSize))) ⌝ }
+    ensures { λ x. ⌜ Enough x (pagesOk memory (now (state .entry)) g) ⌝ }
+{
+    let mut any: u16 = 0;
+    let mut k = 0;
+    while k < 8 * MOST_PAGES {
+        any = joined(any, rows::load_page(state, 8 * MOST_PAGES * g + k));
+        k += 1;
+    }
+    (any as u64) < memory / PAGE_SIZE
+}
+
+// The same by the largest.
+fn page_most_pass(state: &[u8], g: usize, memory: u64) -> bool
+    requires { ⌜ (8 * g + 8 ≤ mrCount) × (length (now state) ≡ stateSize) ⌝ }
+    ensures { λ x. ⌜ Enough x (pagesOk memory (now (state .entry)) g) ⌝ }
 {
     let mut top: u16 = 0;
     let mut k = 0;
@@ -164,6 +185,16 @@ fn pages_pass(state: &[u8], g: usize, memory: u64) -> bool
         k += 1;
     }
     (top as u64) < memory / PAGE_SIZE
+}
+
+fn pages_pass(state: &[u8], g: usize, memory: u64) -> bool
+    requires { ⌜ (8 * g + 8 ≤ mrCount) × (length (now state) ≡ stateSize) ⌝ }
+    ensures { λ x. ⌜ Enough x (pagesOk memory (now (state .entry)) g) ⌝ }
+{
+    if page_bits_pass(state, g, memory) {
+        return true;
+    }
+    page_most_pass(state, g, memory)
 }
 
 // ---- regions

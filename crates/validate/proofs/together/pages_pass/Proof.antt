@@ -1,91 +1,22 @@
 use borrow.Author.Needs.{needs}
-use denote.Ref.{now}
-use Prim.Native.Nat.{ℕ, _≤_, _<_, _-_, _+_, _*_, _/_}
-use mathlib.Core.Path.{_≡_, refl, sym, ap, _∙_}
-use mathlib.Core.Bool.{Bool, true, false}
-use native.Mathlib.Omega.{arith}
-use Rattle.wire.specs.Table.{rowAt}
-use lib.Dec.{ltb}
-use borrow.Author.Tests.{lt-ltb, ltb-true}
-use Rattle.wire.proofs.ScanLaws.{all-each}
-use Rattle.tables.specs.Layout.{pageT}
-use Rattle.tables.specs.Limits.{pageSize}
-use Rattle.validate.proofs.TogetherLaws.{max-more}
 use Rattle.validate.proofs.together.pages_pass.Statement.{statement}
 use Rattle.validate.proofs.together.pages_pass.Tie as tie
 use Rattle.validate.proofs.together.pages_pass.Reads as reads
 use Rattle.validate.proofs.together.pages_pass.Lts as lts
-use Rattle.tables.proofs.rows.load_page.Reads as load-page-reads
-use Rattle.validate.proofs.together.larger.Reads as larger-reads
+use Rattle.validate.proofs.together.page_bits_pass.Reads as page-bits-pass-reads
+use Rattle.validate.proofs.together.page_most_pass.Reads as page-most-pass-reads
 
-abbrev Inv-loop : tie.InvT-loop
-Inv-loop state g memory top₀ k₀ top k = (k ≤ 128) × (top < 65536) × ((j : ℕ) → j < k → rowAt pageT state (128 * g + j) ≤ top)
+page-bits-pass-requires : tie.Need-page-bits-pass-requires
+page-bits-pass-requires c κs = search needs
 
-abbrev μ-loop : tie.MeasureT-loop
-μ-loop state g memory top₀ k₀ top k = 128 - k
+returns : tie.Need-returns
+returns c e = c .before .page-bits-pass .ensures (c .if1 .taken)
 
-loop-holds : tie.Need-loop-holds Inv-loop μ-loop
-loop-holds c = (search needs, search needs, λ k h. absurd (omega arith))
+page-most-pass-requires : tie.Need-page-most-pass-requires
+page-most-pass-requires c κs = search needs
 
-mul-loop : tie.Need-mul-loop Inv-loop μ-loop
-mul-loop c = search needs
-
-mul-load-page : tie.Need-mul-load-page Inv-loop μ-loop
-mul-load-page c = search needs
-
-mul-load-page-2 : tie.Need-mul-load-page-2 Inv-loop μ-loop
-mul-load-page-2 c = search needs
-
-add-load-page : tie.Need-add-load-page Inv-loop μ-loop
-add-load-page c = search needs
-
-load-page-requires : tie.Need-load-page-requires Inv-loop μ-loop
-load-page-requires c κs = search needs
-
-larger-requires : tie.Need-larger-requires Inv-loop μ-loop
-larger-requires c κs = search needs
-
-add-k : tie.Need-add-k Inv-loop μ-loop
-add-k c = search needs
-
-loop-less : tie.Need-loop-less Inv-loop μ-loop
-loop-less c = search needs
-
-loop-again : tie.Need-loop-again Inv-loop μ-loop
-loop-again c =
-    let a = c .before .before .before .before .before .args in
-    let h = c .before .before .before .loop in
-    let f : ℕ → ℕ = λ j. rowAt pageT (now (a .state)) (128 * a .g + j) in
-    (search needs, c .larger .ensures .2, max-more f (h .k) (h .top) (c .larger .result) (c .larger .ensures .0) (rw (c .before .load-page .ensures) at (c .larger .ensures .1)) (h .inv .2))
-
-cast-result : tie.Need-cast-result Inv-loop μ-loop
-cast-result c = search needs
-
-returns : tie.Need-returns Inv-loop μ-loop
-returns c e =
-    let a = c .before .before .before .args in
-    let h = c .before .loop in
-    let z : h .k ≡ 128 = omega arith in
-    let t : h .top < a .memory / pageSize = ltb-true (h .top) (a .memory / pageSize) e in
-    let f : ℕ → ℕ = λ k. rowAt pageT (now (a .state)) (128 * a .g + k) in
-    let m : (k : ℕ) → k < 128 → f k ≤ h .top = rw z at (h .inv .2) in
-    all-each 128 (λ k. ltb (f k) (a .memory / pageSize)) (λ k b. let x = m k b in lt-ltb (f k) (a .memory / pageSize) (omega arith))
+returns-2 : tie.Need-returns-2
+returns-2 c = c .page-most-pass .ensures
 
 pub pages-pass-spec : {M : Type 1} → statement M
-pages-pass-spec =
-    tie.close
-    (tie.spec
-    Inv-loop
-    μ-loop
-    loop-holds
-    mul-loop
-    mul-load-page
-    mul-load-page-2
-    add-load-page
-    load-page-requires
-    larger-requires
-    add-k
-    loop-less
-    loop-again
-    cast-result
-    returns)
+pages-pass-spec = tie.close (tie.spec page-bits-pass-requires returns page-most-pass-requires returns-2)
