@@ -5,3 +5,5 @@ pub mod KeptLaws
 pub mod QueueLaws
 pub mod WaitingLaws
 pub mod ResetLaws
+pub mod BitLaws
+pub mod TogetherLaws

@@ -1,4 +1,5 @@
 // The state test of answer 15: specs/Accept.antt.
+use crate::together;
 use tables::Completion;
 use tables::QueueHead;
 use tables::QueuePair;
@@ -212,6 +213,9 @@ fn entries_ok(state: &[u8], n: usize, h: QueueHead) -> bool
     requires { ⌜ (n < cqCount) × (h .first < mostPlaces) × (length (now state) ≡ stateSize) ⌝ }
     ensures { λ x. ⌜ x ≡ all completionOk (ringList noCompletion mostPlaces (ringAt (now (state .entry)) n) (h .first) (h .count)) ⌝ }
 {
+    if together::completions_pass(state, n, h.count) {
+        return true;
+    }
     let mut at = h.first as usize;
     let mut left = h.count;
     while 0 < left {
@@ -229,6 +233,9 @@ fn receives_ok(state: &[u8], n: usize, h: WaitingHead) -> bool
     requires { ⌜ (n < qpCount) × (h .first < mostWaiting) × (length (now state) ≡ stateSize) ⌝ }
     ensures { λ x. ⌜ x ≡ all receiveOk (ringList noRecord mostWaiting (receivesAt (now (state .entry)) n) (h .first) (h .count)) ⌝ }
 {
+    if together::receives_pass(state, n, h.count) {
+        return true;
+    }
     let mut at = h.first as usize;
     let mut left = h.count;
     while 0 < left {
@@ -369,11 +376,14 @@ fn cqs_ok(state: &[u8]) -> bool
     true
 }
 
-// The eight region slots from 8 g on.
+// The eight region slots from 8 g on: together, or one by one.
 fn eight_ok(state: &[u8], memory: u64, g: usize) -> bool
     requires { ⌜ (8 * g + 8 ≤ mrCount) × (length (now state) ≡ stateSize) × (memory ≡ rowAt memoryT (now state) 0) ⌝ }
     ensures { λ x. ⌜ x ≡ allBelow 8 (λ i. mrOk (now (state .entry)) (8 * g + i)) ⌝ }
 {
+    if together::regions_pass(state, memory, g) {
+        return true;
+    }
     let mut i = 0;
     while i < 8 {
         if !mr_ok(state, memory, 8 * g + i) {

@@ -1,3 +1,4 @@
 // The state test of answer 15, and look-ups in the tables.
 pub mod accept;
 pub mod find;
+mod together;

@@ -16,6 +16,7 @@ use Rattle.tables.specs.Limits.{mostWaiting}
 use Rattle.validate.specs.Accept.{receiveOk}
 use Rattle.tables.specs.State.{receivesAt, noRecord}
 use Rattle.tables.proofs.ObjectLaws.{receive-at}
+use Rattle.validate.proofs.TogetherLaws.{posted-by}
 use Rattle.validate.proofs.accept.receives_ok.Statement.{statement}
 use Rattle.validate.proofs.accept.receives_ok.Tie as tie
 
@@ -24,6 +25,14 @@ Inv-loop state n at₀ left₀ at left = (at < mostWaiting) × (all receiveOk (r
 
 abbrev μ-loop : tie.MeasureT-loop
 μ-loop state n at₀ left₀ at left = left
+
+receives-pass-requires : tie.Need-receives-pass-requires Inv-loop μ-loop
+receives-pass-requires c κs = search needs
+
+returns : tie.Need-returns Inv-loop μ-loop
+returns c =
+    let s = c .before .before .before in
+    sym (posted-by (now (s .args .state)) (s .args .n) (c .before .receives-pass .ensures (c .if1 .taken)) (s .args .h .first) (s .args .h .count) (s .pre .1))
 
 cast-at : tie.Need-cast-at Inv-loop μ-loop
 cast-at c = search needs
@@ -40,13 +49,13 @@ add-load-receive c = search needs
 load-receive-requires : tie.Need-load-receive-requires Inv-loop μ-loop
 load-receive-requires c κs = search needs
 
-returns : tie.Need-returns Inv-loop μ-loop
-returns c =
-    let a = c .before .before .before .before .before .before .before .args in
+returns-2 : tie.Need-returns-2 Inv-loop μ-loop
+returns-2 c =
+    let a = c .before .before .before .before .before .before .before .before .before .args in
     let h = c .before .before .before .before .loop in
     let es : List ReceiveRecord = receivesAt (now (a .state)) (a .n) in
     let g : getD es (h .at) noRecord ≡ c .before .before .load-receive .result = receive-at (now (a .state)) (a .n) (h .at) (search needs) ∙ sym (c .before .before .load-receive .ensures) in
-    let e : receiveOk (getD es (h .at) noRecord) ≡ false = ap receiveOk g ∙ lt-leb _ _ (c .if1 .taken) in
+    let e : receiveOk (getD es (h .at) noRecord) ≡ false = ap receiveOk g ∙ lt-leb _ _ (c .if2 .taken) in
     sym (sym (h .inv .1) ∙ ring-fails noRecord mostWaiting receiveOk es (h .at) (h .left) (search needs) e)
 
 ring-place-requires : tie.Need-ring-place-requires Inv-loop μ-loop
@@ -60,16 +69,16 @@ loop-less c = search needs
 
 loop-again : tie.Need-loop-again Inv-loop μ-loop
 loop-again c =
-    let a = c .before .before .before .before .before .before .before .before .args in
+    let a = c .before .before .before .before .before .before .before .before .before .before .args in
     let h = c .before .before .before .before .before .loop in
     let es : List ReceiveRecord = receivesAt (now (a .state)) (a .n) in
     let g : getD es (h .at) noRecord ≡ c .before .before .before .load-receive .result = receive-at (now (a .state)) (a .n) (h .at) (search needs) ∙ sym (c .before .before .before .load-receive .ensures) in
-    let e : receiveOk (getD es (h .at) noRecord) ≡ true = ap receiveOk g ∙ le-leb _ _ (c .before .if1 .left) in
+    let e : receiveOk (getD es (h .at) noRecord) ≡ true = ap receiveOk g ∙ le-leb _ _ (c .before .if2 .left) in
     (rw (c .ring-place .ensures) (mod-lt (h .at + 1) (omega arith)), rw (c .ring-place .ensures) (sym (ring-goes noRecord mostWaiting receiveOk es (h .at) (h .left) (search needs) e) ∙ h .inv .1))
 
-returns-2 : tie.Need-returns-2 Inv-loop μ-loop
-returns-2 c =
-    let a = c .before .before .before .before .args in
+returns-3 : tie.Need-returns-3 Inv-loop μ-loop
+returns-3 c =
+    let a = c .before .before .before .before .before .before .args in
     let h = c .before .loop in
     let z : h .left ≡ 0 = omega arith in
     sym (sym (h .inv .1) ∙ rw z (ring-passed noRecord mostWaiting receiveOk (receivesAt (now (a .state)) (a .n)) (h .at) 0))
@@ -80,14 +89,16 @@ receives-ok-spec =
     (tie.spec
     Inv-loop
     μ-loop
+    receives-pass-requires
+    returns
     cast-at
     loop-holds
     mul-load-receive
     add-load-receive
     load-receive-requires
-    returns
+    returns-2
     ring-place-requires
     sub-left
     loop-less
     loop-again
-    returns-2)
+    returns-3)

@@ -1,0 +1,22 @@
+use borrow.Author.Needs.{needs}
+use Rattle.validate.proofs.together.pages_pass.Statement.{statement}
+use Rattle.validate.proofs.together.pages_pass.Tie as tie
+use Rattle.validate.proofs.together.pages_pass.Reads as reads
+use Rattle.validate.proofs.together.pages_pass.Lts as lts
+use Rattle.validate.proofs.together.page_bits_pass.Reads as page-bits-pass-reads
+use Rattle.validate.proofs.together.page_most_pass.Reads as page-most-pass-reads
+
+page-bits-pass-requires : tie.Need-page-bits-pass-requires
+page-bits-pass-requires c κs = search needs
+
+returns : tie.Need-returns
+returns c e = c .before .page-bits-pass .ensures (c .if1 .taken)
+
+page-most-pass-requires : tie.Need-page-most-pass-requires
+page-most-pass-requires c κs = search needs
+
+returns-2 : tie.Need-returns-2
+returns-2 c = c .page-most-pass .ensures
+
+pub pages-pass-spec : {M : Type 1} → statement M
+pages-pass-spec = tie.close (tie.spec page-bits-pass-requires returns page-most-pass-requires returns-2)

@@ -1,0 +1,52 @@
+-- What tests of several rows together show of each, while every domain is live. What the papers ask of it is in Accept.antt. Assumes nothing.
+use mathlib.Core.Path.{_≡_}
+use mathlib.Core.Bool.{Bool, true, _&&_, _||_}
+use mathlib.Core.List.{List}
+use Prim.Native.Nat.{ℕ, _+_, _-_, _*_, _/_, _%_}
+use lib.Dec.{eqb, ltb, leb}
+use Rattle.wire.specs.Scan.{allBelow}
+use Rattle.wire.specs.Table.{rowAt}
+use Rattle.tables.specs.Layout.{mrT, pageT}
+use Rattle.tables.specs.Limits.{pdCount, mostAddress, mostAccess, pageSize}
+use Rattle.tables.specs.declared.Region.{Region}
+use Rattle.validate.specs.Accept.{accessOk}
+
+-- b holds where the test x passes
+abbrev pub Enough : (x b : Bool) → Type 0
+Enough x b = x ≡ true → b ≡ true
+
+-- the rows of the eight region slots from 8 g on
+abbrev pub eightOk : (Region → Bool) → List ℕ → ℕ → Bool
+eightOk p l g = allBelow 8 (λ i. p (rowAt mrT l (8 * g + i)))
+
+-- the page numbers of these slots, 16 for each
+abbrev pub pagesOk : (memory : ℕ) → List ℕ → ℕ → Bool
+pagesOk memory l g = allBelow 128 (λ k. ltb (rowAt pageT l (128 * g + k)) (memory / pageSize))
+
+abbrev pub variantOk : Region → Bool
+variantOk r = leb 1 (r .variant)
+
+-- its first address, where its length is at most `limit`
+abbrev pub virtOk : (limit : ℕ) → Region → Bool
+virtOk limit r = leb (r .virt) (mostAddress - limit)
+
+-- the first four bytes of a row as a number
+abbrev pub firstWord : Region → ℕ
+firstWord r = r .access + 256 * r .variant + 65536 * r .pd + 16777216 * r .kind
+
+-- such numbers of rows of one kind: `any` has the bits of each, `all` has those that each has
+abbrev pub wordsOk : (kind any all : ℕ) → Bool
+wordsOk kind any all =
+    leb (any % 256) mostAccess && ltb (any / 65536 % 256) pdCount && eqb (any / 16777216) kind && eqb (all / 16777216) kind
+    && (eqb (any / 2 % 2) 0 || eqb (all % 2) 1)
+
+-- a row's access, domain and kind
+abbrev pub wordOk : (kind : ℕ) → Region → Bool
+wordOk kind r = accessOk (r .access) && ltb (r .pd) pdCount && eqb (r .kind) kind
+
+-- its range, that ends at `limit` at most
+abbrev pub rangeOk : (limit : ℕ) → Region → Bool
+rangeOk limit r = leb 1 (r .length) && leb (r .start + r .length) limit
+
+abbrev pub rowOk : (kind limit : ℕ) → Region → Bool
+rowOk kind limit r = variantOk r && virtOk limit r && wordOk kind r && rangeOk limit r
