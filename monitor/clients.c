@@ -9,7 +9,7 @@
 #include <sys/stat.h>
 #include <unistd.h>
 
-enum { HUGE_PAGE = 2097152 };
+enum { HUGE_PAGE = 2097152, DRAINED_MOST = 64 };
 
 void clients_init(struct monitor *monitor)
 {
@@ -140,23 +140,24 @@ static int free_window(const struct monitor *monitor, int seat)
     return mmap(window_of(monitor, seat), monitor->window, PROT_READ | PROT_WRITE, MAP_PRIVATE | MAP_ANONYMOUS | MAP_FIXED, -1, 0) != MAP_FAILED;
 }
 
-/* Whether no file waits in a connection that nothing more comes to. */
-static int holds_no_file(int from)
+/* Whether nothing is left in a connection that nothing more comes to, once a few packets without files were taken. */
+static int is_drained(int from)
 {
     uint8_t bytes[PACKET_MOST_BYTES];
-    int with_files;
-    ssize_t length;
-    do {
-        length = receive_packet(from, bytes, &with_files);
-    } while (!with_files && (length >= 0 || errno == ECONNRESET || errno == EINTR)); /* a reset is told once, before the packets */
-    return !with_files;
+    int with_files = 0;
+    for (int n = 0; n < DRAINED_MOST && !with_files; n++) {
+        if (receive_packet(from, bytes, &with_files) < 0 && errno != ECONNRESET && errno != EINTR) { /* a reset is told before the packets */
+            return 1;
+        }
+    }
+    return 0;
 }
 
-/* Frees the place of one that has gone. Its connection is closed here if no file is to be closed with it, else all is by an errand. */
+/* Frees the place of one that has gone. Its connection is closed here if nothing else is closed with it, else all is by an errand. */
 static void leave(struct monitor *monitor, unsigned number)
 {
     struct connection *connection = monitor->connections + number;
-    if (connection->fd != NO_FD && connection->unwanted_count == 0 && holds_no_file(connection->fd)) {
+    if (connection->fd != NO_FD && connection->unwanted_count == 0 && is_drained(connection->fd)) {
         close(connection->fd);
     } else {
         unwanted(monitor, number, connection->fd);

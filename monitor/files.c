@@ -47,16 +47,16 @@ static int holds_no_file(int fd)
     return waiting == 0;
 }
 
-/* An end of one of the monitor's own connections would keep that open for a client that has gone, and so would a socket that holds one:
- * nothing comes into it from here on. */
-int becomes_channel(int fd)
+/* The pair must be of the client's own process. An end of a connection to this monitor or to another would keep that open for a client that has
+ * gone, and so would a socket that holds one: nothing comes into it from here on. */
+int becomes_channel(int fd, pid_t pid)
 {
     struct ucred peer = {0, 0, 0};
     struct sockaddr_un name;
     socklen_t size = sizeof peer, named = sizeof name;
     return option_of(fd, SO_DOMAIN) == AF_UNIX && option_of(fd, SO_TYPE) == SOCK_SEQPACKET && option_of(fd, SO_ACCEPTCONN) == 0 &&
            getpeername(fd, (struct sockaddr *)&name, &named) == 0 && getsockopt(fd, SOL_SOCKET, SO_PEERCRED, &peer, &size) == 0 &&
-           peer.pid != getpid() && shutdown(fd, SHUT_RD) == 0 && holds_no_file(fd);
+           peer.pid == pid && shutdown(fd, SHUT_RD) == 0 && holds_no_file(fd);
 }
 
 /* ---- packets */

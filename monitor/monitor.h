@@ -124,8 +124,8 @@ void unwanted(struct monitor *monitor, unsigned client, int fd);
 /* ---- files.c: what clients pass */
 
 int is_sealed_memory(int fd);
-/* Whether a file can be a client's channel: a connected Unix socket of packets, of nobody else's here; it is shut for reading then. */
-int becomes_channel(int fd);
+/* Whether a file can be a client's channel: a connected Unix socket of packets, made by its process; it is shut for reading then. */
+int becomes_channel(int fd, pid_t pid);
 /* Takes a packet if it came without files. Its whole length; -1 with errno where there is none, EPIPE at the end. */
 ssize_t receive_packet(int from, uint8_t bytes[PACKET_MOST_BYTES], int *with_files);
 /* Sends a thread on an errand; 0 where there is none now. */
