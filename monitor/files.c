@@ -1,5 +1,5 @@
-/* Files that clients pass. To close one can take as long as its owner likes (a file system in user space, a socket that lingers), so the
- * monitor's own thread closes none of them but memory: a thread of its own does, which may wait. */
+/* Files that clients pass. To close one, and to take a message that has some, can last as long as their owner likes (a file system in user
+ * space, a socket that lingers), so the monitor's own thread does neither. A thread does it for each connection, and its client alone waits. */
 #define _GNU_SOURCE
 #include "monitor.h"
 
@@ -7,21 +7,13 @@
 #include <fcntl.h>
 #include <linux/magic.h>
 #include <pthread.h>
+#include <stdio.h>
 #include <sys/socket.h>
+#include <sys/un.h>
 #include <sys/vfs.h>
 #include <unistd.h>
 
-enum { CLOSERS_MOST = 64, WAITING_MOST = 65536, FILES_MOST = 253 /* the kernel's, of one message */ };
-
-static pthread_mutex_t lock = PTHREAD_MUTEX_INITIALIZER;
-
-/* Files that wait to be closed, and how many threads close them. */
-static struct {
-    int files[WAITING_MOST];
-    unsigned first;
-    unsigned count;
-    unsigned closers;
-} waiting;
+/* ---- what a file is */
 
 /* Memory of the kernel's own, whose length nobody can change. Only such files are asked for their file system. */
 int is_sealed_memory(int fd)
@@ -32,116 +24,119 @@ int is_sealed_memory(int fd)
     return seals >= 0 && (seals & wanted) == wanted && fstatfs(fd, &system) == 0 && system.f_type == TMPFS_MAGIC;
 }
 
-/* Closes files until none waits. */
-static void *closer(void *none)
+static int option_of(int fd, int name)
 {
-    pthread_mutex_lock(&lock);
-    while (waiting.count > 0) {
-        const int fd = waiting.files[waiting.first];
-        waiting.first = (waiting.first + 1) % WAITING_MOST;
-        waiting.count--;
-        pthread_mutex_unlock(&lock);
-        close(fd);
-        pthread_mutex_lock(&lock);
-    }
-    waiting.closers--;
-    pthread_mutex_unlock(&lock);
-    return none;
+    int value = -1;
+    socklen_t size = sizeof value;
+    return getsockopt(fd, SOL_SOCKET, name, &value, &size) == 0 ? value : -1;
 }
 
-/* Where there is no thread now, the files wait for the next. */
-static void start_closer(void)
+/* Whether no file waits in a Unix socket, by the kernel's own count. The socket is not read: another may read it at the same time, and hold
+ * up whoever comes behind. */
+static int holds_no_file(int fd)
 {
-    pthread_attr_t attributes;
-    pthread_t thread;
-    pthread_attr_init(&attributes);
-    pthread_attr_setdetachstate(&attributes, PTHREAD_CREATE_DETACHED);
-    pthread_attr_setstacksize(&attributes, 65536);
-    if (pthread_create(&thread, &attributes, closer, NULL) != 0) {
-        pthread_mutex_lock(&lock);
-        waiting.closers--;
-        pthread_mutex_unlock(&lock);
-        complain("clients' files stay open for now: there is no thread to close them", 0);
+    char name[64], line[128];
+    unsigned waiting = 1;
+    snprintf(name, sizeof name, "/proc/self/fdinfo/%d", fd);
+    FILE *info = fopen(name, "re");
+    while (info != NULL && fgets(line, sizeof line, info) != NULL && sscanf(line, "scm_fds: %u", &waiting) != 1) {
     }
-    pthread_attr_destroy(&attributes);
+    if (info != NULL) {
+        fclose(info);
+    }
+    return waiting == 0;
 }
 
-void close_file(int fd)
+/* The pair must be of the client's own process. An end of a connection to this monitor or to another would keep that open for a client that has
+ * gone, and so would a socket that holds one: nothing comes into it from here on. */
+int becomes_channel(int fd, pid_t pid)
 {
-    if (fd == NO_FD) {
-        return;
-    }
-    if (is_sealed_memory(fd)) {
-        close(fd);
-        return;
-    }
-    pthread_mutex_lock(&lock);
-    const int fits = waiting.count < WAITING_MOST, start = waiting.closers < CLOSERS_MOST;
-    if (fits) {
-        waiting.files[(waiting.first + waiting.count++) % WAITING_MOST] = fd;
-    }
-    waiting.closers += (unsigned)start;
-    pthread_mutex_unlock(&lock);
-    if (!fits) {
-        complain("a client's file stays open: too many wait to be closed", 0);
-    }
-    if (start) {
-        start_closer();
-    }
+    struct ucred peer = {0, 0, 0};
+    struct sockaddr_un name;
+    socklen_t size = sizeof peer, named = sizeof name;
+    return option_of(fd, SO_DOMAIN) == AF_UNIX && option_of(fd, SO_TYPE) == SOCK_SEQPACKET && option_of(fd, SO_ACCEPTCONN) == 0 &&
+           getpeername(fd, (struct sockaddr *)&name, &named) == 0 && getsockopt(fd, SOL_SOCKET, SO_PEERCRED, &peer, &size) == 0 &&
+           peer.pid == pid && shutdown(fd, SHUT_RD) == 0 && holds_no_file(fd);
 }
 
-/* The first file that came with a message; any other is closed. Whether a message came at all is told by its sender's credentials. */
-static int take_file(struct msghdr *message, int *came)
+/* ---- packets */
+
+ssize_t receive_packet(int from, uint8_t bytes[PACKET_MOST_BYTES], int *with_files)
+{
+    union {
+        struct cmsghdr aligned;
+        char bytes[CMSG_SPACE(sizeof(struct ucred))]; /* no room for files */
+    } control;
+    struct iovec part = {bytes, 0};
+    struct msghdr message = {.msg_iov = &part, .msg_iovlen = 1, .msg_control = &control, .msg_controllen = sizeof control};
+    const ssize_t seen = recvmsg(from, &message, MSG_PEEK | MSG_DONTWAIT);
+    *with_files = seen >= 0 && (message.msg_flags & MSG_CTRUNC);
+    if (seen < 0 || *with_files) {
+        return seen;
+    }
+    if (CMSG_FIRSTHDR(&message) == NULL) { /* every packet has its sender's credentials, an empty one too */
+        errno = EPIPE;
+        return -1;
+    }
+    return recv(from, bytes, PACKET_MOST_BYTES, MSG_DONTWAIT | MSG_TRUNC);
+}
+
+/* The first file that came with a message; another is closed. */
+static int take_file(struct msghdr *message)
 {
     int kept = NO_FD;
     for (struct cmsghdr *part = CMSG_FIRSTHDR(message); part != NULL; part = CMSG_NXTHDR(message, part)) {
         const size_t count = part->cmsg_len < CMSG_LEN(0) ? 0 : (part->cmsg_len - CMSG_LEN(0)) / sizeof(int);
-        *came |= part->cmsg_level == SOL_SOCKET && part->cmsg_type == SCM_CREDENTIALS;
         for (size_t n = 0; part->cmsg_level == SOL_SOCKET && part->cmsg_type == SCM_RIGHTS && n < count; n++) {
             int fd;
             memcpy(&fd, CMSG_DATA(part) + n * sizeof fd, sizeof fd);
             if (kept == NO_FD) {
                 kept = fd;
             } else {
-                close_file(fd);
+                close(fd);
             }
         }
     }
     return kept;
 }
 
-ssize_t receive_packet(int from, uint8_t bytes[PACKET_MOST_BYTES], int *fd)
+/* Reads the packet that an errand is for. There is room for one file or two: the kernel closes the others here. */
+static void read_with_file(struct errand *errand)
 {
     union {
         struct cmsghdr aligned;
-        char bytes[CMSG_SPACE(sizeof(struct ucred)) + CMSG_SPACE(FILES_MOST * sizeof(int))];
+        char bytes[CMSG_SPACE(sizeof(struct ucred)) + CMSG_SPACE(sizeof(int))];
     } control;
-    struct iovec part = {bytes, PACKET_MOST_BYTES};
+    struct iovec part = {errand->bytes, sizeof errand->bytes};
     struct msghdr message = {.msg_iov = &part, .msg_iovlen = 1, .msg_control = &control, .msg_controllen = sizeof control};
-    const ssize_t length = recvmsg(from, &message, MSG_DONTWAIT | MSG_CMSG_CLOEXEC | MSG_TRUNC);
-    int came = length > 0;
-    *fd = length < 0 ? NO_FD : take_file(&message, &came);
-    if (length == 0 && !came) {
-        errno = EPIPE;
-        return -1;
-    }
-    return length;
+    errand->length = recvmsg(errand->from, &message, MSG_DONTWAIT | MSG_CMSG_CLOEXEC | MSG_TRUNC);
+    errand->file = errand->length < 0 ? NO_FD : take_file(&message);
 }
 
-void empty_socket(int from)
+/* ---- errands */
+
+static void *run(void *given)
 {
-    uint8_t bytes[PACKET_MOST_BYTES];
-    const int tells = 1; /* credentials with every packet, an empty one too */
-    int fd;
-    setsockopt(from, SOL_SOCKET, SO_PASSCRED, &tells, sizeof tells);
-    while (receive_packet(from, bytes, &fd) >= 0 || errno == ECONNRESET || errno == EINTR) { /* a reset is told once, before the packets */
-        close_file(fd);
+    struct errand *errand = given;
+    const uint8_t number = errand->number;
+    for (unsigned n = 0; n < errand->count; n++) {
+        close(errand->files[n]);
     }
+    if (errand->from != NO_FD) {
+        read_with_file(errand);
+    }
+    (void)!write(errand->reports, &number, sizeof number);
+    return NULL;
 }
 
-void close_connection(int from)
+int errand_start(struct errand *errand)
 {
-    shutdown(from, SHUT_RDWR);
-    empty_socket(from);
-    close(from);
+    pthread_attr_t attributes;
+    pthread_t thread;
+    pthread_attr_init(&attributes);
+    pthread_attr_setdetachstate(&attributes, PTHREAD_CREATE_DETACHED);
+    pthread_attr_setstacksize(&attributes, 65536);
+    const int started = pthread_create(&thread, &attributes, run, errand) == 0;
+    pthread_attr_destroy(&attributes);
+    return started;
 }

@@ -4,6 +4,7 @@
 
 #include <errno.h>
 #include <inttypes.h>
+#include <poll.h>
 #include <signal.h>
 #include <stdio.h>
 #include <stdlib.h>
@@ -16,7 +17,7 @@
 #include <unistd.h>
 #include <fcntl.h>
 
-enum { LISTENER = CONNECTIONS_MOST, SIGNALS, EVENTS_MOST };
+enum { LISTENER = PLACES, SIGNALS, REPORTS, EVENTS_MOST };
 enum { TAPE_MOST_MEMORY = 1048576 }; /* what lesungkap-replay takes */
 
 struct options {
@@ -35,6 +36,13 @@ static const char usage[] = "usage: lesungkap-monitor SOCKET [--memory BYTES] [-
                             "  --times         at the end, say how long requests and calls took\n"
                             "SIGUSR1 shows what is live, SIGTERM and SIGINT end it.\n";
 
+/* What the loop listens to beside its clients. */
+struct ears {
+    int listener;
+    int signals;
+    int reports; /* of errands */
+};
+
 static struct monitor monitor;
 
 static int die(const char *what, const char *why)
@@ -43,19 +51,27 @@ static int die(const char *what, const char *why)
     return 0;
 }
 
+/* Whether a line can be written without waiting for a reader. */
+static int takes_a_line(int fd)
+{
+    struct pollfd out = {.fd = fd, .events = POLLOUT};
+    return poll(&out, 1, 0) == 1 && (out.revents & POLLOUT);
+}
+
 void complain(const char *what, pid_t pid)
 {
     static uint64_t second = 0;
     static unsigned lines = 0, left_out = 0;
     const uint64_t now = clock_now() / 1000000000u;
-    if (now != second) {
+    const int heard = takes_a_line(STDERR_FILENO);
+    if (now != second && heard) {
         if (left_out > 0) {
             fprintf(stderr, "lesungkap-monitor: %u more lines were left out\n", left_out);
         }
         second = now;
         lines = left_out = 0;
     }
-    if (++lines > 10) {
+    if (!heard || ++lines > 10) {
         left_out++;
     } else if (pid > 0) {
         fprintf(stderr, "lesungkap-monitor: %s (process %d)\n", what, (int)pid);
@@ -152,7 +168,7 @@ static int clear_path(const struct sockaddr_un *address)
     if (!S_ISSOCK(file.st_mode)) {
         return die(address->sun_path, "the path is taken by something that is no socket");
     }
-    const int fd = socket(AF_UNIX, SOCK_SEQPACKET | SOCK_CLOEXEC, 0);
+    const int fd = socket(AF_UNIX, SOCK_SEQPACKET | SOCK_CLOEXEC | SOCK_NONBLOCK, 0);
     const int stale = connect(fd, (const struct sockaddr *)address, sizeof *address) != 0 && errno == ECONNREFUSED;
     close(fd);
     if (!stale) {
@@ -200,6 +216,9 @@ static void show_live(void)
     for (uint32_t n = 0; n < LESUNGKAP_QP_COUNT; n++) {
         held += monitor.held[n].count;
     }
+    if (!takes_a_line(STDOUT_FILENO)) {
+        return;
+    }
     printf("live: %u clients, %u PD, %u CQ, %u MR, %u QP, %u held sends; %" PRIu64 " clients and %" PRIu64 " requests so far\n", seats,
            live[PD], live[CQ], live[MR], live[QP], held, monitor.clients, monitor.requests);
     fflush(stdout);
@@ -228,13 +247,22 @@ static int heed(int signals)
     return 1;
 }
 
-/* One round: who has hung up goes first, then each that asks is served once, then newcomers. */
-static int round_of(const struct epoll_event *events, int count, int listener, int signals)
+static void hear_reports(int reports)
+{
+    uint8_t numbers[PLACES];
+    const ssize_t count = read(reports, numbers, sizeof numbers);
+    for (ssize_t n = 0; n < count; n++) {
+        clients_report(&monitor, numbers[n]);
+    }
+}
+
+/* One round: who has hung up goes first, then each that asks is served once, then a newcomer. */
+static int round_of(const struct epoll_event *events, int count, const struct ears *ears)
 {
     int newcomers = 0, ended = 0;
     for (int n = 0; n < count; n++) {
         const uint32_t who = events[n].data.u32;
-        if (who < CONNECTIONS_MOST && (events[n].events & (EPOLLHUP | EPOLLERR | EPOLLRDHUP))) {
+        if (who < PLACES && (events[n].events & (EPOLLHUP | EPOLLERR | EPOLLRDHUP))) {
             clients_drop(&monitor, who);
         }
     }
@@ -243,13 +271,15 @@ static int round_of(const struct epoll_event *events, int count, int listener, i
         if (who == LISTENER) {
             newcomers = 1;
         } else if (who == SIGNALS) {
-            ended |= heed(signals);
-        } else if (monitor.connections[who].fd != NO_FD) {
+            ended |= heed(ears->signals);
+        } else if (who == REPORTS) {
+            hear_reports(ears->reports);
+        } else if (monitor.connections[who].state == ASKS) {
             clients_serve(&monitor, who);
         }
     }
-    if (newcomers && !clients_accept(&monitor, listener)) {
-        monitor.deaf = epoll_ctl(monitor.epoll, EPOLL_CTL_DEL, listener, NULL) == 0;
+    if (newcomers && !clients_accept(&monitor, ears->listener)) {
+        monitor.deaf = epoll_ctl(monitor.epoll, EPOLL_CTL_DEL, ears->listener, NULL) == 0;
     }
     return !ended;
 }
@@ -260,23 +290,36 @@ static int watch(int fd, uint32_t who)
     return fd >= 0 && epoll_ctl(monitor.epoll, EPOLL_CTL_ADD, fd, &event) == 0;
 }
 
-static int serve(int listener, int signals)
+static int serve(const struct ears *ears)
 {
     struct epoll_event events[EVENTS_MOST];
     int count;
     do {
-        count = epoll_wait(monitor.epoll, events, EVENTS_MOST, monitor.changed ? 0 : monitor.deaf ? 1000 : -1);
+        count = epoll_wait(monitor.epoll, events, EVENTS_MOST, monitor.changed ? 0 : monitor.deaf || monitor.late ? 1000 : -1);
         if (count < 0 && errno != EINTR) {
             return die("epoll", strerror(errno));
         }
-        monitor.deaf = monitor.deaf && !watch(listener, LISTENER);
-        if (count >= 0 && !round_of(events, count, listener, signals)) {
+        monitor.deaf = monitor.deaf && !watch(ears->listener, LISTENER);
+        if (monitor.late) {
+            clients_start_late(&monitor);
+        }
+        if (count >= 0 && !round_of(events, count, ears)) {
             return 1;
         }
         if (monitor.changed) {
             work_turn(&monitor);
         }
     } while (1);
+}
+
+/* Standard input, output and error are never a client's connection. */
+static void fill_standard(void)
+{
+    int fd;
+    do {
+        fd = open("/dev/null", O_RDWR | O_CLOEXEC);
+    } while (fd >= 0 && fd <= STDERR_FILENO);
+    close(fd);
 }
 
 static int open_signals(void)
@@ -290,10 +333,18 @@ static int open_signals(void)
     return sigprocmask(SIG_BLOCK, &set, NULL) == 0 ? signalfd(-1, &set, SFD_CLOEXEC | SFD_NONBLOCK) : -1;
 }
 
+static int open_reports(void)
+{
+    int ends[2] = {NO_FD, NO_FD};
+    const int opened = pipe2(ends, O_CLOEXEC | O_NONBLOCK) == 0;
+    monitor.reports = ends[1];
+    return opened ? ends[0] : NO_FD;
+}
+
 static int finish(const struct options *options)
 {
-    for (unsigned n = 0; n < CONNECTIONS_MOST; n++) {
-        if (monitor.connections[n].fd != NO_FD) {
+    for (unsigned n = 0; n < PLACES; n++) {
+        if (monitor.connections[n].state == ASKS || monitor.connections[n].state == WAITS) {
             clients_drop(&monitor, n);
         }
     }
@@ -314,22 +365,24 @@ int main(int count, char **words)
     if (!arguments(&options, count, words)) {
         return 2;
     }
+    fill_standard();
     clients_init(&monitor);
     monitor.seats = (int)options.clients;
     monitor.window = options.memory / options.clients / PACKET_PAGE * PACKET_PAGE;
     monitor.card.timed = options.times;
-    const int signals = open_signals();
-    const int listener = listen_at(options.socket);
-    if (listener < 0 || !card_open(&monitor.card, options.memory, options.tape)) {
+    struct ears ears = {.listener = listen_at(options.socket)};
+    if (ears.listener < 0 || !card_open(&monitor.card, options.memory, options.tape)) {
         return 1;
     }
+    ears.signals = open_signals();
+    ears.reports = open_reports();
     monitor.epoll = epoll_create1(EPOLL_CLOEXEC);
-    if (!watch(listener, LISTENER) || !watch(signals, SIGNALS)) {
+    if (!watch(ears.listener, LISTENER) || !watch(ears.signals, SIGNALS) || !watch(ears.reports, REPORTS)) {
         die("epoll", strerror(errno));
         return 1;
     }
     printf("lesungkap-monitor: %s: a card of %" PRIu64 " bytes for %d clients, %" PRIu64 " bytes each\n", options.socket, options.memory,
            monitor.seats, monitor.window);
     fflush(stdout);
-    return serve(listener, signals) && finish(&options) ? 0 : 1;
+    return serve(&ears) && finish(&options) ? 0 : 1;
 }

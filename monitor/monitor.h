@@ -12,6 +12,8 @@ enum kind { PD, CQ, MR, QP, KINDS };
 enum {
     CONNECTIONS_MOST = 64,
     CONNECTIONS_OF_A_PROCESS = 4,
+    PLACES = CONNECTIONS_MOST + 1,         /* the last is for one that is refused, until it is closed */
+    UNWANTED_MOST = LESUNGKAP_CQ_COUNT + 2, /* a client's channels, the file that came with a packet, the connection */
     SEATS_MOST = LESUNGKAP_QP_COUNT,
     OBJECTS_MOST = LESUNGKAP_MR_COUNT, /* of the largest table */
     KEYS_OF_A_SLOT = 255,
@@ -19,12 +21,42 @@ enum {
     NO_FD = -1
 };
 
+/* What a request is answered with. */
+struct answer {
+    uint32_t result;
+    size_t length;
+    uint8_t body[LESUNGKAP_ACK_MOST_BYTES];
+};
+
+/* What a thread does for a connection, as its client may make it wait: it closes files, or reads a packet that came with files. Then it
+ * reports the connection's number. */
+struct errand {
+    uint8_t number;
+    int reports; /* where the number is written */
+    int files[UNWANTED_MOST];
+    unsigned count;
+    int from; /* the connection if a packet is read, NO_FD if not */
+    int file; /* the first that came with it, or NO_FD */
+    ssize_t length;
+    uint8_t bytes[PACKET_MOST_BYTES];
+};
+
+/* A connection is served; or waits for its errand, and nothing of it is read; or its client has gone and its files have not. */
+enum state { FREE, ASKS, WAITS, LEAVES };
+
 struct connection {
-    int fd; /* NO_FD: free */
+    enum state state;
+    int fd;
     pid_t pid;
     int seat;              /* its window is the seat's part of the memory */
     uint64_t window_bytes; /* of it, those that its file fills */
     unsigned has[KINDS];
+    int unwanted[UNWANTED_MOST]; /* files for its next errand to close */
+    unsigned unwanted_count;
+    int out;              /* its errand is not done */
+    int late;             /* and has no thread yet */
+    struct answer answer; /* waits for the errand */
+    struct errand errand;
 };
 
 /* Sends of a queue pair that wait, the oldest first. */
@@ -57,7 +89,7 @@ struct monitor {
     uint64_t window; /* bytes of each seat */
     uint8_t taken[SEATS_MOST];
     unsigned keys[SEATS_MOST]; /* handed out to those who had the seat, since the reset */
-    struct connection connections[CONNECTIONS_MOST];
+    struct connection connections[PLACES];
     uint8_t owner[KINDS][OBJECTS_MOST]; /* connection + 1; 0: nobody */
     struct queue_pair pairs[LESUNGKAP_QP_COUNT];
     struct held held[LESUNGKAP_QP_COUNT];
@@ -65,40 +97,39 @@ struct monitor {
     uint32_t turn;  /* queue pair whose held send is tried first */
     int changed;    /* a held send may be able to run */
     int epoll;
-    int deaf; /* to newcomers, until the next round */
+    int reports; /* where errands report */
+    int deaf;    /* to newcomers, until the next round */
+    int late;    /* an errand has no thread yet */
     uint64_t requests;
     uint64_t nanoseconds; /* from request to answer, if timed */
     uint64_t clients;     /* that have joined */
 };
 
-/* What a request is answered with. */
-struct answer {
-    uint32_t result;
-    size_t length;
-    uint8_t body[LESUNGKAP_ACK_MOST_BYTES];
-};
-
 /* ---- clients.c: connections */
 
 void clients_init(struct monitor *monitor);
-/* Takes newcomers; 0 where they can't be taken now. */
+/* Takes a newcomer; 0 where none can be taken now. */
 int clients_accept(struct monitor *monitor, int listener);
 /* Reads and answers one request. */
 void clients_serve(struct monitor *monitor, unsigned number);
-/* Destroys what a connection has and frees its place. */
+/* Destroys what a connection has and frees its place, once its files are closed. */
 void clients_drop(struct monitor *monitor, unsigned number);
+/* Goes on where a connection's errand is done. */
+void clients_report(struct monitor *monitor, unsigned number);
+/* Starts the errands that had no thread. */
+void clients_start_late(struct monitor *monitor);
+/* Has a file closed before the client is answered, or NO_FD. */
+void unwanted(struct monitor *monitor, unsigned client, int fd);
 
 /* ---- files.c: what clients pass */
 
-/* Reads a packet, and the first file that came with it or NO_FD. The packet's whole length; -1 with errno where there is none, EPIPE at the
- * end. */
-ssize_t receive_packet(int from, uint8_t bytes[PACKET_MOST_BYTES], int *fd);
 int is_sealed_memory(int fd);
-/* Closes a client's file without waiting for it. */
-void close_file(int fd);
-/* Closes a connection, and every file that was still on its way. */
-void empty_socket(int from);
-void close_connection(int from);
+/* Whether a file can be a client's channel: a connected Unix socket of packets, made by its process; it is shut for reading then. */
+int becomes_channel(int fd, pid_t pid);
+/* Takes a packet if it came without files. Its whole length; -1 with errno where there is none, EPIPE at the end. */
+ssize_t receive_packet(int from, uint8_t bytes[PACKET_MOST_BYTES], int *with_files);
+/* Sends a thread on an errand; 0 where there is none now. */
+int errand_start(struct errand *errand);
 
 /* ---- requests.c: who may do what */
 
@@ -122,7 +153,7 @@ void work_forget(struct monitor *monitor, uint32_t qpn);
 
 uint32_t events_channel(struct monitor *monitor, unsigned client, uint32_t cqn, int fd);
 uint32_t events_arm(struct monitor *monitor, unsigned client, uint32_t cqn);
-void events_forget(struct monitor *monitor, uint32_t cqn);
+void events_forget(struct monitor *monitor, unsigned client, uint32_t cqn);
 /* Around a call that may put completions. */
 void events_before(struct monitor *monitor);
 void events_after(struct monitor *monitor);

@@ -46,7 +46,7 @@ static void give_back(struct monitor *monitor, unsigned client, enum kind kind, 
         monitor->pairs[number].given = 0;
         work_forget(monitor, number);
     } else if (kind == CQ) {
-        events_forget(monitor, number);
+        events_forget(monitor, client, number);
     }
 }
 

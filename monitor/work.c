@@ -4,8 +4,6 @@
 #include "monitor.h"
 
 #include <sys/socket.h>
-#include <sys/un.h>
-#include <unistd.h>
 
 /* ---- events */
 
@@ -38,31 +36,12 @@ void events_after(struct monitor *monitor)
     }
 }
 
-void events_forget(struct monitor *monitor, uint32_t cqn)
+void events_forget(struct monitor *monitor, unsigned client, uint32_t cqn)
 {
     struct events *events = monitor->events + cqn;
-    close_file(events->channel);
+    unwanted(monitor, client, events->channel);
     events->channel = NO_FD;
     events->armed = 0;
-}
-
-static int option_of(int fd, int name)
-{
-    int value = -1;
-    socklen_t size = sizeof value;
-    return getsockopt(fd, SOL_SOCKET, name, &value, &size) == 0 ? value : -1;
-}
-
-/* A connected socket of packets whose other end is not the monitor's: an end of one of its own connections would keep that open for a client
- * that has gone. */
-static int is_channel(int fd)
-{
-    struct ucred peer = {0, 0, 0};
-    struct sockaddr_un name;
-    socklen_t size = sizeof peer, named = sizeof name;
-    return option_of(fd, SO_DOMAIN) == AF_UNIX && option_of(fd, SO_TYPE) == SOCK_SEQPACKET && option_of(fd, SO_ACCEPTCONN) == 0 &&
-           getpeername(fd, (struct sockaddr *)&name, &named) == 0 && getsockopt(fd, SOL_SOCKET, SO_PEERCRED, &peer, &size) == 0 &&
-           peer.pid != getpid();
 }
 
 /* Takes the socket if it answers LESUNGKAP_DONE. */
@@ -71,13 +50,10 @@ uint32_t events_channel(struct monitor *monitor, unsigned client, uint32_t cqn, 
     if (!owns(monitor, client, CQ, cqn)) {
         return LESUNGKAP_NOT_LIVE;
     }
-    if (fd == NO_FD || !is_channel(fd)) {
+    if (fd == NO_FD || !becomes_channel(fd, monitor->connections[client].pid)) {
         return LESUNGKAP_BAD_FIELD;
     }
-    /* nothing comes in by it, files least of all */
-    shutdown(fd, SHUT_RD);
-    empty_socket(fd);
-    events_forget(monitor, cqn);
+    events_forget(monitor, client, cqn);
     monitor->events[cqn].channel = fd;
     return LESUNGKAP_DONE;
 }

@@ -1,13 +1,12 @@
 /* What a client may not do, and what it may not see. Each case is a function; a line for each, and the first that isn't so ends the program.
  *
- * usage: rival SOCKET      of a monitor for four clients
+ * usage: rival SOCKET [CASE]      of a monitor for four clients; all cases, or this one
  */
 #define _GNU_SOURCE
-#include "client.h"
+#include "rival.h"
 
 #include <errno.h>
 #include <fcntl.h>
-#include <netinet/in.h>
 #include <signal.h>
 #include <stdio.h>
 #include <sys/mman.h>
@@ -17,7 +16,7 @@
 
 enum { SHARE_OF_REGIONS = LESUNGKAP_MR_COUNT / 4 / 2, SHARE_OF_KEYS = SHARE_OF_REGIONS * 255 };
 
-static const char *path;
+const char *path;
 
 static const uint32_t all_rights = LESUNGKAP_LOCAL_WRITE | LESUNGKAP_REMOTE_WRITE | LESUNGKAP_REMOTE_READ;
 
@@ -50,6 +49,9 @@ static void bad_memory(void)
     EXPECT(join_with(memory_file(bytes + PACKET_PAGE, SEALS)) == LESUNGKAP_RANGE);
     EXPECT(join_with(memory_file(bytes - 1, SEALS)) == LESUNGKAP_RANGE);
     EXPECT(join_with(memory_file(0, SEALS)) == LESUNGKAP_RANGE);
+    const int past = memory_file(bytes, 0); /* pages past its end, which the monitor would have to free */
+    EXPECT(fallocate(past, FALLOC_FL_KEEP_SIZE, 0, (off_t)bytes + 16777216) == 0 && fcntl(past, F_ADD_SEALS, SEALS) == 0);
+    EXPECT(join_with(past) == LESUNGKAP_RANGE);
     EXPECT(join_with(open("/dev/zero", O_RDWR | O_CLOEXEC)) == LESUNGKAP_BAD_FIELD);
     EXPECT(join_with(open("/proc/self/exe", O_RDONLY | O_CLOEXEC)) == LESUNGKAP_BAD_FIELD);
     EXPECT(pipe(ends) == 0 && join_with(ends[0]) == LESUNGKAP_BAD_FIELD && close(ends[1]) == 0);
@@ -197,79 +199,6 @@ static void held_in_order(void)
     client_close(&a);
 }
 
-/* Empty packets, packets that are too long, and files that nobody asked for: all are answered, and nothing stays open. */
-static void odd_packets(void)
-{
-    struct link link;
-    uint8_t request[2 * PACKET_MOST_BYTES], answer[PACKET_MOST_BYTES];
-    struct packet packet;
-    memset(request, 0, sizeof request);
-    EXPECT(link_open(&link, path) == 0);
-    for (int n = 0; n < 3000; n++) {
-        const int file = open("/dev/null", O_RDWR | O_CLOEXEC);
-        const size_t length = n % 3 == 0 ? 0 : n % 3 == 1 ? 3 : sizeof request;
-        const size_t got = link_exchange(&link, request, length, file, answer);
-        EXPECT(get_packet(answer, got, LESUNGKAP_TAPE_ANSWER_MARK, &packet) && packet.third == LESUNGKAP_BAD_TAPE_RECORD);
-        close(file);
-    }
-    link_close(&link);
-}
-
-/* A connected TCP socket whose close waits three seconds for a reader that does not read. */
-static int lingering(int *reader)
-{
-    static const char bytes[65536];
-    const struct linger linger = {1, 3};
-    struct sockaddr_in address = {.sin_family = AF_INET, .sin_addr = {htonl(INADDR_LOOPBACK)}};
-    socklen_t size = sizeof address;
-    const int listener = socket(AF_INET, SOCK_STREAM | SOCK_CLOEXEC, 0), fd = socket(AF_INET, SOCK_STREAM | SOCK_CLOEXEC, 0);
-    EXPECT(bind(listener, (struct sockaddr *)&address, size) == 0 && listen(listener, 1) == 0);
-    EXPECT(getsockname(listener, (struct sockaddr *)&address, &size) == 0 && connect(fd, (struct sockaddr *)&address, size) == 0);
-    EXPECT((*reader = accept(listener, NULL, NULL)) >= 0 && close(listener) == 0);
-    EXPECT(setsockopt(fd, SOL_SOCKET, SO_LINGER, &linger, sizeof linger) == 0);
-    while (send(fd, bytes, sizeof bytes, MSG_DONTWAIT) > 0) {
-    }
-    return fd;
-}
-
-static double seconds(void)
-{
-    struct timespec now;
-    clock_gettime(CLOCK_MONOTONIC, &now);
-    return (double)now.tv_sec + (double)now.tv_nsec / 1e9;
-}
-
-/* Files that take long to close, read by the monitor or still on their way when their client goes, hold up nobody. They come behind other
- * requests, so that the monitor has the last hold of them; where it hasn't, the close here is the one that waits, and isn't counted. */
-static void slow_files(void)
-{
-    struct client other;
-    uint8_t answer[PACKET_MOST_BYTES], byte = 0;
-    int readers[2];
-    client_join(&other, path);
-    for (int n = 0; n < 2; n++) {
-        struct link link;
-        const int fd = lingering(readers + n);
-        EXPECT(link_open(&link, path) == 0);
-        for (int m = 0; m < 100; m++) {
-            EXPECT(link_send(&link, &byte, 1, -1));
-        }
-        EXPECT(link_send(&link, &byte, 1, fd) && close(fd) == 0);
-        const double since = seconds();
-        for (int m = 0; m < 101 && n == 0; m++) {
-            EXPECT(recv(link.fd, answer, sizeof answer, 0) > 0);
-        }
-        link_close(&link);
-        for (int m = 0; m < 100; m++) {
-            EXPECT(ask_window(&other.link, &other.bytes) == LESUNGKAP_DONE);
-        }
-        EXPECT(seconds() - since < 2);
-    }
-    client_close(&other);
-    close(readers[0]);
-    close(readers[1]);
-}
-
 /* A flood of requests whose answers nobody takes ends that client; another is served meanwhile. */
 static void flood(void)
 {
@@ -313,21 +242,17 @@ static double stamped(const struct link *link)
 static void in_turn(void)
 {
     struct link links[4];
-    struct ucred monitor;
-    socklen_t size = sizeof monitor;
     const int yes = 1;
     const uint8_t byte = 0;
     for (int n = 0; n < 4; n++) {
         EXPECT(link_open(links + n, path) == 0 && setsockopt(links[n].fd, SOL_SOCKET, SO_TIMESTAMPNS, &yes, sizeof yes) == 0);
         EXPECT(link_send(links + n, &byte, 1, -1) && stamped(links + n) > 0);
     }
-    usleep(100000); /* until it waits for requests again */
-    EXPECT(getsockopt(links[0].fd, SOL_SOCKET, SO_PEERCRED, &monitor, &size) == 0 && kill(monitor.pid, SIGSTOP) == 0);
-    usleep(100000); /* until it has stopped */
+    const pid_t monitor = stop_monitor(links);
     for (int n = 0; n < 301; n++) {
         EXPECT(link_send(links + n / 100, &byte, 1, -1));
     }
-    EXPECT(kill(monitor.pid, SIGCONT) == 0);
+    EXPECT(kill(monitor, SIGCONT) == 0);
     const double asked_once = stamped(links + 3);
     for (int n = 0; n < 3; n++) {
         stamped(links + n);
@@ -338,33 +263,29 @@ static void in_turn(void)
     link_close(links + 3);
 }
 
-/* A fifth connection of a process is refused, and so is what can't be an event's socket. */
-static void limits(void)
+/* A fifth connection of a process is refused, and one that has hung up is not counted. */
+static void connections(void)
 {
-    struct link links[5];
-    uint32_t bytes, cqn;
-    int ends[2];
-    for (int n = 0; n < 5; n++) {
-        EXPECT(link_open(links + n, path) == 0);
-        EXPECT(ask_window(links + n, &bytes) == (n < 4 ? LESUNGKAP_DONE : LINK_LOST));
+    struct link links[5], last;
+    uint32_t bytes;
+    for (int m = 0; m < 20; m++) {
+        for (int n = 0; n < 5; n++) {
+            EXPECT(link_open(links + n, path) == 0);
+            EXPECT(ask_window(links + n, &bytes) == (n < 4 ? LESUNGKAP_DONE : LINK_LOST));
+        }
+        for (int n = 0; n < 5; n++) {
+            link_close(links + n);
+        }
     }
-    for (int n = 0; n < 5; n++) {
-        link_close(links + n);
+    EXPECT(link_open(links, path) == 0);
+    const pid_t monitor = stop_monitor(links);
+    for (int n = 0; n < 20; n++) {
+        EXPECT(link_open(&last, path) == 0);
+        link_close(&last);
     }
-    struct client a;
-    do { /* until the monitor has seen them go */
-        EXPECT(link_open(links, path) == 0);
-    } while (ask_window(links, &bytes) != LESUNGKAP_DONE && (link_close(links), 1));
+    EXPECT(link_open(&last, path) == 0 && kill(monitor, SIGCONT) == 0 && ask_window(&last, &bytes) == LESUNGKAP_DONE);
+    link_close(&last);
     link_close(links);
-    client_join(&a, path);
-    EXPECT(ask_create_cq(&a.link, 1, &cqn) == LESUNGKAP_DONE && ask_channel(&a.link, cqn, -1) == LESUNGKAP_BAD_FIELD);
-    EXPECT(pipe(ends) == 0 && ask_channel(&a.link, cqn, ends[1]) == LESUNGKAP_BAD_FIELD);
-    close(ends[0]);
-    close(ends[1]);
-    EXPECT(socketpair(AF_UNIX, SOCK_STREAM, 0, ends) == 0 && ask_channel(&a.link, cqn, ends[1]) == LESUNGKAP_BAD_FIELD);
-    close(ends[0]);
-    close(ends[1]);
-    client_close(&a);
 }
 
 /* Registers and drops the same byte, so many times or until it is refused; how often it was done. */
@@ -419,14 +340,18 @@ int main(int count, char **words)
                  {"others' objects", others_objects},  {"window and share", window_and_share},
                  {"a former number", former_number},   {"held sends", held_in_order},
                  {"odd packets", odd_packets},         {"slow files", slow_files},
-                 {"a flood", flood},                   {"in turn", in_turn},
-                 {"limits", limits},                   {"keys", keys}};
-    EXPECT(count == 2);
+                 {"stuck channels", stuck_channels},   {"a flood", flood},
+                 {"in turn", in_turn},                 {"connections", connections},
+                 {"bad channels", bad_channels},       {"its own end", own_end},
+                 {"keys", keys}};
+    EXPECT(count == 2 || count == 3);
     path = words[1];
     for (size_t n = 0; n < sizeof cases / sizeof *cases; n++) {
-        printf("%s\n", cases[n].name);
-        fflush(stdout);
-        cases[n].run();
+        if (count == 2 || strcmp(words[2], cases[n].name) == 0) {
+            printf("%s\n", cases[n].name);
+            fflush(stdout);
+            cases[n].run();
+        }
     }
     return 0;
 }
