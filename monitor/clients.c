@@ -288,7 +288,9 @@ static void finish(struct monitor *monitor, unsigned number)
 {
     struct connection *connection = monitor->connections + number;
     if (!reply(connection->fd, &connection->answer)) {
-        complain("a client was dropped: it does not take its answers", connection->pid);
+        if (errno == EAGAIN) {
+            complain("a client was dropped: it does not take its answers", connection->pid);
+        }
         clients_drop(monitor, number);
     } else if (connection->state == WAITS) {
         connection->state = ASKS;
