@@ -55,7 +55,7 @@ void clients_start_late(struct monitor *monitor)
     }
 }
 
-/* Sends a thread to close the unwanted files and, if `from` is the connection, to read its next packet. */
+/* Sends a thread to seal the memory, to close the unwanted files and, if `from` is the connection, to read its next packet. */
 static void send_out(struct monitor *monitor, unsigned number, int from)
 {
     struct connection *connection = monitor->connections + number;
@@ -64,9 +64,11 @@ static void send_out(struct monitor *monitor, unsigned number, int from)
     errand->reports = monitor->reports;
     errand->from = from;
     errand->file = NO_FD;
+    errand->memory = connection->memory;
     errand->count = connection->unwanted_count;
     memcpy(errand->files, connection->unwanted, sizeof errand->files);
     connection->unwanted_count = 0;
+    connection->memory = NO_FD;
     connection->out = 1;
     if (connection->state == ASKS) {
         connection->state = WAITS;
@@ -107,7 +109,7 @@ static void welcome(struct monitor *monitor, unsigned place, int fd)
     socklen_t size = sizeof peer;
     getsockopt(fd, SOL_SOCKET, SO_PEERCRED, &peer, &size);
     const unsigned same = peer.pid == 0 ? 0 : served(monitor, peer.pid); /* 0: a process that can't be seen from here */
-    monitor->connections[place] = (struct connection){.state = ASKS, .fd = fd, .pid = peer.pid, .seat = NO_SEAT};
+    monitor->connections[place] = (struct connection){.state = ASKS, .fd = fd, .pid = peer.pid, .seat = NO_SEAT, .memory = NO_FD};
     if (place == CONNECTIONS_MOST || same >= CONNECTIONS_OF_A_PROCESS || !hear(monitor, place, EPOLL_CTL_ADD, EPOLLIN | EPOLLRDHUP)) {
         complain("a connection was refused: there are too many", peer.pid);
         clients_drop(monitor, place);
@@ -203,7 +205,8 @@ static int free_seat(const struct monitor *monitor)
     return best;
 }
 
-/* Takes the file if it answers LESUNGKAP_DONE. */
+/* Maps the client's memory into a window. It is sealed after that, and before the answer: nobody makes holes in it, which who touches them would
+ * have to wait for. */
 static uint32_t join(struct monitor *monitor, unsigned number, int fd)
 {
     struct connection *connection = monitor->connections + number;
@@ -230,9 +233,9 @@ static uint32_t join(struct monitor *monitor, unsigned number, int fd)
         monitor->taken[seat] = !free_window(monitor, seat);
         return LESUNGKAP_BAD_FIELD;
     }
-    close(fd); /* the window holds it */
     monitor->taken[seat] = 1;
     monitor->clients++;
+    connection->memory = fd;
     connection->seat = seat;
     connection->window_bytes = (uint64_t)file.st_size;
     return LESUNGKAP_DONE;
@@ -248,7 +251,7 @@ static void window(const struct monitor *monitor, struct answer *answer)
 
 /* ---- requests */
 
-/* Runs a request; *fd is NO_FD after it if it was taken. */
+/* Runs a request; *fd is NO_FD after it if it was kept. */
 static void run(struct monitor *monitor, unsigned client, const struct packet *packet, int *fd, struct answer *answer)
 {
     const uint32_t number = packet->fourth;
@@ -266,12 +269,14 @@ static void run(struct monitor *monitor, unsigned client, const struct packet *p
     case PACKET_POLL: work_poll(monitor, client, number, answer); return;
     case PACKET_FLUSH: answer->result = work_flush(monitor, client, number); return;
     case PACKET_WINDOW: window(monitor, answer); return;
+    case PACKET_JOIN: answer->result = join(monitor, client, *fd); return;
     case PACKET_ARM: answer->result = events_arm(monitor, client, number); return;
-    case PACKET_JOIN: answer->result = join(monitor, client, *fd); break;
-    case PACKET_CHANNEL: answer->result = events_channel(monitor, client, number, *fd); break;
-    default: answer->result = LESUNGKAP_BAD_TAPE_RECORD; return;
+    case PACKET_CHANNEL:
+        answer->result = events_channel(monitor, client, number, *fd);
+        *fd = answer->result == LESUNGKAP_DONE ? NO_FD : *fd;
+        return;
+    default: answer->result = LESUNGKAP_BAD_TAPE_RECORD;
     }
-    *fd = answer->result == LESUNGKAP_DONE ? NO_FD : *fd;
 }
 
 static int reply(int fd, const struct answer *answer)
@@ -288,7 +293,9 @@ static void finish(struct monitor *monitor, unsigned number)
 {
     struct connection *connection = monitor->connections + number;
     if (!reply(connection->fd, &connection->answer)) {
-        complain("a client was dropped: it does not take its answers", connection->pid);
+        if (errno == EAGAIN) {
+            complain("a client was dropped: it does not take its answers", connection->pid);
+        }
         clients_drop(monitor, number);
     } else if (connection->state == WAITS) {
         connection->state = ASKS;
@@ -340,6 +347,9 @@ void clients_report(struct monitor *monitor, unsigned number)
     if (connection->state == LEAVES) {
         unwanted(monitor, number, errand->file);
         leave(monitor, number);
+    } else if (errand->failed) {
+        complain("a client was dropped: its memory can't be sealed against holes (F_SEAL_FUTURE_WRITE)", connection->pid);
+        clients_drop(monitor, number);
     } else if (errand->from == NO_FD) {
         finish(monitor, number);
     } else if (errand->length >= 0) {

@@ -15,13 +15,13 @@
 
 /* ---- what a file is */
 
-/* Memory of the kernel's own, whose length nobody can change. Only such files are asked for their file system. */
+/* Memory of the kernel's own, whose length nobody can change, and that can be sealed further. Only such files are asked for their file system. */
 int is_sealed_memory(int fd)
 {
     const int wanted = F_SEAL_SHRINK | F_SEAL_GROW;
     const int seals = fcntl(fd, F_GET_SEALS);
     struct statfs system;
-    return seals >= 0 && (seals & wanted) == wanted && fstatfs(fd, &system) == 0 && system.f_type == TMPFS_MAGIC;
+    return seals >= 0 && (seals & (wanted | F_SEAL_SEAL)) == wanted && fstatfs(fd, &system) == 0 && system.f_type == TMPFS_MAGIC;
 }
 
 static int option_of(int fd, int name)
@@ -119,6 +119,7 @@ static void *run(void *given)
 {
     struct errand *errand = given;
     const uint8_t number = errand->number;
+    errand->failed = errand->memory != NO_FD && fcntl(errand->memory, F_ADD_SEALS, F_SEAL_FUTURE_WRITE) != 0;
     for (unsigned n = 0; n < errand->count; n++) {
         close(errand->files[n]);
     }

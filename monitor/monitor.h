@@ -28,11 +28,13 @@ struct answer {
     uint8_t body[LESUNGKAP_ACK_MOST_BYTES];
 };
 
-/* What a thread does for a connection, as its client may make it wait: it closes files, or reads a packet that came with files. Then it
- * reports the connection's number. */
+/* What a thread does for a connection, as its client may make it wait: it seals memory against holes, closes files, or reads a packet that came
+ * with files. Then it reports the connection's number. */
 struct errand {
     uint8_t number;
     int reports; /* where the number is written */
+    int memory;  /* one of the files, or NO_FD */
+    int failed;  /* it can't be sealed */
     int files[UNWANTED_MOST];
     unsigned count;
     int from; /* the connection if a packet is read, NO_FD if not */
@@ -51,7 +53,8 @@ struct connection {
     int seat;              /* its window is the seat's part of the memory */
     uint64_t window_bytes; /* of it, those that its file fills */
     unsigned has[KINDS];
-    int unwanted[UNWANTED_MOST]; /* files for its next errand to close */
+    int memory;                  /* for its next errand to seal, or NO_FD */
+    int unwanted[UNWANTED_MOST]; /* and files to close */
     unsigned unwanted_count;
     int out;              /* its errand is not done */
     int late;             /* and has no thread yet */

@@ -86,7 +86,7 @@ EXPORTED struct ibv_context *ibv_open_device(struct ibv_device *of)
     context->base.cmd_fd = context->link.fd;
     context->base.async_fd = eventfd(0, EFD_CLOEXEC);
     context->base.num_comp_vectors = 1;
-    context->pages.file = -1;
+    context->pages.file = context->pages.copy = -1;
     pthread_mutex_init(&context->base.mutex, NULL);
     pthread_mutex_init(&context->lock, NULL);
     return &context->base;

@@ -1,6 +1,6 @@
 /* The program's pages that hold registered bytes lie in the client's memory file, mapped over the program's own addresses. What was in
  * them is copied before the mapping changes; other threads must not write to them at that moment. Whole pages are shared with the
- * monitor. */
+ * monitor, which seals the file: it is mapped once before that, and pages of that mapping are mapped again. */
 #define _GNU_SOURCE
 #include "verbs.h"
 
@@ -15,9 +15,12 @@ int pages_open(struct pages *pages, uint32_t bytes)
     pages->count = bytes / PACKET_PAGE;
     pages->at = calloc(pages->count, sizeof *pages->at);
     pages->file = memfd_create("lesungkap", MFD_CLOEXEC | MFD_ALLOW_SEALING);
-    if (pages->at == NULL || pages->file < 0 || ftruncate(pages->file, (off_t)bytes) != 0 ||
-        fcntl(pages->file, F_ADD_SEALS, F_SEAL_SHRINK | F_SEAL_GROW) != 0) {
+    pages->copy = memfd_create("lesungkap", MFD_CLOEXEC);
+    if (pages->at == NULL || pages->file < 0 || pages->copy < 0 || ftruncate(pages->file, (off_t)bytes) != 0 ||
+        fcntl(pages->file, F_ADD_SEALS, F_SEAL_SHRINK | F_SEAL_GROW) != 0 ||
+        (pages->all = mmap(NULL, bytes, PROT_READ | PROT_WRITE, MAP_SHARED, pages->file, 0)) == MAP_FAILED) {
         const int why = errno;
+        pages->all = NULL;
         pages_close(pages);
         return why;
     }
@@ -26,13 +29,20 @@ int pages_open(struct pages *pages, uint32_t bytes)
 
 void pages_close(struct pages *pages)
 {
+    if (pages->all != NULL) {
+        munmap(pages->all, pages->count * PACKET_PAGE);
+    }
     free(pages->at);
     pages->at = NULL;
+    pages->all = NULL;
     pages->count = 0;
     if (pages->file >= 0) {
         close(pages->file);
     }
-    pages->file = -1;
+    if (pages->copy >= 0) {
+        close(pages->copy);
+    }
+    pages->file = pages->copy = -1;
 }
 
 /* ---- where pages lie */
@@ -76,32 +86,32 @@ static size_t find_row(const struct pages *pages, uintptr_t address, size_t coun
 
 /* ---- mappings */
 
-/* Moves one page of the program into the file; 0 or an errno. */
+static uint8_t *page_of(const struct pages *pages, size_t place) { return pages->all + place * PACKET_PAGE; }
+
+/* Moves one page of the program into the file; 0 or an errno. The kernel reads the page, which may not be there. */
 static int share_page(const struct pages *pages, size_t place, uintptr_t address)
 {
-    const off_t at = (off_t)(place * PACKET_PAGE);
     void *page = (void *)address;
-    if (pwrite(pages->file, page, PACKET_PAGE, at) != PACKET_PAGE) {
+    if (pwrite(pages->copy, page, PACKET_PAGE, 0) != PACKET_PAGE || pread(pages->copy, page_of(pages, place), PACKET_PAGE, 0) != PACKET_PAGE) {
         return EFAULT;
     }
-    return mmap(page, PACKET_PAGE, PROT_READ | PROT_WRITE, MAP_SHARED | MAP_FIXED, pages->file, at) == MAP_FAILED ? errno : 0;
+    return mremap(page_of(pages, place), 0, PACKET_PAGE, MREMAP_MAYMOVE | MREMAP_FIXED, page) == MAP_FAILED ? errno : 0;
 }
 
 /* Gives a page back to the program alone, and clears it in the file; 0 where that fails and the page stays shared. */
 static int unshare_page(const struct pages *pages, size_t place)
 {
-    const off_t at = (off_t)(place * PACKET_PAGE);
     void *page = (void *)pages->at[place].address;
     void *own = mmap(NULL, PACKET_PAGE, PROT_READ | PROT_WRITE, MAP_PRIVATE | MAP_ANONYMOUS, -1, 0);
     if (own == MAP_FAILED) {
         return 0;
     }
-    if (pread(pages->file, own, PACKET_PAGE, at) != PACKET_PAGE ||
-        mremap(own, PACKET_PAGE, PACKET_PAGE, MREMAP_MAYMOVE | MREMAP_FIXED, page) == MAP_FAILED) {
+    memcpy(own, page_of(pages, place), PACKET_PAGE);
+    if (mremap(own, PACKET_PAGE, PACKET_PAGE, MREMAP_MAYMOVE | MREMAP_FIXED, page) == MAP_FAILED) {
         munmap(own, PACKET_PAGE);
         return 0;
     }
-    fallocate(pages->file, FALLOC_FL_PUNCH_HOLE | FALLOC_FL_KEEP_SIZE, at, PACKET_PAGE);
+    memset(page_of(pages, place), 0, PACKET_PAGE);
     return 1;
 }
 

@@ -29,6 +29,8 @@ struct page {
 /* The program's pages in the client's memory file. */
 struct pages {
     int file;
+    int copy;     /* of one page, on its way */
+    uint8_t *all; /* the file, mapped in a row */
     size_t count;
     struct page *at;
 };

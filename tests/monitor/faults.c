@@ -15,6 +15,7 @@
 #include <stdlib.h>
 #include <sys/socket.h>
 #include <sys/wait.h>
+#include <time.h>
 #include <unistd.h>
 
 static const char *path;
@@ -79,21 +80,31 @@ static void message(struct side *from, struct side *to)
     compare(to);
 }
 
+static double seconds(void)
+{
+    struct timespec now;
+    clock_gettime(CLOCK_MONOTONIC, &now);
+    return (double)now.tv_sec + (double)now.tv_nsec / 1e9;
+}
+
 /* Runs until the other end of the pipe is closed. */
 static void pair(int stop)
 {
     struct side sides[2];
     uint64_t messages = 0;
+    double longest = 0;
     struct pollfd wait = {.fd = stop, .events = POLLIN};
     open_side(sides);
     open_side(sides + 1);
     client_ready(&sides[0].client, sides[1].client.qp);
     client_ready(&sides[1].client, sides[0].client.qp);
     while (poll(&wait, 1, 0) == 0) {
+        const double since = seconds();
         message(sides + messages % 2, sides + (messages + 1) % 2);
+        longest = seconds() - since > longest ? seconds() - since : longest;
         messages++;
     }
-    printf("the pair: %" PRIu64 " messages, every byte of both windows as it must be\n", messages);
+    printf("the pair: %" PRIu64 " messages, every byte of both windows as it must be; the longest took %.0f ms\n", messages, longest * 1e3);
     fflush(stdout);
 }
 

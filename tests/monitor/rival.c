@@ -46,6 +46,7 @@ static void bad_memory(void)
     EXPECT(join_with(memory_file(bytes, F_SEAL_SHRINK)) == LESUNGKAP_BAD_FIELD);
     EXPECT(join_with(memory_file(bytes, SEALS | F_SEAL_WRITE)) == LESUNGKAP_BAD_FIELD);
     EXPECT(join_with(memory_file(bytes, SEALS | F_SEAL_FUTURE_WRITE)) == LESUNGKAP_BAD_FIELD);
+    EXPECT(join_with(memory_file(bytes, SEALS | F_SEAL_SEAL)) == LESUNGKAP_BAD_FIELD);
     EXPECT(join_with(memory_file(bytes + PACKET_PAGE, SEALS)) == LESUNGKAP_RANGE);
     EXPECT(join_with(memory_file(bytes - 1, SEALS)) == LESUNGKAP_RANGE);
     EXPECT(join_with(memory_file(0, SEALS)) == LESUNGKAP_RANGE);
@@ -61,7 +62,7 @@ static void bad_memory(void)
     EXPECT(join_with(open(name, O_RDONLY | O_CLOEXEC)) == LESUNGKAP_BAD_FIELD && close(sealed) == 0);
 }
 
-/* A client that truncates, punches holes, closes and unmaps its memory harms itself only, and the seal holds. */
+/* A client can't truncate its memory or make holes in it, for which the monitor would have to wait; it may close and unmap it. */
 static void memory_after_joining(void)
 {
     struct client a, b;
@@ -73,7 +74,8 @@ static void memory_after_joining(void)
     EXPECT(ftruncate(b.memory_file, 0) == -1 && errno == EPERM);
     EXPECT(fcntl(b.memory_file, F_ADD_SEALS, F_SEAL_WRITE) == -1);
     EXPECT(ftruncate(b.memory_file, 2 * (off_t)b.bytes) == -1 && errno == EPERM);
-    EXPECT(fallocate(b.memory_file, FALLOC_FL_PUNCH_HOLE | FALLOC_FL_KEEP_SIZE, 0, (off_t)b.bytes) == 0);
+    EXPECT(fallocate(b.memory_file, FALLOC_FL_PUNCH_HOLE | FALLOC_FL_KEEP_SIZE, 0, (off_t)b.bytes) == -1 && errno == EPERM);
+    EXPECT(madvise(b.memory, b.bytes, MADV_REMOVE) == -1);
     memset(a.memory, 7, 4096);
     EXPECT(client_send(&a, LESUNGKAP_WRITE, 0, 4096, 0, b.mr.rkey) == LESUNGKAP_DONE);
     EXPECT(b.memory[0] == 7 && b.memory[4095] == 7 && b.memory[4096] == 0);
