@@ -24,7 +24,7 @@ use Rattle.tables.specs.declared.Completion.{Completion}
 use Rattle.tables.specs.declared.Region.{Region}
 use Rattle.tables.proofs.ObjectLaws.{pd-is, page-at, entry-at, receive-at}
 use Rattle.validate.specs.Accept.{accessOk, fieldsOk, landOk, mrOk, completionOk, receiveOk}
-use Rattle.validate.specs.Together.{eightOk, pagesOk, variantOk, virtOk, firstWord, wordsOk, wordOk, rangeOk, rowOk}
+use Rattle.validate.specs.Together.{eightOk, pagesOk, variantOk, virtOk, firstWord, remoteOk, wordsOk, wordOk, rangeOk, rowOk}
 use Rattle.validate.proofs.BitLaws.{Between}
 use Rattle.validate.proofs.TestLaws.{mr-rest, need-most, paged-rest, land-flat, land-paged}
 
@@ -107,18 +107,18 @@ or-cases false b e = inr e
 -- the word of one row is between what all words and any have in common
 pub word-by : (kind all any : ℕ) (r : Region) → kind < 256 → Small r → wordsOk kind any all ≡ true → Between all any (firstWord r) → wordOk kind r ≡ true
 word-by kind all any r small s e b =
+    let w : Bool = remoteOk any all in
     let a : Bool = leb (any % 256) mostAccess in
     let p : Bool = ltb (any / 65536 % 256) pdCount in
     let k : Bool = eqb (any / 16777216) kind in
     let m : Bool = eqb (all / 16777216) kind in
-    let w : Bool = eqb (any / 2 % 2) 0 || eqb (all % 2) 1 in
-    let e4 : (a && p && k && m) ≡ true = and-left (a && p && k && m) w e in
-    let e3 : (a && p && k) ≡ true = and-left (a && p && k) m e4 in
-    let e2 : (a && p) ≡ true = and-left (a && p) k e3 in
-    let ha : any % 256 ≤ mostAccess = leb-true _ _ (and-left a p e2) in
-    let hp : any / 65536 % 256 < pdCount = ltb-true _ _ (and-right a p e2) in
-    let hk : any / 16777216 ≡ kind = eqb-true _ _ (and-right (a && p) k e3) in
-    let hm : all / 16777216 ≡ kind = eqb-true _ _ (and-right (a && p && k) m e4) in
+    let e4 : (w && a && p && k) ≡ true = and-left (w && a && p && k) m e in
+    let e3 : (w && a && p) ≡ true = and-left (w && a && p) k e4 in
+    let e2 : (w && a) ≡ true = and-left (w && a) p e3 in
+    let ha : any % 256 ≤ mostAccess = leb-true _ _ (and-right w a e2) in
+    let hp : any / 65536 % 256 < pdCount = ltb-true _ _ (and-right (w && a) p e3) in
+    let hk : any / 16777216 ≡ kind = eqb-true _ _ (and-right (w && a && p) k e4) in
+    let hm : all / 16777216 ≡ kind = eqb-true _ _ (and-right (w && a && p && k) m e) in
     let x0 : firstWord r % 256 ≤ any % 256 = let y = b .high 0 8 in omega arith in
     let x1 : firstWord r / 65536 % 256 ≤ any / 65536 % 256 = b .high 16 8 in
     let x2 : firstWord r / 16777216 % 256 ≤ any / 16777216 % 256 = b .high 24 8 in
@@ -129,8 +129,8 @@ word-by kind all any r small s e b =
     both-true _ _
     (both-true _ _
     (access-by (r .access) (omega arith)
-    (⊎-elim (λ z. inl (let y : any / 2 % 2 ≡ 0 = eqb-true _ _ z in omega arith)) (λ z. inr (let y : all % 2 ≡ 1 = eqb-true _ _ z in omega arith))
-    (or-cases (eqb (any / 2 % 2) 0) (eqb (all % 2) 1) (and-right (a && p && k && m) w e))))
+    (⊎-elim (λ z. inr (let y : all % 2 ≡ 1 = eqb-true _ _ z in omega arith)) (λ z. inl (let y : any / 2 % 2 ≡ 0 = eqb-true _ _ z in omega arith))
+    (or-cases (eqb (all % 2) 1) (eqb (any / 2 % 2) 0) (and-left w a e2))))
     (lt-ltb (r .pd) pdCount (omega arith)))
     (eq-eqb (r .kind) kind (omega arith))
 

@@ -35,10 +35,12 @@ abbrev pub firstWord : Region → ℕ
 firstWord r = r .access + 256 * r .variant + 65536 * r .pd + 16777216 * r .kind
 
 -- such numbers of rows of one kind: `any` has the bits of each, `all` has those that each has
+abbrev pub remoteOk : (any all : ℕ) → Bool
+remoteOk any all = eqb (all % 2) 1 || eqb (any / 2 % 2) 0
+
 abbrev pub wordsOk : (kind any all : ℕ) → Bool
 wordsOk kind any all =
-    leb (any % 256) mostAccess && ltb (any / 65536 % 256) pdCount && eqb (any / 16777216) kind && eqb (all / 16777216) kind
-    && (eqb (any / 2 % 2) 0 || eqb (all % 2) 1)
+    remoteOk any all && leb (any % 256) mostAccess && ltb (any / 65536 % 256) pdCount && eqb (any / 16777216) kind && eqb (all / 16777216) kind
 
 -- a row's access, domain and kind
 abbrev pub wordOk : (kind : ℕ) → Region → Bool

@@ -27,7 +27,7 @@ ghost use Rattle.tables.specs.Layout.{stateSize, memoryT, mrFlagT, mrT, entryT,
 ghost use Rattle.tables.specs.Limits.{pdCount, cqCount, mrCount, qpCount, mostPages, pageSize, mostPlaces, mostWaiting};
 ghost use Rattle.tables.specs.State.{card};
 ghost use Rattle.validate.specs.Accept.{mrOk, completionOk, receiveOk};
-ghost use Rattle.validate.specs.Together.{Enough, eightOk, pagesOk, firstWord, wordsOk, wordOk, variantOk, virtOk, rangeOk, rowOk};
+ghost use Rattle.validate.specs.Together.{Enough, eightOk, pagesOk, firstWord, remoteOk, wordsOk, wordOk, variantOk, virtOk, rangeOk, rowOk};
 
 // From how many unread completions and waiting receives on all places are looked at.
 const MANY_UNREAD: u8 = 8;
@@ -74,20 +74,30 @@ fn first_word(r: Region) -> u32
         + 16777216 * (r.kind as u32)
 }
 
+// Remote write of one of them is no fault where each has local write.
+fn remote_ok(any: u32, all: u32) -> bool
+    ensures { λ x. ⌜ x ≡ remoteOk any all ⌝ }
+{
+    if all % 2 == 1 {
+        return true;
+    }
+    any / 2 % 2 == 0
+}
+
 fn words_ok(any: u32, all: u32, kind: u8) -> bool
     ensures { λ x. ⌜ x ≡ wordsOk kind any all ⌝ }
 {
+    if !remote_ok(any, all) {
+        return false;
+    }
     let access = any % 256;
     let pd = (any / 65536 % 256) as usize;
     let most = any / 16777216;
     let least = all / 16777216;
-    let remote = any / 2 % 2;
-    let local = all % 2;
     (access <= MOST_ACCESS as u32)
         & (pd < PD_COUNT)
         & (most == kind as u32)
         & (least == kind as u32)
-        & ((remote == 0) | (local == 1))
 }
 
 // Access, domain and kind.
