@@ -4,6 +4,7 @@ use mathlib.Core.Bool.{Bool, true, false, _&&_, _||_}
 use mathlib.Core.List.{List}
 use Prim.Native.Nat.{ℕ, _+_, _-_, _*_, _≤_, _<_}
 use native.Mathlib.Nat.{mul-one, add-zero}
+use native.Mathlib.Decide.{decLt}
 use native.Mathlib.Omega.{arith}
 use lib.Dec.{eqb, ltb, leb}
 use borrow.Author.Tests.{eq-eqb, ne-eqb, ltb-true, lt-ltb, le-ltb, lt-leb, le-leb}
@@ -19,6 +20,7 @@ use Rattle.tables.specs.Limits.{mostPlaces, mostWaiting, pageSize, mostPages}
 use Rattle.tables.specs.State.{PairRows, card, queueAt, regionAt, pairAt, pagesAt, pagesNeeded, unread, posted}
 use Rattle.tables.specs.declared.QueueHead.{QueueHead}
 use Rattle.tables.specs.declared.Region.{Region}
+use Rattle.validate.specs.Together.{Zeros}
 use Rattle.validate.specs.Accept.{cqOk, mrOk, qpOk, completionOk, receiveOk, queueOk, fieldsOk, numbersOk, pagedOk, landOk, pairOk, namesOk, receivesOk}
 
 -- a flag, and the rest of the test
@@ -123,15 +125,30 @@ module _ (l : List ℕ) (g : ℕ) (before : allBelow (8 * g) (mrOk l) ≡ true) 
   unfolding rowAt mrFlagT flagCodec fieldsAt place
   flag-is n = rw (mul-one, add-zero)
 
-  pub eight-free : leAt 8 l (mrFlagBase + 8 * g) ≡ 0 → allBelow (8 * (g + 1)) (mrOk l) ≡ true
-  eight-free e =
-      let z : 8 * (g + 1) ≡ 8 * g + 8 = omega arith in
-      rw z
-      (block-more (mrOk l) (8 * g) 8 before
+  pub more-free : (w : ℕ) → Zeros l (mrFlagBase + 8 * g) w → allBelow (8 * g + w) (mrOk l) ≡ true
+  more-free w z =
+      block-more (mrOk l) (8 * g) w before
       (λ i h. mr-off l (8 * g + i)
-      (let a : mrFlagBase + (8 * g + i) ≡ mrFlagBase + 8 * g + i = omega arith in flag-is (8 * g + i) ∙ rw a (zero-word 8 l (mrFlagBase + 8 * g) e i h))))
+      (let a : mrFlagBase + (8 * g + i) ≡ mrFlagBase + 8 * g + i = omega arith in flag-is (8 * g + i) ∙ rw a (z i h)))
+
+  pub eight-free : leAt 8 l (mrFlagBase + 8 * g) ≡ 0 → allBelow (8 * (g + 1)) (mrOk l) ≡ true
+  eight-free e = let z : 8 * (g + 1) ≡ 8 * g + 8 = omega arith in rw z (more-free 8 (zero-word 8 l (mrFlagBase + 8 * g) e))
 
   pub eight-tested : allBelow 8 (λ i. mrOk l (8 * g + i)) ≡ true → allBelow (8 * (g + 1)) (mrOk l) ≡ true
   eight-tested e =
       let z : 8 * (g + 1) ≡ 8 * g + 8 = omega arith in
       rw z (block-more (mrOk l) (8 * g) 8 before (λ i h. all-at 8 (λ i. mrOk l (8 * g + i)) i h e))
+
+-- four zero words
+pub four-zero : (l : List ℕ) (at : ℕ) → leAt 8 l at ≡ 0 → leAt 8 l (at + 8) ≡ 0 → leAt 8 l (at + 16) ≡ 0 → leAt 8 l (at + 24) ≡ 0 → Zeros l at 32
+four-zero l at a b c d i h =
+    elim (decLt i 8) [
+      | yes p ↦ zero-word 8 l at a i p
+      | no p ↦ elim (decLt i 16) [
+        | yes q ↦ let z : at + 8 + (i - 8) ≡ at + i = omega arith in rw z at (zero-word 8 l (at + 8) b (i - 8) (omega arith))
+        | no q ↦ elim (decLt i 24) [
+          | yes r ↦ let z : at + 16 + (i - 16) ≡ at + i = omega arith in rw z at (zero-word 8 l (at + 16) c (i - 16) (omega arith))
+          | no r ↦ let z : at + 24 + (i - 24) ≡ at + i = omega arith in rw z at (zero-word 8 l (at + 24) d (i - 24) (omega arith))
+        ]
+      ]
+    ]

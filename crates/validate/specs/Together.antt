@@ -2,8 +2,9 @@
 use mathlib.Core.Path.{_≡_}
 use mathlib.Core.Bool.{Bool, true, _&&_, _||_}
 use mathlib.Core.List.{List}
-use Prim.Native.Nat.{ℕ, _+_, _-_, _*_, _/_, _%_}
+use Prim.Native.Nat.{ℕ, _+_, _-_, _*_, _/_, _%_, _<_}
 use lib.Dec.{eqb, ltb, leb}
+use Rattle.wire.specs.Le.{leAt}
 use Rattle.wire.specs.Scan.{allBelow}
 use Rattle.wire.specs.Table.{rowAt}
 use Rattle.tables.specs.Layout.{mrT, pageT}
@@ -14,6 +15,10 @@ use Rattle.validate.specs.Accept.{accessOk}
 -- b holds where the test x passes
 abbrev pub Enough : (x b : Bool) → Type 0
 Enough x b = x ≡ true → b ≡ true
+
+-- the bytes from `at` on are zeros
+abbrev pub Zeros : List ℕ → (at many : ℕ) → Type 0
+Zeros l at many = (i : ℕ) → i < many → leAt 1 l (at + i) ≡ 0
 
 -- the rows of the eight region slots from 8 g on
 abbrev pub eightOk : (Region → Bool) → List ℕ → ℕ → Bool

@@ -42,19 +42,23 @@ returns c =
     let e : allBelow 8 (λ i. mrOk (now (a .state)) (8 * g + i)) ≡ false = sym (c .before .eight-ok .ensures) ∙ not-true _ (c .if2 .taken) in
     sym (block-fails mrCount (mrOk (now (a .state))) (8 * g) 8 (search needs) e)
 
-add-g : tie.Need-add-g Inv-loop μ-loop
-add-g c = search needs
+add-past-free : tie.Need-add-past-free Inv-loop μ-loop
+add-past-free c = search needs
+
+past-free-requires : tie.Need-past-free-requires Inv-loop μ-loop
+past-free-requires c κs = search needs
 
 loop-less : tie.Need-loop-less Inv-loop μ-loop
 loop-less c = search needs
 
 loop-again : tie.Need-loop-again Inv-loop μ-loop
 loop-again c =
-    let a = c .before .before .before .before .before .args in
-    let h = c .before .before .before .loop in (
+    let a = c .before .before .before .before .before .before .args in
+    let h = c .before .before .before .before .loop in (
       search needs,
-      ⊎-elim (λ w. eight-tested (now (a .state)) (h .g) (h .inv .1) (sym (w .1 .ensures) ∙ not-false _ (w .2 .left)))
-          (λ w. eight-free (now (a .state)) (h .g) (h .inv .1) (sym (c .before .get64 .ensures) ∙ w .left)) (c .if1 .came),
+      c .past-free .ensures .2
+          (⊎-elim (λ w. eight-tested (now (a .state)) (h .g) (h .inv .1) (sym (w .1 .ensures) ∙ not-false _ (w .2 .left)))
+          (λ w. eight-free (now (a .state)) (h .g) (h .inv .1) (sym (c .before .before .get64 .ensures) ∙ w .left)) (c .before .if1 .came)),
     )
 
 returns-2 : tie.Need-returns-2 Inv-loop μ-loop
@@ -75,7 +79,8 @@ mrs-ok-spec =
     get64-requires
     eight-ok-requires
     returns
-    add-g
+    add-past-free
+    past-free-requires
     loop-less
     loop-again
     returns-2)
