@@ -170,6 +170,7 @@ static void leave(struct monitor *monitor, unsigned number)
         send_out(monitor, number, NO_FD);
     } else {
         connection->state = FREE;
+        monitor->deaf = monitor->deaf > 0; /* no longer, there is a place */
     }
 }
 

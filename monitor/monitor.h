@@ -101,9 +101,9 @@ struct monitor {
     uint32_t turn;  /* queue pair whose held send is tried first */
     int changed;    /* a held send may be able to run */
     int epoll;
-    int reports; /* where errands report */
-    int deaf;    /* to newcomers, until the next round */
-    int late;    /* an errand has no thread yet */
+    int reports;   /* where errands report */
+    uint64_t deaf; /* to newcomers, until then by the clock; 0: not */
+    int late;      /* an errand has no thread yet */
     uint64_t requests;
     uint64_t nanoseconds; /* from request to answer, if timed */
     uint64_t clients;     /* that have joined */
