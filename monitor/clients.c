@@ -64,6 +64,7 @@ static void send_out(struct monitor *monitor, unsigned number, int from)
     errand->reports = monitor->reports;
     errand->from = from;
     errand->file = NO_FD;
+    errand->sender = 0;
     errand->memory = connection->memory;
     errand->count = connection->unwanted_count;
     memcpy(errand->files, connection->unwanted, sizeof errand->files);
@@ -169,6 +170,7 @@ static void leave(struct monitor *monitor, unsigned number)
         send_out(monitor, number, NO_FD);
     } else {
         connection->state = FREE;
+        monitor->deaf = monitor->deaf > 0; /* no longer, there is a place */
     }
 }
 

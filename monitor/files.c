@@ -47,7 +47,7 @@ static int holds_no_file(int fd)
     return waiting == 0;
 }
 
-/* The pair must be of the client's own process. An end of a connection to this monitor or to another would keep that open for a client that has
+/* The pair must be of the process that asks. An end of a connection to this monitor or to another would keep that open for a client that has
  * gone, and so would a socket that holds one: nothing comes into it from here on. */
 int becomes_channel(int fd, pid_t pid)
 {
@@ -81,23 +81,26 @@ ssize_t receive_packet(int from, uint8_t bytes[PACKET_MOST_BYTES], int *with_fil
     return recv(from, bytes, PACKET_MOST_BYTES, MSG_DONTWAIT | MSG_TRUNC);
 }
 
-/* The first file that came with a message; another is closed. */
-static int take_file(struct msghdr *message)
+/* The first file that came with a message, another is closed; and the process that sent it. */
+static void take_parts(struct msghdr *message, struct errand *errand)
 {
-    int kept = NO_FD;
     for (struct cmsghdr *part = CMSG_FIRSTHDR(message); part != NULL; part = CMSG_NXTHDR(message, part)) {
-        const size_t count = part->cmsg_len < CMSG_LEN(0) ? 0 : (part->cmsg_len - CMSG_LEN(0)) / sizeof(int);
-        for (size_t n = 0; part->cmsg_level == SOL_SOCKET && part->cmsg_type == SCM_RIGHTS && n < count; n++) {
+        const size_t length = part->cmsg_len < CMSG_LEN(0) || part->cmsg_level != SOL_SOCKET ? 0 : part->cmsg_len - CMSG_LEN(0);
+        struct ucred sender = {0, 0, 0};
+        if (part->cmsg_type == SCM_CREDENTIALS && length >= sizeof sender) {
+            memcpy(&sender, CMSG_DATA(part), sizeof sender);
+            errand->sender = sender.pid;
+        }
+        for (size_t at = 0; part->cmsg_type == SCM_RIGHTS && at + sizeof(int) <= length; at += sizeof(int)) {
             int fd;
-            memcpy(&fd, CMSG_DATA(part) + n * sizeof fd, sizeof fd);
-            if (kept == NO_FD) {
-                kept = fd;
+            memcpy(&fd, CMSG_DATA(part) + at, sizeof fd);
+            if (errand->file == NO_FD) {
+                errand->file = fd;
             } else {
                 close(fd);
             }
         }
     }
-    return kept;
 }
 
 /* Reads the packet that an errand is for. There is room for one file or two: the kernel closes the others here. */
@@ -110,7 +113,9 @@ static void read_with_file(struct errand *errand)
     struct iovec part = {errand->bytes, sizeof errand->bytes};
     struct msghdr message = {.msg_iov = &part, .msg_iovlen = 1, .msg_control = &control, .msg_controllen = sizeof control};
     errand->length = recvmsg(errand->from, &message, MSG_DONTWAIT | MSG_CMSG_CLOEXEC | MSG_TRUNC);
-    errand->file = errand->length < 0 ? NO_FD : take_file(&message);
+    if (errand->length >= 0) {
+        take_parts(&message, errand);
+    }
 }
 
 /* ---- errands */

@@ -278,8 +278,8 @@ static int round_of(const struct epoll_event *events, int count, const struct ea
             clients_serve(&monitor, who);
         }
     }
-    if (newcomers && !clients_accept(&monitor, ears->listener)) {
-        monitor.deaf = epoll_ctl(monitor.epoll, EPOLL_CTL_DEL, ears->listener, NULL) == 0;
+    if (newcomers && !clients_accept(&monitor, ears->listener) && epoll_ctl(monitor.epoll, EPOLL_CTL_DEL, ears->listener, NULL) == 0) {
+        monitor.deaf = clock_now() + 1000000000u;
     }
     return !ended;
 }
@@ -295,11 +295,13 @@ static int serve(const struct ears *ears)
     struct epoll_event events[EVENTS_MOST];
     int count;
     do {
-        count = epoll_wait(monitor.epoll, events, EVENTS_MOST, monitor.changed ? 0 : monitor.deaf || monitor.late ? 1000 : -1);
+        if (monitor.deaf > 0 && clock_now() >= monitor.deaf && watch(ears->listener, LISTENER)) {
+            monitor.deaf = 0;
+        }
+        count = epoll_wait(monitor.epoll, events, EVENTS_MOST, monitor.changed ? 0 : monitor.deaf > 0 || monitor.late ? 1000 : -1);
         if (count < 0 && errno != EINTR) {
             return die("epoll", strerror(errno));
         }
-        monitor.deaf = monitor.deaf && !watch(ears->listener, LISTENER);
         if (monitor.late) {
             clients_start_late(&monitor);
         }

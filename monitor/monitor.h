@@ -39,6 +39,7 @@ struct errand {
     unsigned count;
     int from; /* the connection if a packet is read, NO_FD if not */
     int file; /* the first that came with it, or NO_FD */
+    pid_t sender;
     ssize_t length;
     uint8_t bytes[PACKET_MOST_BYTES];
 };
@@ -100,9 +101,9 @@ struct monitor {
     uint32_t turn;  /* queue pair whose held send is tried first */
     int changed;    /* a held send may be able to run */
     int epoll;
-    int reports; /* where errands report */
-    int deaf;    /* to newcomers, until the next round */
-    int late;    /* an errand has no thread yet */
+    int reports;   /* where errands report */
+    uint64_t deaf; /* to newcomers, until then by the clock; 0: not */
+    int late;      /* an errand has no thread yet */
     uint64_t requests;
     uint64_t nanoseconds; /* from request to answer, if timed */
     uint64_t clients;     /* that have joined */
@@ -127,7 +128,7 @@ void unwanted(struct monitor *monitor, unsigned client, int fd);
 /* ---- files.c: what clients pass */
 
 int is_sealed_memory(int fd);
-/* Whether a file can be a client's channel: a connected Unix socket of packets, made by its process; it is shut for reading then. */
+/* Whether a file can be a client's channel: a connected Unix socket of packets, made by this process; it is shut for reading then. */
 int becomes_channel(int fd, pid_t pid);
 /* Takes a packet if it came without files. Its whole length; -1 with errno where there is none, EPIPE at the end. */
 ssize_t receive_packet(int from, uint8_t bytes[PACKET_MOST_BYTES], int *with_files);

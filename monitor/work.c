@@ -50,7 +50,7 @@ uint32_t events_channel(struct monitor *monitor, unsigned client, uint32_t cqn, 
     if (!owns(monitor, client, CQ, cqn)) {
         return LESUNGKAP_NOT_LIVE;
     }
-    if (fd == NO_FD || !becomes_channel(fd, monitor->connections[client].pid)) {
+    if (fd == NO_FD || !becomes_channel(fd, monitor->connections[client].errand.sender)) {
         return LESUNGKAP_BAD_FIELD;
     }
     events_forget(monitor, client, cqn);
