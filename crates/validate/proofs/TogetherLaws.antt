@@ -23,7 +23,7 @@ use Rattle.tables.specs.State.{card, regionAt, pagesAt, pagesNeeded, ringAt, re
 use Rattle.tables.specs.declared.Completion.{Completion}
 use Rattle.tables.specs.declared.Region.{Region}
 use Rattle.tables.proofs.ObjectLaws.{pd-is, page-at, entry-at, receive-at}
-use Rattle.validate.specs.Accept.{accessOk, fieldsOk, landOk, mrOk, completionOk, receiveOk}
+use Rattle.validate.specs.Accept.{accessOk, fieldsOk, numbersOk, landOk, mrOk, completionOk, receiveOk}
 use Rattle.validate.specs.Together.{eightOk, pagesOk, variantOk, virtOk, firstWord, remoteOk, wordsOk, wordOk, rangeOk, rowOk}
 use Rattle.validate.proofs.BitLaws.{Between}
 use Rattle.validate.proofs.TestLaws.{mr-rest, need-most, paged-rest, land-flat, land-paged}
@@ -48,12 +48,20 @@ max-more f i top new a b h k l =
     ]
 
 -- page numbers that are all at most one which passes
-pub pages-by : (memory : ℕ) (l : List ℕ) (g top : ℕ) → ltb top (memory / pageSize) ≡ true → ((k : ℕ) → k < 128 → rowAt pageT l (128 * g + k) ≤ top)
-    → pagesOk memory l g ≡ true
-pages-by memory l g top e m =
+pub pages-by : (memory : ℕ) (l : List ℕ) (from many top : ℕ) → ltb top (memory / pageSize) ≡ true → ((k : ℕ) → k < many → rowAt pageT l (from + k) ≤ top)
+    → pagesOk memory l from many ≡ true
+pages-by memory l from many top e m =
     let t : top < memory / pageSize = ltb-true top (memory / pageSize) e in
-    all-each 128 (λ k. ltb (rowAt pageT l (128 * g + k)) (memory / pageSize))
-    (λ k b. let x = m k b in lt-ltb (rowAt pageT l (128 * g + k)) (memory / pageSize) (omega arith))
+    all-each many (λ k. ltb (rowAt pageT l (from + k)) (memory / pageSize))
+    (λ k b. let x = m k b in lt-ltb (rowAt pageT l (from + k)) (memory / pageSize) (omega arith))
+
+-- those that a region needs, from all its places
+pub numbers-by : (memory : ℕ) (l : List ℕ) (n count : ℕ) → count ≤ mostPages → pagesOk memory l (mostPages * n) mostPages ≡ true
+    → numbersOk memory count (pagesAt l n) ≡ true
+numbers-by memory l n count h e =
+    all-each count (λ k. ltb (getD (pagesAt l n) k 0) (memory / pageSize))
+    (λ k b. let m : k < mostPages = omega arith in
+    rw (page-at l n k m) (all-at mostPages (λ k. ltb (rowAt pageT l (mostPages * n + k)) (memory / pageSize)) k m e))
 
 -- ---- a region's row
 
@@ -237,7 +245,7 @@ module _ (l : List ℕ) (g kind limit : ℕ) (live : allBelow 8 (λ i. eqb (rowA
       all-each 8 (λ i. mrOk l (8 * g + i)) (λ i h. flat-by l kind limit (8 * g + i) (is-live i h) pds most (row-ok i h) k m)
 
   pub eight-paged : kind ≡ 1 → limit ≡ mostPages * pageSize → eightOk (λ r. leb (r .start) (pageSize - 1)) l g ≡ true
-      → pagesOk (rowAt memoryT l 0) l g ≡ true → allBelow 8 (λ i. mrOk l (8 * g + i)) ≡ true
+      → pagesOk (rowAt memoryT l 0) l (128 * g) 128 ≡ true → allBelow 8 (λ i. mrOk l (8 * g + i)) ≡ true
   eight-paged k m starts pages =
       all-each 8 (λ i. mrOk l (8 * g + i))
       (λ i h. paged-by l kind limit (8 * g + i) (is-live i h) pds most (row-ok i h) k m

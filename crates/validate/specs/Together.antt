@@ -24,9 +24,9 @@ Zeros l at many = (i : ℕ) → i < many → leAt 1 l (at + i) ≡ 0
 abbrev pub eightOk : (Region → Bool) → List ℕ → ℕ → Bool
 eightOk p l g = allBelow 8 (λ i. p (rowAt mrT l (8 * g + i)))
 
--- the page numbers of these slots, 16 for each
-abbrev pub pagesOk : (memory : ℕ) → List ℕ → ℕ → Bool
-pagesOk memory l g = allBelow 128 (λ k. ltb (rowAt pageT l (128 * g + k)) (memory / pageSize))
+-- page numbers, `many` of them from row `from` on
+abbrev pub pagesOk : (memory : ℕ) → List ℕ → (from many : ℕ) → Bool
+pagesOk memory l from many = allBelow many (λ k. ltb (rowAt pageT l (from + k)) (memory / pageSize))
 
 abbrev pub variantOk : Region → Bool
 variantOk r = leb 1 (r .variant)

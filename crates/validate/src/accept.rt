@@ -137,6 +137,9 @@ fn numbers_ok(state: &[u8], memory: u64, n: usize, count: usize) -> bool
     requires { ⌜ (n < mrCount) × (count ≤ mostPages) × (length (now state) ≡ stateSize) ⌝ }
     ensures { λ x. ⌜ x ≡ numbersOk memory count (pagesAt (now (state .entry)) n) ⌝ }
 {
+    if together::page_bits_pass(state, MOST_PAGES * n, MOST_PAGES, memory) {
+        return true;
+    }
     let limit = memory / PAGE_SIZE;
     let mut k = 0;
     while k < count {

@@ -23,7 +23,7 @@ ghost use lib.Dec.{eqb, leb};
 ghost use lib.ListN.{length};
 ghost use Rattle.wire.specs.Scan.{allBelow};
 ghost use Rattle.wire.specs.Table.{rowAt};
-ghost use Rattle.tables.specs.Layout.{stateSize, memoryT, mrFlagT, mrT, entryT, receiveT};
+ghost use Rattle.tables.specs.Layout.{stateSize, pageCount, memoryT, mrFlagT, mrT, entryT, receiveT};
 ghost use Rattle.tables.specs.Limits.{pdCount, cqCount, mrCount, qpCount, mostPages, pageSize, mostPlaces, mostWaiting};
 ghost use Rattle.tables.specs.State.{card};
 ghost use Rattle.validate.specs.Accept.{mrOk, completionOk, receiveOk};
@@ -168,43 +168,45 @@ fn larger(a: u16, b: u16) -> u16
     if a < b { b } else { a }
 }
 
-// Their page numbers, also those that a region does not need, by the bits that they have: the quicker of two ways, and all that it takes
-// where the memory's pages are a power of two.
-fn page_bits_pass(state: &[u8], g: usize, memory: u64) -> bool
-    requires { ⌜ (8 * g + 8 ≤ mrCount) × (length (now state) ≡ stateSize) ⌝ }
-    ensures { λ x. ⌜ Enough x (pagesOk memory (now (state .entry)) g) ⌝ }
+// Page numbers, also those that a region does not need, by the bits that they have: the quicker of two ways, and all that it takes where
+// the memory's pages are a power of two.
+pub fn page_bits_pass(state: &[u8], from: usize, many: usize, memory: u64) -> bool
+    requires { ⌜ (from + many ≤ pageCount) × (length (now state) ≡ stateSize) ⌝ }
+    ensures { λ x. ⌜ Enough x (pagesOk memory (now (state .entry)) from many) ⌝ }
 {
     let mut any: u16 = 0;
     let mut k = 0;
-    while k < 8 * MOST_PAGES {
-        any = joined(any, rows::load_page(state, 8 * MOST_PAGES * g + k));
+    while k < many {
+        any = joined(any, rows::load_page(state, from + k));
         k += 1;
     }
     (any as u64) < memory / PAGE_SIZE
 }
 
 // The same by the largest.
-fn page_most_pass(state: &[u8], g: usize, memory: u64) -> bool
-    requires { ⌜ (8 * g + 8 ≤ mrCount) × (length (now state) ≡ stateSize) ⌝ }
-    ensures { λ x. ⌜ Enough x (pagesOk memory (now (state .entry)) g) ⌝ }
+fn page_most_pass(state: &[u8], from: usize, many: usize, memory: u64) -> bool
+    requires { ⌜ (from + many ≤ pageCount) × (length (now state) ≡ stateSize) ⌝ }
+    ensures { λ x. ⌜ Enough x (pagesOk memory (now (state .entry)) from many) ⌝ }
 {
     let mut top: u16 = 0;
     let mut k = 0;
-    while k < 8 * MOST_PAGES {
-        top = larger(top, rows::load_page(state, 8 * MOST_PAGES * g + k));
+    while k < many {
+        top = larger(top, rows::load_page(state, from + k));
         k += 1;
     }
     (top as u64) < memory / PAGE_SIZE
 }
 
+// The page numbers of the eight region slots from 8 g on.
 fn pages_pass(state: &[u8], g: usize, memory: u64) -> bool
     requires { ⌜ (8 * g + 8 ≤ mrCount) × (length (now state) ≡ stateSize) ⌝ }
-    ensures { λ x. ⌜ Enough x (pagesOk memory (now (state .entry)) g) ⌝ }
+    ensures { λ x. ⌜ Enough x (pagesOk memory (now (state .entry)) (128 * g) 128) ⌝ }
 {
-    if page_bits_pass(state, g, memory) {
+    let from = 8 * MOST_PAGES * g;
+    if page_bits_pass(state, from, 8 * MOST_PAGES, memory) {
         return true;
     }
-    page_most_pass(state, g, memory)
+    page_most_pass(state, from, 8 * MOST_PAGES, memory)
 }
 
 // ---- regions

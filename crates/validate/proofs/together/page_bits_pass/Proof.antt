@@ -15,22 +15,13 @@ use Rattle.tables.proofs.rows.load_page.Reads as load-page-reads
 use Rattle.validate.proofs.together.joined.Reads as joined-reads
 
 abbrev Inv-loop : tie.InvT-loop
-Inv-loop state g memory any₀ k₀ any k = (k ≤ 128) × (any < 65536) × ((j : ℕ) → j < k → rowAt pageT state (128 * g + j) ≤ any)
+Inv-loop state from many memory any₀ k₀ any k = (k ≤ many) × (any < 65536) × ((j : ℕ) → j < k → rowAt pageT state (from + j) ≤ any)
 
 abbrev μ-loop : tie.MeasureT-loop
-μ-loop state g memory any₀ k₀ any k = 128 - k
+μ-loop state from many memory any₀ k₀ any k = many - k
 
 loop-holds : tie.Need-loop-holds Inv-loop μ-loop
 loop-holds c = (search needs, search needs, λ k h. absurd (omega arith))
-
-mul-loop : tie.Need-mul-loop Inv-loop μ-loop
-mul-loop c = search needs
-
-mul-load-page : tie.Need-mul-load-page Inv-loop μ-loop
-mul-load-page c = search needs
-
-mul-load-page-2 : tie.Need-mul-load-page-2 Inv-loop μ-loop
-mul-load-page-2 c = search needs
 
 add-load-page : tie.Need-add-load-page Inv-loop μ-loop
 add-load-page c = search needs
@@ -51,7 +42,7 @@ loop-again : tie.Need-loop-again Inv-loop μ-loop
 loop-again c =
     let a = c .before .before .before .before .before .args in
     let h = c .before .before .before .loop in
-    let f : ℕ → ℕ = λ j. rowAt pageT (now (a .state)) (128 * a .g + j) in
+    let f : ℕ → ℕ = λ j. rowAt pageT (now (a .state)) (a .from + j) in
     (search needs, c .joined .ensures .2, max-more f (h .k) (h .any) (c .joined .result) (c .joined .ensures .0) (rw (c .before .load-page .ensures) at (c .joined .ensures .1)) (h .inv .2))
 
 cast-result : tie.Need-cast-result Inv-loop μ-loop
@@ -61,8 +52,8 @@ returns : tie.Need-returns Inv-loop μ-loop
 returns c e =
     let a = c .before .before .before .args in
     let h = c .before .loop in
-    let z : h .k ≡ 128 = omega arith in
-    pages-by (a .memory) (now (a .state)) (a .g) (h .any) e (rw z at (h .inv .2))
+    let z : h .k ≡ a .many = omega arith in
+    pages-by (a .memory) (now (a .state)) (a .from) (a .many) (h .any) e (rw z at (h .inv .2))
 
 pub page-bits-pass-spec : {M : Type 1} → statement M
 page-bits-pass-spec =
@@ -71,9 +62,6 @@ page-bits-pass-spec =
     Inv-loop
     μ-loop
     loop-holds
-    mul-loop
-    mul-load-page
-    mul-load-page-2
     add-load-page
     load-page-requires
     joined-requires
