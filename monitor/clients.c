@@ -6,7 +6,6 @@
 #include <sys/epoll.h>
 #include <sys/mman.h>
 #include <sys/socket.h>
-#include <sys/stat.h>
 #include <unistd.h>
 
 enum { HUGE_PAGE = 2097152, DRAINED_MOST = 64 };
@@ -212,17 +211,17 @@ static int free_seat(const struct monitor *monitor)
 static uint32_t join(struct monitor *monitor, unsigned number, int fd)
 {
     struct connection *connection = monitor->connections + number;
-    struct stat file;
+    const struct stat *file = &connection->errand.stat;
     const int seat = free_seat(monitor);
-    if (fd == NO_FD || !is_sealed_memory(fd) || fstat(fd, &file) != 0) {
+    if (fd == NO_FD || !connection->errand.sealed) {
         complain("a client's memory was refused: it is no memfd that is sealed against shrinking and growing", connection->pid);
         return LESUNGKAP_BAD_FIELD;
     }
     if (connection->seat != NO_SEAT) {
         return LESUNGKAP_IN_USE;
     }
-    if (file.st_size <= 0 || file.st_size % PACKET_PAGE != 0 || (uint64_t)file.st_size > monitor->window ||
-        (uint64_t)file.st_blocks * 512 > monitor->window + HUGE_PAGE) { /* bytes past its end, which take long to free */
+    if (file->st_size <= 0 || file->st_size % PACKET_PAGE != 0 || (uint64_t)file->st_size > monitor->window ||
+        (uint64_t)file->st_blocks * 512 > monitor->window + HUGE_PAGE) { /* bytes past its end, which take long to free */
         return LESUNGKAP_RANGE;
     }
     if (seat == NO_SEAT) {
@@ -230,7 +229,7 @@ static uint32_t join(struct monitor *monitor, unsigned number, int fd)
         return LESUNGKAP_FULL;
     }
     void *window = window_of(monitor, seat);
-    if (mmap(window, (size_t)file.st_size, PROT_READ | PROT_WRITE, MAP_SHARED | MAP_FIXED, fd, 0) == MAP_FAILED) {
+    if (mmap(window, (size_t)file->st_size, PROT_READ | PROT_WRITE, MAP_SHARED | MAP_FIXED, fd, 0) == MAP_FAILED) {
         complain("a client's memory was refused: it can't be mapped", connection->pid);
         monitor->taken[seat] = !free_window(monitor, seat);
         return LESUNGKAP_BAD_FIELD;
@@ -239,7 +238,7 @@ static uint32_t join(struct monitor *monitor, unsigned number, int fd)
     monitor->clients++;
     connection->memory = fd;
     connection->seat = seat;
-    connection->window_bytes = (uint64_t)file.st_size;
+    connection->window_bytes = (uint64_t)file->st_size;
     return LESUNGKAP_DONE;
 }
 

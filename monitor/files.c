@@ -16,7 +16,7 @@
 /* ---- what a file is */
 
 /* Memory of the kernel's own, whose length nobody can change, and that can be sealed further. Only such files are asked for their file system. */
-int is_sealed_memory(int fd)
+static int is_sealed_memory(int fd)
 {
     const int wanted = F_SEAL_SHRINK | F_SEAL_GROW;
     const int seals = fcntl(fd, F_GET_SEALS);
@@ -116,6 +116,7 @@ static void read_with_file(struct errand *errand)
     if (errand->length >= 0) {
         take_parts(&message, errand);
     }
+    errand->sealed = errand->file != NO_FD && is_sealed_memory(errand->file) && fstat(errand->file, &errand->stat) == 0;
 }
 
 /* ---- errands */

@@ -5,6 +5,7 @@
 #include "card.h"
 #include "packet.h"
 
+#include <sys/stat.h>
 #include <sys/types.h>
 
 enum kind { PD, CQ, MR, QP, KINDS };
@@ -33,15 +34,19 @@ struct answer {
 struct errand {
     uint8_t number;
     int reports; /* where the number is written */
-    int memory;  /* one of the files, or NO_FD */
-    int failed;  /* it can't be sealed */
+
+    int memory; /* to be sealed, one of the files; or NO_FD */
+    int failed; /* it can't be */
     int files[UNWANTED_MOST];
     unsigned count;
+
     int from; /* the connection if a packet is read, NO_FD if not */
-    int file; /* the first that came with it, or NO_FD */
     pid_t sender;
     ssize_t length;
     uint8_t bytes[PACKET_MOST_BYTES];
+    int file;   /* the first that came with it, or NO_FD */
+    int sealed; /* it is memory that can't shrink or grow */
+    struct stat stat;
 };
 
 /* A connection is served; or waits for its errand, and nothing of it is read; or its client has gone and its files have not. */
@@ -127,7 +132,6 @@ void unwanted(struct monitor *monitor, unsigned client, int fd);
 
 /* ---- files.c: what clients pass */
 
-int is_sealed_memory(int fd);
 /* Whether a file can be a client's channel: a connected Unix socket of packets, made by this process; it is shut for reading then. */
 int becomes_channel(int fd, pid_t pid);
 /* Takes a packet if it came without files. Its whole length; -1 with errno where there is none, EPIPE at the end. */
