@@ -42,7 +42,6 @@ ghost use Rattle.wire.specs.Ring.{ringList};
 ghost use Rattle.tables.specs.State.{card, regionAt, pairAt, ringAt, receivesAt, pagesAt, pagesNeeded, noCompletion, noRecord};
 ghost use Rattle.tables.specs.Layout.{stateSize, memoryT, mrT};
 ghost use Rattle.tables.specs.Limits.{pdCount, cqCount, mrCount, qpCount, mostPlaces, mostWaiting, mostPages};
-ghost use Rattle.validate.specs.Together.{Enough, Zeros};
 ghost use Rattle.validate.specs.Accept.{accepts, isStatus, isState, completionOk, receiveOk, accessOk, fieldsOk, numbersOk, pagedOk, landOk, queueOk, pairOk, pdOk, cqOk, mrOk, qpOk, namesOk, receivesOk};
 
 // Whether protection domain n is live.
@@ -398,29 +397,6 @@ fn eight_ok(state: &[u8], memory: u64, g: usize) -> bool
     true
 }
 
-// The four words from index at on, or-ed.
-fn four_words(s: &[u8], at: usize) -> u64
-    requires { ⌜ at + 32 ≤ length (now s) ⌝ }
-    ensures { λ x. ⌜ (x ≡ 0 → Zeros (now (s .entry)) at 32) ⌝ }
-{
-    wire::get64(s, at) | wire::get64(s, at + 8) | wire::get64(s, at + 16) | wire::get64(s, at + 24)
-}
-
-// Past eights of region slots from this one on that are all free, four at a time.
-fn past_free(state: &[u8], from: usize) -> usize
-    requires { ⌜ (from ≤ 32) × (length (now state) ≡ stateSize) ⌝ }
-    ensures { λ x. ⌜ (from ≤ x) × (x ≤ 32) × Enough (allBelow (8 * from) (mrOk (now (state .entry)))) (allBelow (8 * x) (mrOk (now (state .entry)))) ⌝ }
-{
-    let mut g = from;
-    while g + 4 <= MR_COUNT / 8 {
-        if four_words(state, rows::MR_FLAGS + 8 * g) != 0 {
-            return g;
-        }
-        g += 4;
-    }
-    g
-}
-
 // Free slots are passed eight or more at a time: their flags are zero words.
 fn mrs_ok(state: &[u8], memory: u64) -> bool
     requires { ⌜ (length (now state) ≡ stateSize) × (memory ≡ rowAt memoryT (now state) 0) ⌝ }
@@ -433,7 +409,7 @@ fn mrs_ok(state: &[u8], memory: u64) -> bool
                 return false;
             }
         }
-        g = past_free(state, g + 1);
+        g = together::past_free(state, g + 1);
     }
     true
 }

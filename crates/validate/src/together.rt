@@ -10,6 +10,7 @@ use tables::limits::MOST_PAGES;
 use tables::limits::MOST_PLACES;
 use tables::limits::MOST_RECEIVE_SGES;
 use tables::limits::MOST_WAITING;
+use tables::limits::MR_COUNT;
 use tables::limits::PAGE_SIZE;
 use tables::limits::PAGED;
 use tables::limits::PD_COUNT;
@@ -23,11 +24,11 @@ ghost use lib.Dec.{eqb, leb};
 ghost use lib.ListN.{length};
 ghost use Rattle.wire.specs.Scan.{allBelow};
 ghost use Rattle.wire.specs.Table.{rowAt};
-ghost use Rattle.tables.specs.Layout.{stateSize, pageCount, memoryT, mrFlagT, mrT, entryT, receiveT};
+ghost use Rattle.tables.specs.Layout.{stateSize, pageCount, memoryT, mrFlagT, entryT, receiveT};
 ghost use Rattle.tables.specs.Limits.{pdCount, cqCount, mrCount, qpCount, mostPages, pageSize, mostPlaces, mostWaiting};
 ghost use Rattle.tables.specs.State.{card};
 ghost use Rattle.validate.specs.Accept.{mrOk, completionOk, receiveOk};
-ghost use Rattle.validate.specs.Together.{Enough, eightOk, pagesOk, firstWord, remoteOk, wordsOk, wordOk, variantOk, virtOk, rangeOk, rowOk};
+ghost use Rattle.validate.specs.Together.{Enough, Zeros, eightOk, pagesOk, firstWord, remoteOk, wordsOk, wordOk, variantOk, virtOk, rangeOk, rowOk};
 
 // From how many unread completions and waiting receives on all places are looked at.
 const MANY_UNREAD: u8 = 8;
@@ -273,6 +274,31 @@ pub fn regions_pass(state: &[u8], memory: u64, g: usize) -> bool
         return false;
     }
     live_pass(state, memory, g)
+}
+
+// ---- free slots
+
+// The four words from index at on, or-ed.
+fn four_words(s: &[u8], at: usize) -> u64
+    requires { ⌜ at + 32 ≤ length (now s) ⌝ }
+    ensures { λ x. ⌜ (x ≡ 0 → Zeros (now (s .entry)) at 32) ⌝ }
+{
+    wire::get64(s, at) | wire::get64(s, at + 8) | wire::get64(s, at + 16) | wire::get64(s, at + 24)
+}
+
+// Past eights of region slots from this one on that are all free, four at a time.
+pub fn past_free(state: &[u8], from: usize) -> usize
+    requires { ⌜ (from ≤ 32) × (length (now state) ≡ stateSize) ⌝ }
+    ensures { λ x. ⌜ (from ≤ x) × (x ≤ 32) × Enough (allBelow (8 * from) (mrOk (now (state .entry)))) (allBelow (8 * x) (mrOk (now (state .entry)))) ⌝ }
+{
+    let mut g = from;
+    while g + 4 <= MR_COUNT / 8 {
+        if four_words(state, rows::MR_FLAGS + 8 * g) != 0 {
+            return g;
+        }
+        g += 4;
+    }
+    g
 }
 
 // ---- rings

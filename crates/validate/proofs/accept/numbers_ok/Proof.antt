@@ -1,6 +1,6 @@
 use borrow.Author.Needs.{needs}
 use denote.Ref.{now}
-use Prim.Native.Nat.{ℕ, _≤_, _<_, _-_, _/_}
+use Prim.Native.Nat.{ℕ, _≤_, _-_, _/_}
 use mathlib.Core.Path.{_≡_, refl, sym, ap, _∙_}
 use mathlib.Core.Bool.{Bool, true, false}
 use native.Mathlib.Omega.{arith}
@@ -9,15 +9,12 @@ use lib.ListN.{getD}
 use borrow.Author.Tests.{lt-ltb, le-ltb}
 use Rattle.wire.specs.Scan.{allBelow}
 use Rattle.wire.proofs.ScanLaws.{all-none, all-more, all-fails}
-use Rattle.tables.specs.Limits.{pageSize, mostPages}
+use Rattle.tables.specs.Limits.{pageSize}
 use Rattle.tables.specs.State.{pagesAt}
 use Rattle.tables.proofs.ObjectLaws.{page-at}
 use Rattle.validate.proofs.TogetherLaws.{numbers-by}
 use Rattle.validate.proofs.accept.numbers_ok.Statement.{statement}
 use Rattle.validate.proofs.accept.numbers_ok.Tie as tie
-use Rattle.validate.proofs.accept.numbers_ok.Reads as reads
-use Rattle.validate.proofs.accept.numbers_ok.Lts as lts
-use Rattle.tables.proofs.rows.load_page.Reads as load-page-reads
 
 abbrev Inv-loop : tie.InvT-loop
 Inv-loop state memory n count limit k₀ k =

@@ -1,11 +1,10 @@
 use borrow.Author.Needs.{needs}
 use denote.Ref.{now}
 use Prim.Native.Nat.{ℕ, _≤_, _<_, _-_, _+_, _*_}
-use mathlib.Core.Path.{_≡_, refl, sym, ap, _∙_}
-use mathlib.Core.Bool.{Bool, true, false, _&&_}
+use mathlib.Core.Path.{_≡_, ap}
+use mathlib.Core.Bool.{Bool, true, _&&_}
 use native.Mathlib.Omega.{arith}
 use lib.Dec.{ltb, leb}
-use Rattle.wire.specs.Scan.{allBelow}
 use Rattle.wire.specs.Table.{rowAt}
 use borrow.Author.Tests.{leb-true, ltb-true}
 use Rattle.wire.proofs.ScanLaws.{all-each, and-left, and-right}
@@ -17,9 +16,6 @@ use Rattle.validate.proofs.BitLaws.{or-more}
 use Rattle.validate.proofs.TogetherLaws.{max-more, completion-by}
 use Rattle.validate.proofs.together.completions_pass.Statement.{statement}
 use Rattle.validate.proofs.together.completions_pass.Tie as tie
-use Rattle.validate.proofs.together.completions_pass.Reads as reads
-use Rattle.validate.proofs.together.completions_pass.Lts as lts
-use Rattle.tables.proofs.rows.load_entry.Reads as load-entry-reads
 
 abbrev Inv-loop : tie.InvT-loop
 Inv-loop state n count statuses₀ opcodes₀ owners₀ k₀ statuses opcodes owners k =

@@ -7,13 +7,6 @@ use Rattle.tables.specs.Layout.{memoryT}
 use Rattle.validate.proofs.TogetherLaws.{eight-flat, eight-paged}
 use Rattle.validate.proofs.together.live_pass.Statement.{statement}
 use Rattle.validate.proofs.together.live_pass.Tie as tie
-use Rattle.validate.proofs.together.live_pass.Reads as reads
-use Rattle.validate.proofs.together.live_pass.Lts as lts
-use Rattle.validate.proofs.together.limit_of.Reads as limit-of-reads
-use Rattle.validate.proofs.together.pages_pass.Reads as pages-pass-reads
-use Rattle.validate.proofs.together.rows_pass.Reads as rows-pass-reads
-use Rattle.validate.proofs.together.starts_pass.Reads as starts-pass-reads
-use Rattle.wire.proofs.get8.Reads as get8-reads
 
 mul-get8 : tie.Need-mul-get8
 mul-get8 c = search needs

@@ -1,18 +1,13 @@
 use borrow.Author.Needs.{needs}
 use denote.Ref.{now}
-use Prim.Native.Nat.{ℕ, _≤_, _<_, _-_, _+_, _*_, _/_}
-use mathlib.Core.Path.{_≡_, refl, sym, ap, _∙_}
-use mathlib.Core.Bool.{Bool, true, false}
+use Prim.Native.Nat.{ℕ, _≤_, _<_, _-_, _+_}
+use mathlib.Core.Path.{_≡_}
 use native.Mathlib.Omega.{arith}
 use Rattle.wire.specs.Table.{rowAt}
 use Rattle.tables.specs.Layout.{pageT}
 use Rattle.validate.proofs.TogetherLaws.{max-more, pages-by}
 use Rattle.validate.proofs.together.page_most_pass.Statement.{statement}
 use Rattle.validate.proofs.together.page_most_pass.Tie as tie
-use Rattle.validate.proofs.together.page_most_pass.Reads as reads
-use Rattle.validate.proofs.together.page_most_pass.Lts as lts
-use Rattle.tables.proofs.rows.load_page.Reads as load-page-reads
-use Rattle.validate.proofs.together.larger.Reads as larger-reads
 
 abbrev Inv-loop : tie.InvT-loop
 Inv-loop state from many memory top₀ k₀ top k = (k ≤ many) × (top < 65536) × ((j : ℕ) → j < k → rowAt pageT state (from + j) ≤ top)

@@ -1,10 +1,6 @@
 use borrow.Author.Needs.{needs}
 use Rattle.validate.proofs.together.pages_pass.Statement.{statement}
 use Rattle.validate.proofs.together.pages_pass.Tie as tie
-use Rattle.validate.proofs.together.pages_pass.Reads as reads
-use Rattle.validate.proofs.together.pages_pass.Lts as lts
-use Rattle.validate.proofs.together.page_bits_pass.Reads as page-bits-pass-reads
-use Rattle.validate.proofs.together.page_most_pass.Reads as page-most-pass-reads
 
 mul-from : tie.Need-mul-from
 mul-from c = search needs

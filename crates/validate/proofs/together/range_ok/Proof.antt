@@ -1,12 +1,8 @@
 use borrow.Author.Needs.{needs}
 use mathlib.Core.Path.{sym}
-use native.Mathlib.Omega.{arith}
 use Rattle.validate.proofs.TogetherLaws.{range-far, range-by}
 use Rattle.validate.proofs.together.range_ok.Statement.{statement}
 use Rattle.validate.proofs.together.range_ok.Tie as tie
-use Rattle.validate.proofs.together.range_ok.Reads as reads
-use Rattle.validate.proofs.together.range_ok.Lts as lts
-use Rattle.std.proofs.num.wrapping_sub_u64.Reads as wrapping-sub-u64-reads
 
 returns : tie.Need-returns
 returns c = let a = c .before .before .args in sym (range-far (a .limit) (a .r) (c .if1 .taken))

@@ -1,23 +1,18 @@
 use borrow.Author.Needs.{needs}
 use denote.Ref.{now}
-use Prim.Native.Nat.{ℕ, _≤_, _<_, _-_, _+_, _*_}
-use mathlib.Core.Path.{_≡_, refl, sym, ap, _∙_}
-use mathlib.Core.Bool.{Bool, true, false, _&&_}
+use Prim.Native.Nat.{ℕ, _≤_, _-_, _+_, _*_}
+use mathlib.Core.Path.{_≡_, sym, ap, _∙_}
+use mathlib.Core.Bool.{Bool, true}
 use native.Mathlib.Omega.{arith}
-use lib.Dec.{ltb, leb}
 use Rattle.wire.specs.Scan.{allBelow}
 use Rattle.wire.specs.Table.{rowAt}
 use borrow.Author.Tests.{le-leb}
 use Rattle.wire.proofs.ScanLaws.{all-none, all-more}
 use Rattle.tables.specs.Layout.{receiveT}
 use Rattle.tables.specs.Limits.{mostWaiting}
-use Rattle.tables.specs.declared.ReceiveRecord.{ReceiveRecord}
 use Rattle.validate.specs.Accept.{receiveOk}
 use Rattle.validate.proofs.together.receives_pass.Statement.{statement}
 use Rattle.validate.proofs.together.receives_pass.Tie as tie
-use Rattle.validate.proofs.together.receives_pass.Reads as reads
-use Rattle.validate.proofs.together.receives_pass.Lts as lts
-use Rattle.tables.proofs.rows.load_receive.Reads as load-receive-reads
 
 abbrev Inv-loop : tie.InvT-loop
 Inv-loop state n count k₀ k = (k ≤ mostWaiting) × (allBelow k (λ j. receiveOk (rowAt receiveT state (mostWaiting * n + j))) ≡ true)

@@ -3,10 +3,6 @@ use denote.Ref.{now}
 use Rattle.validate.proofs.TogetherLaws.{live-mrs, live-pds}
 use Rattle.validate.proofs.together.regions_pass.Statement.{statement}
 use Rattle.validate.proofs.together.regions_pass.Tie as tie
-use Rattle.validate.proofs.together.regions_pass.Reads as reads
-use Rattle.validate.proofs.together.regions_pass.Lts as lts
-use Rattle.validate.proofs.together.live_pass.Reads as live-pass-reads
-use Rattle.wire.proofs.lowest_clear.Reads as lowest-clear-reads
 
 mul-lowest-clear : tie.Need-mul-lowest-clear
 mul-lowest-clear c = search needs

@@ -10,12 +10,6 @@ use Rattle.validate.specs.Together.{variantOk, virtOk, wordOk, rangeOk}
 use Rattle.validate.proofs.TogetherLaws.{all-four}
 use Rattle.validate.proofs.together.rows_pass.Statement.{statement}
 use Rattle.validate.proofs.together.rows_pass.Tie as tie
-use Rattle.validate.proofs.together.rows_pass.Reads as reads
-use Rattle.validate.proofs.together.rows_pass.Lts as lts
-use Rattle.validate.proofs.together.ranges_pass.Reads as ranges-pass-reads
-use Rattle.validate.proofs.together.variants_pass.Reads as variants-pass-reads
-use Rattle.validate.proofs.together.virts_pass.Reads as virts-pass-reads
-use Rattle.validate.proofs.together.words_pass.Reads as words-pass-reads
 
 variants-pass-requires : tie.Need-variants-pass-requires
 variants-pass-requires c κs = search needs

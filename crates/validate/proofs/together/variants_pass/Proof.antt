@@ -1,14 +1,13 @@
 use borrow.Author.Needs.{needs}
 use denote.Ref.{now}
-use Prim.Native.Nat.{ℕ, _≤_, _<_, _-_, _+_, _*_}
-use mathlib.Core.Path.{_≡_, refl, sym, ap, _∙_}
+use Prim.Native.Nat.{ℕ, _≤_, _-_, _+_, _*_}
+use mathlib.Core.Path.{_≡_, sym, _∙_}
 use mathlib.Core.Bool.{Bool, true, false}
 use native.Mathlib.Omega.{arith}
 use Rattle.wire.specs.Scan.{allBelow}
 use Rattle.wire.specs.Table.{rowAt}
 use Rattle.wire.proofs.ScanLaws.{all-none, all-more, all-fails}
 use Rattle.tables.specs.Layout.{mrT}
-use lib.Dec.{leb}
 use borrow.Author.Tests.{le-leb, lt-leb}
 use Rattle.validate.specs.Together.{variantOk}
 use Rattle.validate.proofs.TogetherLaws.{variant-is}

@@ -3,9 +3,6 @@ use borrow.Author.Tests.{not-true, not-false}
 use mathlib.Core.Path.{sym, _∙_}
 use Rattle.validate.proofs.together.words_ok.Statement.{statement}
 use Rattle.validate.proofs.together.words_ok.Tie as tie
-use Rattle.validate.proofs.together.words_ok.Reads as reads
-use Rattle.validate.proofs.together.words_ok.Lts as lts
-use Rattle.validate.proofs.together.remote_ok.Reads as remote-ok-reads
 
 remote-ok-requires : tie.Need-remote-ok-requires
 remote-ok-requires c κs = search needs

@@ -1,8 +1,7 @@
 use borrow.Author.Needs.{needs}
 use denote.Ref.{now}
-use Prim.Native.Nat.{ℕ, _≤_, _<_, _-_, _+_, _*_, _/_}
-use mathlib.Core.Path.{_≡_, refl, sym, ap, _∙_}
-use mathlib.Core.Bool.{Bool, true, false}
+use Prim.Native.Nat.{ℕ, _≤_, _<_, _-_, _+_, _*_}
+use mathlib.Core.Path.{_≡_, sym, _∙_}
 use native.Mathlib.Omega.{arith}
 use Rattle.wire.specs.Table.{rowAt}
 use Rattle.wire.proofs.ScanLaws.{all-each}
@@ -12,11 +11,6 @@ use Rattle.validate.proofs.BitLaws.{Between, between-more}
 use Rattle.validate.proofs.TogetherLaws.{row-small, word-by}
 use Rattle.validate.proofs.together.words_pass.Statement.{statement}
 use Rattle.validate.proofs.together.words_pass.Tie as tie
-use Rattle.validate.proofs.together.words_pass.Reads as reads
-use Rattle.validate.proofs.together.words_pass.Lts as lts
-use Rattle.tables.proofs.rows.load_mr.Reads as load-mr-reads
-use Rattle.validate.proofs.together.first_word.Reads as first-word-reads
-use Rattle.validate.proofs.together.words_ok.Reads as words-ok-reads
 
 abbrev Inv-loop : tie.InvT-loop
 Inv-loop state g kind any₀ all₀ i₀ any all i = (i ≤ 8) × ((k : ℕ) → k < i → Between all any (firstWord (rowAt mrT state (8 * g + k))))

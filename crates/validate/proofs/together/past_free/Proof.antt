@@ -1,17 +1,14 @@
 use borrow.Author.Needs.{needs}
 use denote.Ref.{now}
-use Prim.Native.Nat.{ℕ, _≤_, _-_, _+_, _*_}
+use Prim.Native.Nat.{_≤_, _-_, _+_, _*_}
 use mathlib.Core.Path.{_≡_}
 use native.Mathlib.Omega.{arith}
 use Rattle.wire.specs.Scan.{allBelow}
 use Rattle.validate.specs.Accept.{mrOk}
 use Rattle.validate.specs.Together.{Enough}
 use Rattle.validate.proofs.TestLaws.{more-free}
-use Rattle.validate.proofs.accept.past_free.Statement.{statement}
-use Rattle.validate.proofs.accept.past_free.Tie as tie
-use Rattle.validate.proofs.accept.past_free.Reads as reads
-use Rattle.validate.proofs.accept.past_free.Lts as lts
-use Rattle.validate.proofs.accept.four_words.Reads as four-words-reads
+use Rattle.validate.proofs.together.past_free.Statement.{statement}
+use Rattle.validate.proofs.together.past_free.Tie as tie
 
 abbrev Inv-loop : tie.InvT-loop
 Inv-loop state from g₀ g = (from ≤ g) × (g ≤ 32) × Enough (allBelow (8 * from) (mrOk state)) (allBelow (8 * g) (mrOk state))

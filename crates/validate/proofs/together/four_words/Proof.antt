@@ -5,11 +5,8 @@ use native.Mathlib.Omega.{arith}
 use lib.Bits.{bitOr}
 use Rattle.validate.proofs.BitLaws.{or-most-l, or-most-r}
 use Rattle.validate.proofs.TestLaws.{four-zero}
-use Rattle.validate.proofs.accept.four_words.Statement.{statement}
-use Rattle.validate.proofs.accept.four_words.Tie as tie
-use Rattle.validate.proofs.accept.four_words.Reads as reads
-use Rattle.validate.proofs.accept.four_words.Lts as lts
-use Rattle.wire.proofs.get64.Reads as get64-reads
+use Rattle.validate.proofs.together.four_words.Statement.{statement}
+use Rattle.validate.proofs.together.four_words.Tie as tie
 
 get64-requires : tie.Need-get64-requires
 get64-requires c κs = search needs
