@@ -74,7 +74,7 @@ uint32_t lesungkap_control(uint8_t *state, size_t state_len, const uint8_t *comm
  * memory byte of each page, in the order of the region's bytes. start is the offset of its first byte into the first page: with
  * k = start + (address - virt), an address is memory byte pages[k / LESUNGKAP_PAGE_BYTES] + k % LESUNGKAP_PAGE_BYTES. A page may be listed
  * again: then two addresses are one byte, and the later byte of a message wins. Number, key, access, deregister MR and what is in use are
- * those of any region.
+ * those of any region. pages is aligned as uint64_t, pages_len counts its entries, and the list is only read.
  *   BAD_STATE         the state is not acceptable
  *   BUFFER_TOO_SHORT  ack_len is under LESUNGKAP_ACK_BYTES, whatever the command is
  *   RECORD_LENGTH     the command has fewer than two bytes
