@@ -103,7 +103,8 @@ uint32_t lesungkap_register_pages(uint8_t *state, size_t state_len, const uint8_
  *                     the queue pair; it is neither in RTS nor in ERROR
  *   HELD_PLACE        in ERROR: no place in the send CQ, signaled or not
  *   DONE              in ERROR: it is flushed, with status FLUSHED; its peer, keys and total are not looked at
- *   HELD_PEER         the destination isn't live, not in RTR or RTS, or names another; no receive waits where one is taken
+ *   HELD_PEER         no destination, or it isn't live, not in RTR or RTS, or doesn't name this queue pair back; no receive waits where
+ *                     one is taken
  *   HELD_PLACE        no place in the send CQ, or in the peer's receive CQ where a receive is taken (two if it is one CQ), signaled or not
  *   DONE              it is finished, with the first status that is met:
  *     LOCAL_LENGTH      over LESUNGKAP_MOST_MESSAGE bytes in all

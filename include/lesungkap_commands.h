@@ -400,7 +400,8 @@ static inline unsigned lesungkap_get_destroy_qp(const uint8_t *bytes, size_t len
 
 /* ---- put and get: acks */
 
-/* The least length of an ack buffer for this command, whatever its bytes: the first two tell. */
+/* The least length of lesungkap_control's ack buffer for this command, whatever its bytes: the first two tell. A page list asks for
+ * LESUNGKAP_ACK_BYTES. */
 static inline size_t lesungkap_ack_need(const uint8_t *command, size_t length)
 {
     if (length < LESUNGKAP_COMMAND_DATA_AT || command[LESUNGKAP_COMMAND_CLASS_AT] != LESUNGKAP_CONTROL_CLASS) {

@@ -52,7 +52,7 @@ enum {
     LESUNGKAP_RANGE = 11,
     LESUNGKAP_BUFFER_TOO_SHORT = 12,
     LESUNGKAP_UNKNOWN = 13,         /* class or command */
-    LESUNGKAP_BAD_TAPE_RECORD = 14, /* given by the replay program only */
+    LESUNGKAP_BAD_TAPE_RECORD = 14, /* by no call: of the replay program, and of the monitor for a packet that is none */
     LESUNGKAP_BAD_STATE = 15
 };
 

@@ -1,5 +1,5 @@
-/* Records calls and their answers as two replay tapes (docs/TAPE.md), so that an auditor can make the calls again with the proved program
- * lesungkap-replay and compare every answer.
+/* Records calls and their answers as two replay tapes (docs/TAPE.md), so that an auditor can have them judged by the proved program
+ * lesungkap-audit, or make the calls again with lesungkap-replay.
  *
  *     struct lesungkap_recorder recorder = lesungkap_record_to_files(calls, answers);
  *     .. lesungkap_reset, answered LESUNGKAP_DONE ..
@@ -8,7 +8,8 @@
  *     if (recorder.failed) ..
  *
  * A recorder belongs to one card from its reset on: a tape begins with a fresh card, so a reset answered LESUNGKAP_DONE asks for a new
- * recorder. A tape holds no memory: no answer depends on what memory holds, only on its length.
+ * recorder. A tape holds no memory: no answer depends on what memory holds, only on its length, which the auditor has to be told.
+ * lesungkap-replay and lesungkap-audit take 1048576 bytes at most: tapes of a card with more can't be replayed.
  *
  * Some calls no tape can hold: those with a record over LESUNGKAP_TAPE_MOST_BODY bytes or a number over 255, and those answered
  * LESUNGKAP_MEMORY_LENGTH, LESUNGKAP_BUFFER_TOO_SHORT or LESUNGKAP_BAD_STATE. Each of them is refused and changes nothing, so the tapes
