@@ -17,7 +17,7 @@ pub(crate) const LEFT: u8 = 0xa5;
 type Check = (&'static str, fn(&dyn Card));
 
 /// Every check by its name.
-pub const CHECKS: [Check; 19] = [
+pub const CHECKS: [Check; 20] = [
     ("reset_takes_1_to_16777216", reset_takes_1_to_16777216),
     ("ack_needs_13_bytes", ack_needs_13_bytes),
     ("queries_need_129_or_33_bytes", queries_need_129_or_33_bytes),
@@ -37,6 +37,7 @@ pub const CHECKS: [Check; 19] = [
     ("pages_past_the_need_are_not_looked_at", pages_past_the_need_are_not_looked_at),
     ("a_page_list_is_stored_by_numbers", a_page_list_is_stored_by_numbers),
     ("a_refused_reset_leaves_the_card", a_refused_reset_leaves_the_card),
+    ("each_slot_hands_out_255_keys", each_slot_hands_out_255_keys),
 ];
 
 pub(crate) fn answer(answer: u8) -> Outcome {
@@ -435,6 +436,16 @@ pub fn a_state_without_a_fault_is_taken(card: &dyn Card) {
     }
 }
 
+/// The answer and, if it is done, the key of a registration of one byte, adjacent or over a page.
+fn registered(card: &dyn Card, state: &mut [u8], paged: bool) -> (u8, u32) {
+    let (record, mut ack) = (register(0, 7, 0, 1, 0), [LEFT; 13]);
+    let outcome = match paged {
+        true => card.register_pages(state, &record, &[0], &mut ack),
+        false => card.control(state, &record, &mut ack),
+    };
+    (outcome.answer, if outcome.answer == 0 { get32(&ack, 5) } else { 0 })
+}
+
 /// A free slot with variant 255 is retired, whatever its row holds: a registration goes past it, 8 comes where no other is free, and a
 /// reset ends it.
 pub fn retired_slots_are_passed_over(card: &dyn Card) {
@@ -442,11 +453,7 @@ pub fn retired_slots_are_passed_over(card: &dyn Card) {
     for slot in 2..REGIONS {
         retired[region_row(slot) + REGION_VARIANT] = LAST_VARIANT;
     }
-    let registers = |state: &mut [u8]| {
-        let mut ack = [LEFT; 13];
-        let outcome = card.control(state, &register(0, 7, 0, 1, 0), &mut ack);
-        (outcome.answer, if outcome.answer == 0 { get32(&ack, 5) } else { 0 })
-    };
+    let registers = |state: &mut [u8]| registered(card, state, false);
     let mut state = retired.clone();
     assert_eq!(registers(&mut state), (8, 0));
     assert!(state == retired);
@@ -473,5 +480,25 @@ pub fn a_refused_reset_leaves_the_card(card: &dyn Card) {
         let mut completion = [LEFT; COMPLETION_BYTES];
         assert_eq!(card.poll(&mut state, 0, &mut completion), answer(0));
         assert_eq!(card.post_send(&mut state, &mut [0; 4096], 0, &Send::new(2, 0).bytes()), answer(0));
+    }
+}
+
+/// Each slot hands out its 255 keys once, by both registrations in turn, and is dropped after each; then both are 8, until a reset.
+pub fn each_slot_hands_out_255_keys(card: &dyn Card) {
+    let restart = |state: &mut [u8]| {
+        assert_eq!(card.reset(state, 4096), answer(0));
+        assert_eq!(card.control(state, &create_domain(), &mut [LEFT; 13]), answer(0));
+    };
+    let (mut state, slots, keys) = (vec![LEFT; STATE_BYTES], REGIONS as u32, u32::from(LAST_VARIANT));
+    restart(&mut state);
+    for n in 0..slots * keys {
+        let slot = n / keys;
+        assert_eq!(registered(card, &mut state, n % 2 == 1), (0, 256 * slot + n % keys + 1), "{}", card.name());
+        assert_eq!(card.control(&mut state, &deregister(slot), &mut [LEFT; 13]), answer(0));
+    }
+    assert_eq!([false, true].map(|paged| registered(card, &mut state, paged)), [(8, 0); 2]);
+    restart(&mut state);
+    for slot in 0..slots {
+        assert_eq!(registered(card, &mut state, slot % 2 == 1), (0, 256 * slot + 1));
     }
 }

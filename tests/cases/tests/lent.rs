@@ -43,4 +43,5 @@ on_every_card! {
     pages_past_the_need_are_not_looked_at,
     a_page_list_is_stored_by_numbers,
     a_refused_reset_leaves_the_card,
+    each_slot_hands_out_255_keys,
 }
