@@ -42,8 +42,8 @@ pub fn polls<'a>(card: &'a dyn Card, full: &[u8]) -> Work<'a> {
     let states = std::rc::Rc::new(RefCell::new(vec![full.clone(); 4]));
     let refilled = states.clone();
     let prepare = move || refilled.borrow_mut().iter_mut().for_each(|state| state.copy_from_slice(&full));
+    let mut buffer = [0; COMPLETION_BYTES];
     let run = move || {
-        let mut buffer = [0; COMPLETION_BYTES];
         for state in states.borrow_mut().iter_mut() {
             for &cqn in &queues {
                 for _ in 0..MOST_PLACES {
