@@ -363,7 +363,8 @@ fn removals() -> Vec<Case> {
     ]
 }
 
-/// Every number of each full table is freed, and of regions some together: the lowest is taken, up to a full table.
+/// Every number of each full table is freed but domain 0 and queue 0, which are in use, and of regions some together: the lowest is taken, up
+/// to a full table.
 fn freed_numbers() -> Case {
     let mut script = Script::new();
     for n in 0..8 {

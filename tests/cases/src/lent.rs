@@ -1,4 +1,4 @@
-//! Lent lengths and lent states: what no tape can show. Each check panics on a card that does anything else than document 01 says.
+//! Lent lengths and lent states: what no tape can show. Each check panics on a card that does anything else than documents 01 and 02 say.
 
 use crate::lent_pages::PAGED_FAULTS;
 pub use crate::lent_pages::{
