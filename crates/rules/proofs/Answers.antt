@@ -1,15 +1,15 @@
 -- Demand 1: every answer is a number of the table, and what an answer other than 0 leaves. Assumes nothing.
 use mathlib.Core.Path.{_≡_, refl, sym, ap, subst, _∙_}
-use mathlib.Core.Bool.{Bool, true, false, cond, not, _&&_, _||_, true≢false, false≢true}
-use mathlib.Core.List.{List, [], _∷_, _++_}
+use mathlib.Core.Bool.{Bool, true, false, cond, not, _&&_, _||_, true≢false}
+use mathlib.Core.List.{List, [], _∷_}
 use mathlib.Core.Option.{Option, none, some}
 use Prim.Native.Nat.{ℕ, _+_, _*_, _/_, _%_, _≤_}
 use native.Mathlib.Nat.{add-zero}
 use native.Mathlib.Omega.{arith}
 use lib.Dec.{eqb, leb}
-use lib.ListN.{length, set}
+use lib.ListN.{set}
 use borrow.Author.Tests.{leb-true, le-leb, ne-eqb, eqb-true}
-use Rattle.wire.specs.Checks.{Check, _if_, refusal}
+use Rattle.wire.specs.Checks.{Check, refusal}
 use Rattle.wire.specs.Codec.{putFields}
 use Rattle.wire.specs.Le.{putLe}
 use Rattle.wire.proofs.ScanLaws.{and-left, and-right, both-true}
@@ -17,24 +17,23 @@ use Rattle.wire.specs.Scan.{all}
 use Rattle.validate.specs.Accept.{accepts}
 use Rattle.tables.specs.Card.{Card}
 use Rattle.tables.specs.State.{card}
-use Rattle.tables.specs.Limits.{mostMessage, mostWaiting}
+use Rattle.tables.specs.Limits.{mostMessage}
 use Rattle.tables.specs.Commands.{Command, commandOf, ackFields}
 use Rattle.tables.specs.Records.{sendChecks, receiveChecks}
 use Rattle.rules.specs.declared.Cause.the-variants.{Peer, Place}
 use Rattle.rules.specs.declared.Answer.the-variants.{Done, Held, Refused}
-use Rattle.rules.specs.Answer.{number, codeOf, answered, answerIn, isDone, isHeld, listed}
+use Rattle.rules.specs.Answer.{number, codeOf, answered, answerIn, isDone, listed}
 use Rattle.rules.specs.Control.{commandChecks}
-use Rattle.rules.specs.Touch.{Request, requestOf, takes, fills, total, sgeTotal, ownBytes, farBytes}
+use Rattle.rules.specs.Touch.{Request, requestOf, fills, total, sgeTotal, ownBytes, farBytes}
 use Rattle.rules.specs.Permit.{permitsAll}
-use Rattle.rules.specs.Send.{pairChecks, readyChecks, placeChecks, holdChecks, deliveryChecks, ready, room, hasPlaces, isInError, peerOf, takenBy, ownUse, farUse, statusBy, runStatus, sendStatus}
+use Rattle.rules.specs.Send.{pairChecks, readyChecks, placeChecks, holdChecks, deliveryChecks, isInError, peerOf, takenBy, ownUse, farUse, statusBy, runStatus, sendStatus}
 use Rattle.rules.specs.Queues.{flushesAtOnce, joinChecks, joinStatus, flushChecks, pollChecks}
-use Rattle.rules.specs.Call.{Call, memoryOf, registrationIn}
+use Rattle.rules.specs.Call.{Call, memoryOf}
 use Rattle.rules.specs.Pages.{pageRecordChecks, pageListChecks}
 use Rattle.rules.proofs.Ranges.{all-split}
 use Rattle.rules.specs.Demand1.{ackLeft, bufferLeft, Returns, Demand1}
 use Rattle.rules.specs.Calls.{checks, resetChecks, controlChecks, bufferChecks, settled, step, statusOf, owed, owedChecks, usable, ackRefused, bufferRefused, Result}
-use Rattle.rules.specs.Lists.{maybe, isSome, isEmpty}
-use Rattle.rules.proofs.Tests.{firstOf, refusal-append}
+use Rattle.rules.specs.Lists.{maybe}
 
 -- ---- a fact of every test's number is one of the refusal's
 
@@ -181,100 +180,6 @@ status-small c (Call.send q x m) = send-small c q (requestOf x)
 status-small c (Call.receive q x) = join-small c q
 status-small c (Call.flush q) = omega arith
 status-small c (Call.poll n b) = omega arith
-
--- ---- holds: steps 1 and 2 of a post send, one in error without a place, a receive in error without one that no other goes before, and a flush
--- without one, are the only ones
-
-abbrev pub mayHold : Card → Call → Bool
-mayHold c (Call.reset n) = false
-mayHold c (Call.control k a) = false
-mayHold c (Call.registerPages k ps a) = false
-mayHold c (Call.send q x m) =
-    let o = requestOf x .opcode in
-    cond (isInError (c .qp q)) (not (room (c .cq (c .qp q .scq)) 1))
-    (not (ready c q (c .qp q .dest)) || ((takes o && isEmpty (c .qp (peerOf c q) .waiting)) || not (hasPlaces c q (peerOf c q) o)))
-mayHold c (Call.receive q x) = flushesAtOnce c q && not (room (c .cq (c .qp q .rcq)) 1)
-mayHold c (Call.flush q) = not (room (c .cq (c .qp q .rcq)) 1)
-mayHold c (Call.poll n b) = false
-
-abbrev plain : ℕ → Bool
-plain n = not (eqb n 5) && not (eqb n 6)
-
--- each test that is met has a number of no hold
-abbrev Plain : List Check → Type 0
-Plain cs = (n : ℕ) → refusal cs ≡ some n → plain n ≡ true
-
-command-plain : (c : Card) (o : Option Command) → all (λ t. plain (t .no)) (maybe [] (commandChecks c) o) ≡ true
-command-plain = command-tests plain refl refl refl refl refl refl
-
--- a test that is not met may have any number
-without : (xs : List Check) (n : ℕ) (b : Bool) (ys : List Check) → b ≡ false → all (λ t. plain (t .no)) (xs ++ ys) ≡ true → Plain (xs ++ (n if b ∷ ys))
-unfolding all
-without [] n b ys e h i = rw e (first-with plain ys i h)
-without (x ∷ xs) n b ys e h i = go (x .bad) (without xs n b ys e (and-right (plain (x .no)) (all (λ t. plain (t .no)) (xs ++ ys)) h) i)
-  where
-    go : (f : Bool) → (refusal (xs ++ (n if b ∷ ys)) ≡ some i → plain i ≡ true) → cond f (some (x .no)) (refusal (xs ++ (n if b ∷ ys))) ≡ some i →
-        plain i ≡ true
-    go true ih p = let z : x .no ≡ i = cc in subst (λ j. plain j ≡ true) z (and-left (plain (x .no)) (all (λ t. plain (t .no)) (xs ++ ys)) h)
-    go false ih p = ih p
-
--- tests of plain numbers before others that are not met
-before-none : (xs ys : List Check) → all (λ t. plain (t .no)) xs ≡ true → isSome (refusal ys) ≡ false → Plain (xs ++ ys)
-before-none xs ys h e n = rw (refusal-append xs ys) (go (refusal xs) refl (refusal ys) e)
-  where
-    go : (a : Option ℕ) → refusal xs ≡ a → (b : Option ℕ) → isSome b ≡ false → firstOf a b ≡ some n → plain n ≡ true
-    go none i none j k = let z : _≡_ {A = ℕ} 0 1 = cc in absurd (omega arith)
-    go none i (some y) j k = absurd (true≢false j)
-    go (some x) i b j k = first-with plain xs n h (i ∙ k)
-
--- the tests of a post send that hold are met where it may be held
-hold-met : (e p a b d : Bool) → isSome (refusal (cond e (6 if p ∷ []) (5 if a ∷ 5 if b ∷ 6 if d ∷ []))) ≡ cond e p (a || (b || d))
-hold-met true true a b d = refl
-hold-met true false a b d = refl
-hold-met false p true b d = refl
-hold-met false p false true d = refl
-hold-met false p false false true = refl
-hold-met false p false false false = refl
-
-send-holds : (c : Card) (q : ℕ) (x : List ℕ) (m : List ℕ) → isSome (refusal (holdChecks c q (requestOf x))) ≡ mayHold c (Call.send q x m)
-unfolding holdChecks readyChecks placeChecks
-send-holds c q x m =
-    let o = requestOf x .opcode in
-    hold-met (isInError (c .qp q)) (not (room (c .cq (c .qp q .scq)) 1)) (not (ready c q (c .qp q .dest)))
-    (takes o && isEmpty (c .qp (peerOf c q) .waiting)) (not (hasPlaces c q (peerOf c q) o))
-
-checks-plain : (c : Card) (k : Call) → mayHold c k ≡ false → Plain (checks c k)
-unfolding all checks resetChecks controlChecks pageRecordChecks pageListChecks bufferChecks sendChecks receiveChecks pairChecks deliveryChecks joinChecks flushChecks pollChecks
-checks-plain c (Call.reset n) e = λ i. first-with plain (resetChecks n) i refl
-checks-plain c (Call.control k a) e =
-    λ i. first-with plain (controlChecks k a ++ maybe [] (commandChecks c) (commandOf k)) i
-    (rw (all-split (λ t. plain (t .no)) (controlChecks k a) (maybe [] (commandChecks c) (commandOf k)), command-plain c (commandOf k)))
-checks-plain c (Call.registerPages k ps a) e = λ i. first-with plain (pageRecordChecks k a ++ pageListChecks c (registrationIn k) ps) i refl
-checks-plain c (Call.send q x m) e =
-    before-none (7 if not (eqb (length m) (c .memory)) ∷ (sendChecks x ++ pairChecks c q)) (holdChecks c q (requestOf x)) refl
-    (send-holds c q x m ∙ e)
-checks-plain c (Call.receive q x) e =
-    without (receiveChecks x ++ (2 if not (c .qp q .live) ∷ 3 if eqb (c .qp q .state) 0 ∷ [])) 6 (mayHold c (Call.receive q x))
-    (8 if leb mostWaiting (length (c .qp q .waiting)) ∷ []) e refl
-checks-plain c (Call.flush q) e =
-    without (2 if not (c .qp q .live) ∷ 3 if not (isInError (c .qp q)) ∷ 9 if isEmpty (c .qp q .waiting) ∷ []) 6 (mayHold c (Call.flush q)) [] e refl
-checks-plain c (Call.poll n b) e = λ i. first-with plain (bufferChecks b ++ pollChecks c n) i refl
-
-plain-refused : (n : ℕ) → plain n ≡ true → isHeld (answered 0 (some n)) ≡ false
-plain-refused n = go (eqb n 5) (eqb n 6)
-  where
-    go : (a b : Bool) → (not a && not b) ≡ true → isHeld (cond a (Held Peer) (cond b (Held Place) (Refused n))) ≡ false
-    go true b e = absurd (false≢true e)
-    go false true e = absurd (false≢true e)
-    go false false e = refl
-
-pub only-holds : (c : Card) (k : Call) → mayHold c k ≡ false → isHeld (step c k .answer) ≡ false
-unfolding step
-only-holds c k h = go (refusal (checks c k)) refl
-  where
-    go : (o : Option ℕ) → refusal (checks c k) ≡ o → isHeld (settled o c k .answer) ≡ false
-    go none e = refl
-    go (some n) e = plain-refused n (checks-plain c k h n e)
 
 -- ---- what an answer other than 0 leaves
 

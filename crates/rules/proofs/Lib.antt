@@ -1,9 +1,10 @@
 pub mod Tests
 pub mod Stored
 pub mod Ranges
-pub mod Free
+pub mod Full
 pub mod Variants
 pub mod Answers
+pub mod Holds
 pub mod Marks
 pub mod Dropped
 pub mod Pinned

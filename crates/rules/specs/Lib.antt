@@ -13,5 +13,7 @@ pub mod Dropped
 pub mod Bytes
 pub mod Contract
 pub mod Demand1
+pub mod Full
+pub mod Holds
 pub mod Replay
 pub mod Buffers
