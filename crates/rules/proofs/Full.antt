@@ -1,26 +1,28 @@
 -- 8 is given exactly if no number or place is free. Assumes nothing.
 use mathlib.Core.Path.{_≡_, refl, sym, ap, _∙_}
 use mathlib.Core.Bool.{Bool, true, false, cond, not}
-use mathlib.Core.List.{List, [], _∷_, _++_}
+use mathlib.Core.List.{List, [], _∷_, _++_, map}
 use mathlib.Core.Option.{Option, none, some}
 use Prim.Native.Nat.{ℕ, zero, suc, _≤_, _<_}
 use native.Mathlib.Omega.{arith}
-use lib.Dec.{eqb, leb}
+use lib.Dec.{eqb, ltb, leb}
 use lib.ListN.{length}
 use borrow.Author.Tests.{leb-true, leb-false}
 use Rattle.wire.specs.Checks.{Check, _if_, refusal}
-use Rattle.wire.specs.Scan.{lowest, anyBelow}
+use Rattle.wire.specs.Scan.{lowest, lowestFrom, anyBelow, all}
 use Rattle.wire.proofs.ScanLaws.{lowest-passes, lowest-least, any-here, any-same}
-use Rattle.tables.specs.Card.{Card, cqLive}
+use Rattle.tables.specs.Card.{Card, cqLive, fresh, withPd, withMr}
 use Rattle.tables.specs.Commands.{Command, commandOf}
 use Rattle.tables.specs.Limits.{pdCount, cqCount, mrCount, qpCount}
 use Rattle.tables.specs.Records.{sendChecks, receiveChecks}
+use Rattle.tables.specs.State.{pagesNeeded}
 use Rattle.validate.specs.Search.{vacant}
 use Rattle.rules.specs.Call.{Call}
 use Rattle.rules.specs.Calls.{checks, resetChecks, controlChecks, bufferChecks}
 use Rattle.rules.specs.Control.{commandChecks}
 use Rattle.rules.specs.Full.{noneFree, tableFull, others, FullExactly}
 use Rattle.rules.specs.Lists.{maybe}
+use Rattle.rules.specs.Marks.{region}
 use Rattle.rules.specs.Pages.{pageRecordChecks, pageListChecks}
 use Rattle.rules.specs.Queues.{joinChecks, flushChecks, pollChecks}
 use Rattle.rules.specs.Send.{pairChecks, readyChecks, placeChecks, holdChecks, deliveryChecks, isInError}
@@ -42,6 +44,17 @@ none-free n p = go (leb n (lowest n p)) refl
     go false e =
         let h : lowest n p < n = leb-false n (lowest n p) e in
         sym (ap not (any-here n p (lowest n p) h (lowest-passes n p h)))
+
+-- regions in the first n slots of a card with a live domain
+abbrev taken : (n : ℕ) → Card
+taken n = withMr (withPd (fresh 4096) (λ i. true)) (λ i. record { live = ltb i n; variant = 1; reg = region 0 0; pages = [] })
+
+-- with 255 a registration of either kind has slot 255, with 256 it is answered 8
+pub last-slot : map (λ n. refusal (commandChecks (taken n) (Command.register (region 0 0)))) (255 ∷ 256 ∷ []) ++
+    map (λ n. refusal (pageListChecks (taken n) (region 0 0) (0 ∷ []))) (255 ∷ 256 ∷ [])
+    ≡ none ∷ some 8 ∷ none ∷ some 8 ∷ []
+unfolding commandChecks pageListChecks pagesNeeded all lowest lowestFrom
+last-slot = refl
 
 -- each command's tests are its others, and then 8 if its table is full
 command-full : (c : Card) (k : Command) → refusal (commandChecks c k) ≡ refusal (others (commandChecks c k) ++ (8 if tableFull c k ∷ []))
