@@ -9,11 +9,10 @@ use lib.Dec.{eqb, ltb}
 use lib.ListN.{length}
 use Rattle.wire.specs.Checks.{Check, _if_, refusal}
 use Rattle.wire.specs.Codec.{encode}
-use Rattle.wire.specs.Le.{leAt}
 use Rattle.validate.specs.Accept.{memoryOk}
 use Rattle.tables.specs.Layout.{stateSize}
 use Rattle.tables.specs.Card.{Card, fresh}
-use Rattle.tables.specs.Commands.{Command, controlClass, encodeAck, ackNeed, dataSize, commandOf}
+use Rattle.tables.specs.Commands.{Command, headChecks, encodeAck, ackNeed, dataSize, commandOf}
 use Rattle.tables.specs.declared.Ack.the-variants as ack
 use Rattle.tables.specs.Records.{sendChecks, receiveChecks, completionCodec}
 use Rattle.rules.specs.Lists.{isSome, maybe}
@@ -36,11 +35,8 @@ resetChecks n = 11 if not (memoryOk n) ∷ []
 unfoldable pub controlChecks : (k a : List ℕ) → List Check
 controlChecks k a =
     12 if ltb (length a) (ackNeed k) ∷
-    1 if ltb (length k) 2 ∷
-    13 if not (eqb (leAt 1 k 0) controlClass) ∷
-    13 if not (isSome (commandOf k)) ∷
-    1 if not (eqb (length k) (2 + maybe 0 dataSize (commandOf k))) ∷
-    []
+    (headChecks k ++
+    (13 if not (isSome (commandOf k)) ∷ 1 if not (eqb (length k) (2 + maybe 0 dataSize (commandOf k))) ∷ []))
 
 -- "Poll: buffer under 24 bytes 12"
 unfoldable pub bufferChecks : List ℕ → List Check
