@@ -8,12 +8,12 @@ use Rattle.rules.specs.declared.Cause.the-variants.{Peer, Place}
 use Rattle.rules.specs.declared.Answer.{Answer}
 use Rattle.rules.specs.declared.Answer.the-variants.{Done, Held, Refused}
 
--- "5 held: peer not ready or no receive waiting", "6 held: no completion place"
+-- 5: "held: peer not ready or no receive waiting", 6: "held: no completion place"
 abbrev pub causeNumber : Cause → ℕ
 causeNumber Peer = 5
 causeNumber Place = 6
 
--- "0 done (a work request also gives a status)"; a refusal has its own number of the table
+-- 0: "done (a work request also gives a status)"; a refusal has its own number of the table
 abbrev pub number : Answer → ℕ
 number (Done s) = 0
 number (Held c) = causeNumber c

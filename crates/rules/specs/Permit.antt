@@ -50,8 +50,8 @@ unfoldable pub lookup : (ℕ → Mr) → (k : ℕ) → Option Registration
 lookup mr k = found (mr (k / 256)) (k / 256) k
 
 -- "has .. the QP's PD, virt ≤ address < virt + length, and its access has the use's right", and so have the party's flags where the use
--- asks them; the sum is a whole number. A region ends at 2^64 − 1 at most, so that "an address at or past 2^64 is never permitted":
--- NeverPast below.
+-- asks them; the sum is a whole number. A region ends at 2^64 − 1 at most, so "An address at or past 2^64 is never permitted": NeverPast
+-- below.
 unfoldable pub covers : Option Registration → Party → Use → (a : ℕ) → Bool
 covers none p u a = false
 covers (some g) p u a =

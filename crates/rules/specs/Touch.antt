@@ -80,7 +80,7 @@ unfoldable pub sgeTotal : List Sge → ℕ
 sgeTotal [] = 0
 sgeTotal (p ∷ ps) = p .length + sgeTotal ps
 
--- "the first .. bytes of that list": pieces cut to their first n bytes
+-- "The first total bytes of that list": pieces cut to their first n bytes
 unfoldable pub cut : ℕ → List Sge → List Sge
 cut n [] = []
 cut n (p ∷ ps) = record { address = p .address; length = min n (p .length); key = p .key } ∷ cut (n - p .length) ps
@@ -93,7 +93,7 @@ total r = cond (r .inline) (length (r .bytes)) (sgeTotal (r .sges))
 unfoldable pub ownBytes : Request → List Byte
 ownBytes r = cond (r .inline) [] (sgeBytes (r .sges))
 
--- the peer's side: "remote range (total bytes from the remote address)", or "the first total bytes of that list" of the receive
+-- the peer's side: "remote range (total bytes from the remote address)", or "The first total bytes of that list" of the receive
 unfoldable pub farBytes : Request → Receive → List Byte
 farBytes r w = cond (fills (r .opcode)) (take (total r) (sgeBytes (w .sges))) (range (r .address) (r .key) (total r))
 

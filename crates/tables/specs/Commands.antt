@@ -38,7 +38,7 @@ unfoldable pub numberCodec : Codec ℕ
 unfolding within clear apart
 numberCodec = record { size = 4; lines = line 0 4 (λ n. n) ∷ []; make = λ vs. getD vs 0 0; ends = tt; clears = tt; back = λ n. refl }
 
--- "7 register MR (house, 32 bytes): pdn, access, start 64, length 64, virt 64"
+-- "7 register MR (*house*, 32 bytes)": "pdn, access, start 64, length 64, virt 64"
 unfoldable pub registerCodec : Codec Registration
 unfolding within clear apart
 registerCodec = record {
@@ -56,7 +56,7 @@ registerCodec = record {
   back = λ r. refl;
 }
 
--- "9 create QP (house, 16 bytes): pdn, type u8, signal u8, 2 ignored, send cqn, receive cqn"
+-- "9 create QP (*house*, 16 bytes)": "pdn, type u8, signal u8, 2 ignored, send cqn, receive cqn"
 unfoldable pub createQpCodec : Codec CreateQp
 unfolding within clear apart
 createQpCodec = record {
@@ -74,7 +74,7 @@ createQpCodec = record {
   back = λ r. refl;
 }
 
--- "10 modify QP (house, 16 bytes): qpn, mask, state u8, 3 zero bytes, destination qpn"; 02, M-104: "access flags as a last 32-bit number,
+-- "10 modify QP (*house*, 16 bytes)": "qpn, mask, state u8, 3 zero bytes, destination qpn"; 02, M-104: "access flags as a last 32-bit number,
 -- so the modify record becomes 20 bytes for all masks"
 unfoldable pub modifyQpCodec : Codec ModifyQp
 unfolding within clear apart
@@ -121,7 +121,7 @@ pub data Command : Type 0 where
   modifyQp : ModifyQp → Command
   destroyQp : (qpn : ℕ) → Command
 
--- "class byte, command byte, data": the command that a record is by its command byte; none for a number that is no command's
+-- "Class byte 6, command byte, data": the command that a record is by its command byte; none for a number that is no command's
 unfoldable pub commandOf : (k : List ℕ) → Option Command
 commandOf k =
     let n : ℕ = leAt 1 k 1 in

@@ -46,7 +46,7 @@ sgeAt x at = cond (leb (at + 16) (length x)) (decode sgeCodec x at) noSge
 
 -- ---- send records
 
--- "Send record (001): wr_id at 0 (8 bytes), opcode 8, flags 9, immediate 12 (4), remote address 16 (8), remote key 24 (4), .., piece count 560 (4)"
+-- "Send record (001): wr_id at 0 (8 bytes), opcode 8, flags 9, immediate 12 (4), remote address 16 (8), remote key 24 (4), .. piece count 560 (4; ..)"
 unfoldable pub sendCodec : Codec SendRecord
 unfolding within clear apart
 sendCodec = record {
@@ -163,7 +163,7 @@ receiveSges r = take (r .count) (r .first ∷ r .second ∷ [])
 
 -- ---- completions
 
--- "Completion (house, 24 bytes): wr_id 8, status 1, opcode 1, zero 2, byte length 4, immediate 4, owner qpn 4"
+-- "Completion (*house*, 24 bytes): wr_id 8, status 1, opcode 1, zero 2, byte length 4, immediate 4, owner qpn 4"
 unfoldable pub completionCodec : Codec Completion
 unfolding within clear apart
 completionCodec = record {
