@@ -1,4 +1,6 @@
-// Document 01, "Answer numbers", by name. Holds are an answer's cause, not a refusal.
+// Document 01's answer numbers by name, and the commands whose ack has data.
+
+// ---- "Answer numbers"; holds are an answer's cause, not a refusal
 
 // "record length wrong"
 pub const WRONG_LENGTH: u8 = 1;
@@ -33,5 +35,21 @@ pub const SHORT_BUFFER: u8 = 12;
 // "unknown class or command"
 pub const UNKNOWN: u8 = 13;
 
+// "bad tape record (program only)"
+pub const BAD_RECORD: u8 = 14;
+
 // "lent card state not acceptable"
 pub const BAD_STATE: u8 = 15;
+
+// ---- commands: the queries of document 02, M-100, and document 01's "Ack data"
+pub const QUERY_DEVICE: u8 = 0;
+
+pub const QUERY_PORT: u8 = 1;
+
+pub const CREATE_CQ: u8 = 2;
+
+pub const CREATE_PD: u8 = 4;
+
+pub const REGISTER_MR: u8 = 7;
+
+pub const CREATE_QP: u8 = 9;

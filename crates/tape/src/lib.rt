@@ -5,6 +5,15 @@ pub mod start;
 pub mod steps;
 
 use rules::Answer;
+use rules::numbers::BAD_RECORD;
+use rules::numbers::BAD_STATE;
+use rules::numbers::CREATE_CQ;
+use rules::numbers::CREATE_PD;
+use rules::numbers::CREATE_QP;
+use rules::numbers::QUERY_DEVICE;
+use rules::numbers::QUERY_PORT;
+use rules::numbers::REGISTER_MR;
+use rules::numbers::SHORT_BUFFER;
 ghost use mathlib.Core.Path.{_≡_};
 ghost use mathlib.Core.Bool.{true, cond};
 ghost use mathlib.Core.List.{[], _++_};
@@ -21,6 +30,17 @@ ghost use Rattle.rules.specs.Lists.{maybe};
 ghost use Rattle.tape.specs.Tape.{isMark, isKind, isLength, headerOf, ackWritten, answerHead, answerRecord, placed, badRecord, completionSize, callOf, memoryLeft, Answers, tapeAck, tapeMemory};
 
 const HEADER: usize = 6;
+
+// The kinds of record.
+const CONTROL: u8 = 1;
+
+const SEND: u8 = 2;
+
+const RECEIVE: u8 = 3;
+
+const POLL: u8 = 4;
+
+const FLUSH: u8 = 5;
 
 // The length of a card's state.
 pub const STATE: usize = tables::rows::STATE_SIZE;
@@ -73,13 +93,13 @@ fn is_mark(input: &[u8]) -> bool
 fn is_kind(kind: u8) -> bool
     ensures { λ r. ⌜ r ≡ isKind kind ⌝ }
 {
-    (1 <= kind) & (kind <= 5)
+    (CONTROL <= kind) & (kind <= FLUSH)
 }
 
 fn is_length(kind: u8, length: u16) -> bool
     ensures { λ r. ⌜ r ≡ isLength kind length ⌝ }
 {
-    (length <= 640) & ((kind < 4) | (length == 0))
+    (length <= 640) & ((kind < POLL) | (length == 0))
 }
 
 fn read_header(input: &[u8]) -> Header
@@ -143,10 +163,10 @@ fn ack_size(command: &[u8]) -> usize
     ensures { λ r. ⌜ r ≤ 129 ⌝ }
 {
     match wire::get8(command, 1) {
-        0 => 129,
-        1 => 33,
-        7 => 13,
-        2 | 4 | 9 => 5,
+        QUERY_DEVICE => 129,
+        QUERY_PORT => 33,
+        REGISTER_MR => 13,
+        CREATE_CQ | CREATE_PD | CREATE_QP => 5,
         _ => 1,
     }
 }
@@ -160,7 +180,7 @@ fn ack_written(answer: Answer, command: &[u8]) -> usize
         Answer::Done(_) => ack_size(command),
         Answer::Held(_) => 1,
         Answer::Refused(n) => {
-            if (n == 12) | (n == 15) {
+            if (n == SHORT_BUFFER) | (n == BAD_STATE) {
                 return 0;
             }
             1
@@ -245,10 +265,10 @@ fn answer_record(
     ensures { λ _. ⌜ now (memory .exit) ≡ memoryLeft (now (state .entry)) (now (memory .entry)) (callOf kind number (now (body .entry)) (now (memory .entry))) ⌝ }
 {
     match kind {
-        1 => answer_control(state, body, out),
-        2 => answer_send(state, memory, number, body, out),
-        3 => answer_receive(state, number, body, out),
-        4 => answer_poll(state, number, out),
+        CONTROL => answer_control(state, body, out),
+        SEND => answer_send(state, memory, number, body, out),
+        RECEIVE => answer_receive(state, number, body, out),
+        POLL => answer_poll(state, number, out),
         _ => answer_flush(state, number, out),
     }
 }
@@ -258,5 +278,5 @@ fn bad_record(out: &mut [u8])
     requires { ⌜ 6 ≤ length (now out) ⌝ }
     ensures { λ _. ⌜ now (out .exit) ≡ badRecord ++ drop 6 (now (out .entry)) ⌝ }
 {
-    put_head(out, Answer::Refused(14), 0);
+    put_head(out, Answer::Refused(BAD_RECORD), 0);
 }
