@@ -31,6 +31,7 @@ use tables::records;
 use tables::rows;
 use validate::accept;
 use validate::find;
+use validate::regions;
 ghost use mathlib.Core.Path.{_≡_};
 ghost use mathlib.Core.Bool.{true, _&&_};
 ghost use mathlib.Core.List.{[]};
@@ -184,7 +185,7 @@ fn register(state: &mut [u8], read: RegisterRead) -> Outcome
     let RegisterRead::Value(g) = read else {
         return Outcome::Refused(WRONG_LENGTH);
     };
-    if !accept::access_ok(g.access) {
+    if !regions::access_ok(g.access) {
         return Outcome::Refused(BAD_FIELD);
     }
     if !accept::pd_live(state, g.pd) {

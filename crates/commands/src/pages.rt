@@ -25,6 +25,7 @@ use tables::records;
 use tables::rows;
 use validate::accept;
 use validate::find;
+use validate::regions;
 ghost use mathlib.Core.Path.{_≡_};
 ghost use mathlib.Core.Bool.{true};
 ghost use mathlib.Core.List.{[]};
@@ -72,7 +73,7 @@ fn count_ok(g: Registration, pages: &[u64]) -> bool
     if !wire::sum_within(g.start, g.length, MOST_PAGED) {
         return false;
     }
-    pages.len() as u64 == accept::pages_needed(g.start, g.length)
+    pages.len() as u64 == regions::pages_needed(g.start, g.length)
 }
 
 // The tests of answer 11; no sum wraps.
@@ -110,7 +111,7 @@ fn register_paged(state: &mut [u8], read: RegisterRead, pages: &[u64]) -> Outcom
     let RegisterRead::Value(g) = read else {
         return Outcome::Refused(WRONG_LENGTH);
     };
-    if !accept::access_ok(g.access) {
+    if !regions::access_ok(g.access) {
         return Outcome::Refused(BAD_FIELD);
     }
     if !accept::pd_live(state, g.pd) {

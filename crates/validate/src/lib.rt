@@ -1,4 +1,5 @@
 // The state test of answer 15, and look-ups in the tables.
 pub mod accept;
 pub mod find;
+pub mod regions;
 mod together;

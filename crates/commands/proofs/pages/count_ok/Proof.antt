@@ -7,7 +7,7 @@ use Rattle.commands.proofs.pages.count_ok.Statement.{statement}
 use Rattle.commands.proofs.pages.count_ok.Tie as tie
 use Rattle.commands.proofs.pages.count_ok.Reads as reads
 use Rattle.commands.proofs.pages.count_ok.Lts as lts
-use Rattle.validate.proofs.accept.pages_needed.Reads as pages-needed-reads
+use Rattle.validate.proofs.regions.pages_needed.Reads as pages-needed-reads
 use Rattle.wire.proofs.sum_within.Reads as sum-within-reads
 
 sum-within-requires : tie.Need-sum-within-requires

@@ -12,7 +12,7 @@ use Rattle.commands.proofs.control.put_region.Reads as put-region-reads
 use Rattle.commands.proofs.pages.in_pages.Reads as in-pages-reads
 use Rattle.commands.proofs.pages.put_pages.Reads as put-pages-reads
 use Rattle.tables.proofs.rows.load_memory.Reads as load-memory-reads
-use Rattle.validate.proofs.accept.access_ok.Reads as access-ok-reads
+use Rattle.validate.proofs.regions.access_ok.Reads as access-ok-reads
 use Rattle.validate.proofs.accept.pd_live.Reads as pd-live-reads
 use Rattle.validate.proofs.find.free_mrn.Reads as free-mrn-reads
 

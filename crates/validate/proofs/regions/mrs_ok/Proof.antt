@@ -11,8 +11,8 @@ use borrow.Author.Tests.{not-true, not-false}
 use Rattle.validate.specs.Accept.{mrOk}
 use Rattle.tables.specs.Limits.{mrCount}
 use Rattle.validate.proofs.TestLaws.{eight-free, eight-tested}
-use Rattle.validate.proofs.accept.mrs_ok.Statement.{statement}
-use Rattle.validate.proofs.accept.mrs_ok.Tie as tie
+use Rattle.validate.proofs.regions.mrs_ok.Statement.{statement}
+use Rattle.validate.proofs.regions.mrs_ok.Tie as tie
 
 abbrev Inv-loop : tie.InvT-loop
 Inv-loop state memory g₀ g = (g ≤ mrCount / 8) × (allBelow (8 * g) (mrOk state) ≡ true)

@@ -8,8 +8,8 @@ use Rattle.tables.specs.State.{card}
 use Rattle.validate.specs.Accept.{fieldsOk}
 use Rattle.validate.proofs.TestLaws.{mr-off, mr-rest}
 use borrow.Author.Needs.{needs}
-use Rattle.validate.proofs.accept.mr_ok.Statement.{statement}
-use Rattle.validate.proofs.accept.mr_ok.Tie as tie
+use Rattle.validate.proofs.regions.mr_ok.Statement.{statement}
+use Rattle.validate.proofs.regions.mr_ok.Tie as tie
 
 load-mr-flag-requires : tie.Need-load-mr-flag-requires
 load-mr-flag-requires c κs = search needs

@@ -1,9 +1,9 @@
 use Rattle.tables.specs.State.{pagesNeeded}
 use borrow.Author.Needs.{needs}
-use Rattle.validate.proofs.accept.pages_needed.Statement.{statement}
-use Rattle.validate.proofs.accept.pages_needed.Tie as tie
-use Rattle.validate.proofs.accept.pages_needed.Reads as reads
-use Rattle.validate.proofs.accept.pages_needed.Lts as lts
+use Rattle.validate.proofs.regions.pages_needed.Statement.{statement}
+use Rattle.validate.proofs.regions.pages_needed.Tie as tie
+use Rattle.validate.proofs.regions.pages_needed.Reads as reads
+use Rattle.validate.proofs.regions.pages_needed.Lts as lts
 
 add-result : tie.Need-add-result
 add-result c = search needs

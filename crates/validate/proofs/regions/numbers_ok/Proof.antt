@@ -13,8 +13,8 @@ use Rattle.tables.specs.Limits.{pageSize}
 use Rattle.tables.specs.State.{pagesAt}
 use Rattle.tables.proofs.ObjectLaws.{page-at}
 use Rattle.validate.proofs.TogetherLaws.{numbers-by}
-use Rattle.validate.proofs.accept.numbers_ok.Statement.{statement}
-use Rattle.validate.proofs.accept.numbers_ok.Tie as tie
+use Rattle.validate.proofs.regions.numbers_ok.Statement.{statement}
+use Rattle.validate.proofs.regions.numbers_ok.Tie as tie
 
 abbrev Inv-loop : tie.InvT-loop
 Inv-loop state memory n count limit k₀ k =

@@ -1,11 +1,11 @@
 use borrow.Author.Tests.{le-leb, lt-leb, not-true, not-false}
 use mathlib.Core.Path.{sym, _∙_}
 use borrow.Author.Needs.{needs}
-use Rattle.validate.proofs.accept.fields_ok.Statement.{statement}
-use Rattle.validate.proofs.accept.fields_ok.Tie as tie
-use Rattle.validate.proofs.accept.fields_ok.Reads as reads
-use Rattle.validate.proofs.accept.fields_ok.Lts as lts
-use Rattle.validate.proofs.accept.access_ok.Reads as access-ok-reads
+use Rattle.validate.proofs.regions.fields_ok.Statement.{statement}
+use Rattle.validate.proofs.regions.fields_ok.Tie as tie
+use Rattle.validate.proofs.regions.fields_ok.Reads as reads
+use Rattle.validate.proofs.regions.fields_ok.Lts as lts
+use Rattle.validate.proofs.regions.access_ok.Reads as access-ok-reads
 use Rattle.wire.proofs.sum_within.Reads as sum-within-reads
 
 cast-access-ok : tie.Need-cast-access-ok

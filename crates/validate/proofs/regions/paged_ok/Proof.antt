@@ -7,12 +7,12 @@ use lib.Dec.{leb}
 use native.Mathlib.Omega.{arith}
 use borrow.Author.Tests.{leb-true, not-true, not-false}
 use Rattle.validate.proofs.TestLaws.{need-most, paged-start, paged-long, paged-rest}
-use Rattle.validate.proofs.accept.paged_ok.Statement.{statement}
-use Rattle.validate.proofs.accept.paged_ok.Tie as tie
-use Rattle.validate.proofs.accept.paged_ok.Reads as reads
-use Rattle.validate.proofs.accept.paged_ok.Lts as lts
-use Rattle.validate.proofs.accept.numbers_ok.Reads as numbers-ok-reads
-use Rattle.validate.proofs.accept.pages_needed.Reads as pages-needed-reads
+use Rattle.validate.proofs.regions.paged_ok.Statement.{statement}
+use Rattle.validate.proofs.regions.paged_ok.Tie as tie
+use Rattle.validate.proofs.regions.paged_ok.Reads as reads
+use Rattle.validate.proofs.regions.paged_ok.Lts as lts
+use Rattle.validate.proofs.regions.numbers_ok.Reads as numbers-ok-reads
+use Rattle.validate.proofs.regions.pages_needed.Reads as pages-needed-reads
 use Rattle.wire.proofs.sum_within.Reads as sum-within-reads
 
 sub-if1 : tie.Need-sub-if1

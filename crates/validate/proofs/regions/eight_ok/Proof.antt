@@ -8,8 +8,8 @@ use borrow.Author.Tests.{not-true, not-false}
 use Rattle.wire.specs.Scan.{allBelow}
 use Rattle.wire.proofs.ScanLaws.{all-none, all-more, all-fails}
 use Rattle.validate.specs.Accept.{mrOk}
-use Rattle.validate.proofs.accept.eight_ok.Statement.{statement}
-use Rattle.validate.proofs.accept.eight_ok.Tie as tie
+use Rattle.validate.proofs.regions.eight_ok.Statement.{statement}
+use Rattle.validate.proofs.regions.eight_ok.Tie as tie
 
 abbrev Inv-loop : tie.InvT-loop
 Inv-loop state memory g i₀ i = (i ≤ 8) × (allBelow i (λ k. mrOk state (8 * g + k)) ≡ true)

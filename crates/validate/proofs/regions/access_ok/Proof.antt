@@ -1,9 +1,9 @@
 use mathlib.Core.Path.{refl}
 use borrow.Author.Needs.{needs}
-use Rattle.validate.proofs.accept.access_ok.Statement.{statement}
-use Rattle.validate.proofs.accept.access_ok.Tie as tie
-use Rattle.validate.proofs.accept.access_ok.Reads as reads
-use Rattle.validate.proofs.accept.access_ok.Lts as lts
+use Rattle.validate.proofs.regions.access_ok.Statement.{statement}
+use Rattle.validate.proofs.regions.access_ok.Tie as tie
+use Rattle.validate.proofs.regions.access_ok.Reads as reads
+use Rattle.validate.proofs.regions.access_ok.Lts as lts
 
 cast-known : tie.Need-cast-known
 cast-known c = search needs

@@ -1,11 +1,11 @@
 use borrow.Author.Needs.{needs}
 use mathlib.Core.Path.{_≡_, sym, _∙_}
 use Rattle.validate.proofs.TestLaws.{land-flat, land-wrong, land-paged}
-use Rattle.validate.proofs.accept.land_ok.Statement.{statement}
-use Rattle.validate.proofs.accept.land_ok.Tie as tie
-use Rattle.validate.proofs.accept.land_ok.Reads as reads
-use Rattle.validate.proofs.accept.land_ok.Lts as lts
-use Rattle.validate.proofs.accept.paged_ok.Reads as paged-ok-reads
+use Rattle.validate.proofs.regions.land_ok.Statement.{statement}
+use Rattle.validate.proofs.regions.land_ok.Tie as tie
+use Rattle.validate.proofs.regions.land_ok.Reads as reads
+use Rattle.validate.proofs.regions.land_ok.Lts as lts
+use Rattle.validate.proofs.regions.paged_ok.Reads as paged-ok-reads
 use Rattle.wire.proofs.sum_within.Reads as sum-within-reads
 
 sum-within-requires : tie.Need-sum-within-requires
