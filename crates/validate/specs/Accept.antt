@@ -28,7 +28,7 @@ memoryOk n = leb 1 n && leb n mostMemory
 abbrev pub flagOk : ℕ → Bool
 flagOk f = leb f 1
 
--- "Statuses: 0 success, 1 local length, 3 local protection, 4 flushed, 7 remote invalid request, 8 remote access."
+-- "Statuses (001, whose list counts from 0): 0 success, 1 local length, 3 local protection, 4 flushed, 7 remote invalid request, 8 remote access."
 abbrev pub isStatus : ℕ → Bool
 isStatus s = leb s 1 || eqb s 3 || eqb s 4 || eqb s 7 || eqb s 8
 
