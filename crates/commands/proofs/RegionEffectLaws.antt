@@ -6,7 +6,7 @@ use mathlib.Core.List.{List}
 use mathlib.Core.Option.{none}
 use Prim.Native.Nat.{ℕ, _+_, _-_, _*_, _/_, _≤_, _<_}
 use native.Mathlib.Omega.{arith}
-use lib.Dec.{eqb, ltb}
+use lib.Dec.{eqb}
 use lib.ListN.{length, getD}
 use borrow.Author.Tests.{leb-false, ltb-false, le-leb, lt-ltb, not-false, eqb-false, eqb-true}
 use Rattle.wire.specs.Checks.{refusal}
@@ -17,9 +17,10 @@ use Rattle.wire.proofs.ScanLaws.{all-each}
 use Rattle.wire.specs.Slots.{upd}
 use Rattle.wire.specs.Table.{rowAt, putRow}
 use Rattle.wire.proofs.TableLaws.{putRow-length}
-use Rattle.validate.specs.Accept.{accessOk, fieldsOk, pagedOk, landOk}
+use Rattle.validate.specs.Accept.{accessOk, fieldsOk, pageInside, pagedOk, landOk}
 use Rattle.validate.proofs.AcceptedLaws.{Accepted, Paged, access-most, memory-most, registering}
 use Rattle.validate.proofs.KeptLaws.{region-accepted}
+use Rattle.validate.proofs.TestLaws.{page-by-number}
 use Rattle.validate.specs.Search.{freeMrn}
 use Rattle.tables.specs.Card.{Card, withMr}
 use Rattle.tables.specs.State.{RegionRows, card, mrOf, pagesNeeded, pagesAt, regionAt}
@@ -151,7 +152,8 @@ paged-fine memory r p =
     let n : ℕ = r .row .length in
     let o = p .offset in
     rw (le-leb s (pageSize - 1) (omega arith), le-leb (s + n) (mostPages * pageSize) (p .most))
-    (all-each (pagesNeeded s n) (λ k. ltb (getD (r .pages) k 0) (memory / pageSize)) (λ k b. lt-ltb (getD (r .pages) k 0) (memory / pageSize) (p .numbers k b)))
+    (all-each (pagesNeeded s n) (λ k. pageInside memory (pageSize * getD (r .pages) k 0))
+    (λ k b. page-by-number memory (getD (r .pages) k 0) ∙ lt-ltb (getD (r .pages) k 0) (memory / pageSize) (p .numbers k b)))
 
 record Listing (c : Card) (g : Registration) (ps : List ℕ) : Type 0 where
   allowed : Allowed c g

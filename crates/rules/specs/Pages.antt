@@ -15,6 +15,7 @@ use Rattle.tables.specs.Commands.{ackLeast, headChecks, registerCodec}
 use Rattle.tables.specs.Limits.{mostAddress, pageSize, mostPages}
 use Rattle.tables.specs.State.{pagesNeeded}
 use Rattle.tables.specs.declared.Registration.{Registration}
+use Rattle.validate.specs.Accept.{pageInside}
 use Rattle.rules.specs.Control.{registrationChecks}
 
 -- ---- the record
@@ -31,7 +32,7 @@ pageRecordChecks k a = 12 if ltb (length a) ackLeast ∷ sevenChecks k
 
 -- "Each entry is a page's first byte in the lent memory, a multiple of 4096, with the whole page inside the memory": that of the reset
 abbrev pub entryOk : (memory entry : ℕ) → Bool
-entryOk memory e = eqb (e % pageSize) 0 && leb (e + pageSize) memory
+entryOk memory e = eqb (e % pageSize) 0 && pageInside memory e
 
 abbrev pub entriesOk : (memory : ℕ) → List ℕ → Bool
 entriesOk memory ps = all (entryOk memory) ps

@@ -1,5 +1,5 @@
 -- What an accepted state shows of each number, and that this is all the test asks. Assumes nothing.
-use mathlib.Core.Path.{_≡_}
+use mathlib.Core.Path.{_≡_, sym, _∙_}
 use mathlib.Core.Bool.{Bool, true, _&&_, _||_}
 use mathlib.Core.List.{List}
 use Prim.Native.Nat.{ℕ, _+_, _-_, _*_, _/_, _≤_, _<_}
@@ -18,7 +18,8 @@ use Rattle.tables.specs.State.{QueueRows, RegionRows, PairRows, pagesNeeded, un
 use Rattle.tables.specs.declared.QueueHead.{QueueHead}
 use Rattle.tables.specs.declared.Region.{Region}
 use Rattle.tables.specs.declared.WaitingHead.{WaitingHead}
-use Rattle.validate.specs.Accept.{accepts, memoryOk, completionOk, receiveOk, queueOk, accessOk, numbersOk, pagedOk, landOk, regionOk, pairOk, namesOk, receivesOk, pdOk, cqSound, cqOk, mrSound, mrOk, qpSound, qpOk}
+use Rattle.validate.specs.Accept.{accepts, memoryOk, completionOk, receiveOk, queueOk, accessOk, pageInside, numbersOk, pagedOk, landOk, regionOk, pairOk, namesOk, receivesOk, pdOk, cqSound, cqOk, mrSound, mrOk, qpSound, qpOk}
+use Rattle.validate.proofs.TestLaws.{page-by-number}
 
 pub record Accepted (l : List ℕ) : Type 0 where
   pub sized : length l ≡ stateSize
@@ -166,8 +167,10 @@ module _ (memory : ℕ) (r : RegionRows) where
       record {
         offset = omega arith;
         most = leb-true (row .start + row .length) (mostPages * pageSize) (and-right a b e1);
-        numbers = λ k h. ltb-true (getD (r .pages) k 0) (memory / pageSize)
-            (all-at (pagesNeeded (row .start) (row .length)) (λ k. ltb (getD (r .pages) k 0) (memory / pageSize)) k h (and-right (a && b) c e));
+        numbers = λ k h.
+            let n : ℕ = getD (r .pages) k 0 in
+            let q = all-at (pagesNeeded (row .start) (row .length)) (λ k. pageInside memory (pageSize * getD (r .pages) k 0)) k h (and-right (a && b) c e) in
+            ltb-true n (memory / pageSize) (sym (page-by-number memory n) ∙ q);
       }
 
   pub ranged : regionOk memory r ≡ true → Ranged memory r

@@ -1,8 +1,8 @@
 -- The ways in which each object's test ends, for the code that makes it. Assumes nothing.
-use mathlib.Core.Path.{_≡_, _∙_}
+use mathlib.Core.Path.{_≡_, sym, _∙_}
 use mathlib.Core.Bool.{Bool, true, false, _&&_, _||_}
 use mathlib.Core.List.{List}
-use Prim.Native.Nat.{ℕ, _+_, _-_, _*_, _≤_, _<_}
+use Prim.Native.Nat.{ℕ, _+_, _-_, _*_, _/_, _≤_, _<_}
 use native.Mathlib.Nat.{mul-one, add-zero}
 use native.Mathlib.Decide.{decLt}
 use native.Mathlib.Omega.{arith}
@@ -21,7 +21,7 @@ use Rattle.tables.specs.State.{PairRows, card, queueAt, regionAt, pairAt, pages
 use Rattle.tables.specs.declared.QueueHead.{QueueHead}
 use Rattle.tables.specs.declared.Region.{Region}
 use Rattle.validate.specs.Together.{Zeros}
-use Rattle.validate.specs.Accept.{cqOk, mrOk, qpOk, completionOk, receiveOk, queueOk, fieldsOk, numbersOk, pagedOk, landOk, pairOk, namesOk, receivesOk}
+use Rattle.validate.specs.Accept.{cqOk, mrOk, qpOk, completionOk, receiveOk, queueOk, fieldsOk, pageInside, numbersOk, pagedOk, landOk, pairOk, namesOk, receivesOk}
 
 -- a flag, and the rest of the test
 module _ (flag : ℕ) (b : Bool) where
@@ -74,6 +74,14 @@ module _ (l : List ℕ) (n : ℕ) where
 pub need-most : (start size : ℕ) → start + size ≤ mostPages * pageSize → pagesNeeded start size ≤ mostPages
 unfolding pagesNeeded
 need-most start size h = omega arith
+
+-- a page by its number, as the code tests it
+pub page-by-number : (memory n : ℕ) → pageInside memory (pageSize * n) ≡ ltb n (memory / pageSize)
+page-by-number memory n =
+    elim (decLt n (memory / pageSize)) [
+      | yes h ↦ le-leb (pageSize * n + pageSize) memory (omega arith) ∙ sym (lt-ltb n (memory / pageSize) h)
+      | no h ↦ lt-leb (pageSize * n + pageSize) memory (omega arith) ∙ sym (le-ltb n (memory / pageSize) (omega arith))
+    ]
 
 module _ (l : List ℕ) (n memory : ℕ) (r : Region) (is : r ≡ rowAt mrT l n) where
   pub paged-start : pageSize - 1 < r .start → pagedOk memory (regionAt l n) ≡ false

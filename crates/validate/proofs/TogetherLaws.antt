@@ -23,10 +23,10 @@ use Rattle.tables.specs.State.{card, regionAt, pagesAt, pagesNeeded, ringAt, re
 use Rattle.tables.specs.declared.Completion.{Completion}
 use Rattle.tables.specs.declared.Region.{Region}
 use Rattle.tables.proofs.ObjectLaws.{pd-is, page-at, entry-at, receive-at}
-use Rattle.validate.specs.Accept.{accessOk, fieldsOk, numbersOk, landOk, mrOk, completionOk, receiveOk}
+use Rattle.validate.specs.Accept.{accessOk, fieldsOk, pageInside, numbersOk, landOk, mrOk, completionOk, receiveOk}
 use Rattle.validate.specs.Together.{eightOk, pagesOk, variantOk, virtOk, firstWord, remoteOk, wordsOk, wordOk, rangeOk, rowOk}
 use Rattle.validate.proofs.BitLaws.{Between}
-use Rattle.validate.proofs.TestLaws.{mr-rest, need-most, paged-rest, land-flat, land-paged}
+use Rattle.validate.proofs.TestLaws.{mr-rest, need-most, page-by-number, paged-rest, land-flat, land-paged}
 
 -- a test that each number passes which is at most the one that passed
 pub all-most : (n : ℕ) (f : ℕ → ℕ) (any most : ℕ) → any ≤ most → ((k : ℕ) → k < n → f k ≤ any) → allBelow n (λ k. leb (f k) most) ≡ true
@@ -52,16 +52,16 @@ pub pages-by : (memory : ℕ) (l : List ℕ) (from many top : ℕ) → ltb top (
     → pagesOk memory l from many ≡ true
 pages-by memory l from many top e m =
     let t : top < memory / pageSize = ltb-true top (memory / pageSize) e in
-    all-each many (λ k. ltb (rowAt pageT l (from + k)) (memory / pageSize))
-    (λ k b. let x = m k b in lt-ltb (rowAt pageT l (from + k)) (memory / pageSize) (omega arith))
+    all-each many (λ k. pageInside memory (pageSize * rowAt pageT l (from + k)))
+    (λ k b. let x = m k b in let n : ℕ = rowAt pageT l (from + k) in page-by-number memory n ∙ lt-ltb n (memory / pageSize) (omega arith))
 
 -- those that a region needs, from all its places
 pub numbers-by : (memory : ℕ) (l : List ℕ) (n count : ℕ) → count ≤ mostPages → pagesOk memory l (mostPages * n) mostPages ≡ true
     → numbersOk memory count (pagesAt l n) ≡ true
 numbers-by memory l n count h e =
-    all-each count (λ k. ltb (getD (pagesAt l n) k 0) (memory / pageSize))
+    all-each count (λ k. pageInside memory (pageSize * getD (pagesAt l n) k 0))
     (λ k b. let m : k < mostPages = omega arith in
-    rw (page-at l n k m) (all-at mostPages (λ k. ltb (rowAt pageT l (mostPages * n + k)) (memory / pageSize)) k m e))
+    rw (page-at l n k m) (all-at mostPages (λ k. pageInside memory (pageSize * rowAt pageT l (mostPages * n + k))) k m e))
 
 -- ---- a region's row
 
@@ -226,9 +226,10 @@ module _ (l : List ℕ) (kind limit n : ℕ) (live : rowAt mrFlagT l n ≡ 1) (p
       mr-by
       (land-paged l n memory r refl (λ z. let y : _≡_ {A = ℕ} 0 1 = sym z ∙ one in omega arith) one
       ∙ paged-rest l n memory r refl s (le-leb (r .start + r .length) (mostPages * pageSize) b)
-      ∙ all-each (pagesNeeded (r .start) (r .length)) (λ i. ltb (getD (pagesAt l n) i 0) (memory / pageSize))
+      ∙ all-each (pagesNeeded (r .start) (r .length)) (λ i. pageInside memory (pageSize * getD (pagesAt l n) i 0))
       (λ i h. let c : i < mostPages = let q = need-most (r .start) (r .length) b in omega arith in
-      rw (page-at l n i c) (lt-ltb (rowAt pageT l (mostPages * n + i)) (memory / pageSize) (pages i c))))
+      let p : ℕ = rowAt pageT l (mostPages * n + i) in
+      rw (page-at l n i c) (page-by-number memory p ∙ lt-ltb p (memory / pageSize) (pages i c))))
 
 -- ---- eight of them
 
@@ -251,8 +252,10 @@ module _ (l : List ℕ) (g kind limit : ℕ) (live : allBelow 8 (λ i. eqb (rowA
       (λ i h. paged-by l kind limit (8 * g + i) (is-live i h) pds most (row-ok i h) k m
       (leb-true (rowAt mrT l (8 * g + i) .start) (pageSize - 1) (all-at 8 (λ i. leb (rowAt mrT l (8 * g + i) .start) (pageSize - 1)) i h starts))
       (λ j b. let z : mostPages * (8 * g + i) + j ≡ 128 * g + (16 * i + j) = omega arith in
-      rw z (ltb-true (rowAt pageT l (128 * g + (16 * i + j))) (rowAt memoryT l 0 / pageSize)
-      (all-at 128 (λ k. ltb (rowAt pageT l (128 * g + k)) (rowAt memoryT l 0 / pageSize)) (16 * i + j) (omega arith) pages))))
+      let memory : ℕ = rowAt memoryT l 0 in
+      let p : ℕ = rowAt pageT l (128 * g + (16 * i + j)) in
+      let q = all-at 128 (λ k. pageInside memory (pageSize * rowAt pageT l (128 * g + k))) (16 * i + j) (omega arith) pages in
+      rw z (ltb-true p (memory / pageSize) (sym (page-by-number memory p) ∙ q))))
 
 -- ---- flags that are all set
 

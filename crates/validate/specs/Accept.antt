@@ -3,7 +3,7 @@
 -- What is not live is not looked at. Executable. Assumes nothing.
 use mathlib.Core.Bool.{Bool, cond, not, _&&_, _||_}
 use mathlib.Core.List.{List}
-use Prim.Native.Nat.{ℕ, _+_, _-_, _*_, _/_}
+use Prim.Native.Nat.{ℕ, _+_, _-_, _*_}
 use lib.ListN.{length, getD}
 use lib.Dec.{eqb, ltb, leb}
 use Rattle.wire.specs.Checks.{has, only}
@@ -52,9 +52,13 @@ accessOk a = only mostAccess a && (not (has remoteWrite a) || has localWrite a)
 abbrev pub fieldsOk : Region → Bool
 fieldsOk r = accessOk (r .access) && leb 1 (r .variant) && leb 1 (r .length) && leb (r .virt + r .length) mostAddress
 
--- its page numbers, those that start + length needs: "with the whole page inside the memory"
+-- 02, M-105, of a page's first byte: "with the whole page inside the memory"
+abbrev pub pageInside : (memory page : ℕ) → Bool
+pageInside memory p = leb (p + pageSize) memory
+
+-- a region's page numbers, those that start + length needs
 abbrev pub numbersOk : (memory count : ℕ) → (pages : List ℕ) → Bool
-numbersOk memory count ps = allBelow count (λ k. ltb (getD ps k 0) (memory / pageSize))
+numbersOk memory count ps = allBelow count (λ k. pageInside memory (pageSize * getD ps k 0))
 
 -- 02, M-105, over pages: "Start is the offset into the first page, 0 to 4095", "exactly the pages that start + length needs, at most 16"
 abbrev pub pagedOk : ℕ → RegionRows → Bool
@@ -62,7 +66,7 @@ pagedOk memory r =
     leb (r .row .start) (pageSize - 1) && leb (r .row .start + r .row .length) (mostPages * pageSize)
     && numbersOk memory (pagesNeeded (r .row .start) (r .row .length)) (r .pages)
 
--- where it lies in the memory, by its kind
+-- where a region lies in the memory, by its kind
 abbrev pub landOk : ℕ → RegionRows → Bool
 landOk memory r = cond (eqb (r .row .kind) 0) (leb (r .row .start + r .row .length) memory) (eqb (r .row .kind) 1 && pagedOk memory r)
 

@@ -10,7 +10,7 @@ use Rattle.wire.specs.Table.{rowAt}
 use Rattle.tables.specs.Layout.{mrT, pageT}
 use Rattle.tables.specs.Limits.{pdCount, mostAddress, mostAccess, pageSize}
 use Rattle.tables.specs.declared.Region.{Region}
-use Rattle.validate.specs.Accept.{accessOk}
+use Rattle.validate.specs.Accept.{accessOk, pageInside}
 
 -- b holds where the test x passes
 abbrev pub Enough : (x b : Bool) → Type 0
@@ -26,7 +26,7 @@ eightOk p l g = allBelow 8 (λ i. p (rowAt mrT l (8 * g + i)))
 
 -- page numbers, `many` of them from row `from` on
 abbrev pub pagesOk : (memory : ℕ) → List ℕ → (from many : ℕ) → Bool
-pagesOk memory l from many = allBelow many (λ k. ltb (rowAt pageT l (from + k)) (memory / pageSize))
+pagesOk memory l from many = allBelow many (λ k. pageInside memory (pageSize * rowAt pageT l (from + k)))
 
 abbrev pub variantOk : Region → Bool
 variantOk r = leb 1 (r .variant)

@@ -1,10 +1,9 @@
 use borrow.Author.Needs.{needs}
 use denote.Ref.{now}
-use Prim.Native.Nat.{ℕ, _≤_, _-_, _/_}
+use Prim.Native.Nat.{ℕ, _≤_, _-_, _*_, _/_}
 use mathlib.Core.Path.{_≡_, refl, sym, ap, _∙_}
 use mathlib.Core.Bool.{Bool, true, false}
 use native.Mathlib.Omega.{arith}
-use lib.Dec.{ltb}
 use lib.ListN.{getD}
 use borrow.Author.Tests.{lt-ltb, le-ltb}
 use Rattle.wire.specs.Scan.{allBelow}
@@ -12,13 +11,15 @@ use Rattle.wire.proofs.ScanLaws.{all-none, all-more, all-fails}
 use Rattle.tables.specs.Limits.{pageSize}
 use Rattle.tables.specs.State.{pagesAt}
 use Rattle.tables.proofs.ObjectLaws.{page-at}
+use Rattle.validate.specs.Accept.{pageInside}
+use Rattle.validate.proofs.TestLaws.{page-by-number}
 use Rattle.validate.proofs.TogetherLaws.{numbers-by}
 use Rattle.validate.proofs.regions.numbers_ok.Statement.{statement}
 use Rattle.validate.proofs.regions.numbers_ok.Tie as tie
 
 abbrev Inv-loop : tie.InvT-loop
 Inv-loop state memory n count limit k₀ k =
-    (k ≤ count) × (limit ≡ memory / pageSize) × (allBelow k (λ j. ltb (getD (pagesAt state n) j 0) (memory / pageSize)) ≡ true)
+    (k ≤ count) × (limit ≡ memory / pageSize) × (allBelow k (λ j. pageInside memory (pageSize * getD (pagesAt state n) j 0)) ≡ true)
 
 abbrev μ-loop : tie.MeasureT-loop
 μ-loop state memory n count limit k₀ k = count - k
@@ -53,10 +54,10 @@ returns-2 : tie.Need-returns-2 Inv-loop μ-loop
 returns-2 c =
     let a = c .before .before .before .before .before .before .before .args in
     let h = c .before .before .before .loop in
-    let p : ℕ → Bool = λ j. ltb (getD (pagesAt (now (a .state)) (a .n)) j 0) (a .memory / pageSize) in
+    let p : ℕ → Bool = λ j. pageInside (a .memory) (pageSize * getD (pagesAt (now (a .state)) (a .n)) j 0) in
     let g : getD (pagesAt (now (a .state)) (a .n)) (h .k) 0 ≡ c .before .load-page .result =
     page-at (now (a .state)) (a .n) (h .k) (search needs) ∙ sym (c .before .load-page .ensures) in
-    let e : p (h .k) ≡ false = ap (λ (x : ℕ). ltb x (a .memory / pageSize)) g ∙ le-ltb _ _ (c .if2 .taken) in
+    let e : p (h .k) ≡ false = ap (λ (x : ℕ). pageInside (a .memory) (pageSize * x)) g ∙ page-by-number (a .memory) (c .before .load-page .result) ∙ le-ltb _ _ (c .if2 .taken) in
     sym (all-fails (a .count) p (h .k) (search needs) e)
 
 add-k : tie.Need-add-k Inv-loop μ-loop
@@ -69,10 +70,10 @@ loop-again : tie.Need-loop-again Inv-loop μ-loop
 loop-again c =
     let a = c .before .before .before .before .before .before .before .args in
     let h = c .before .before .before .loop in
-    let p : ℕ → Bool = λ j. ltb (getD (pagesAt (now (a .state)) (a .n)) j 0) (a .memory / pageSize) in
+    let p : ℕ → Bool = λ j. pageInside (a .memory) (pageSize * getD (pagesAt (now (a .state)) (a .n)) j 0) in
     let g : getD (pagesAt (now (a .state)) (a .n)) (h .k) 0 ≡ c .before .load-page .result =
     page-at (now (a .state)) (a .n) (h .k) (search needs) ∙ sym (c .before .load-page .ensures) in
-    let e : p (h .k) ≡ true = ap (λ (x : ℕ). ltb x (a .memory / pageSize)) g ∙ lt-ltb _ _ (c .if2 .left) in
+    let e : p (h .k) ≡ true = ap (λ (x : ℕ). pageInside (a .memory) (pageSize * x)) g ∙ page-by-number (a .memory) (c .before .load-page .result) ∙ lt-ltb _ _ (c .if2 .left) in
     (search needs, refl, all-more (h .k) p (h .inv .2) e)
 
 returns-3 : tie.Need-returns-3 Inv-loop μ-loop
