@@ -51,10 +51,14 @@ module _ (l : List ℕ) (n : ℕ) where
   unfolding mrOk regionAt
   mr-off e = rw (eq-eqb (rowAt mrFlagT l n) 0 e)
 
-  pub mr-rest : (rowAt mrFlagT l n ≡ 0 → ⊥)
-      → mrOk l n ≡ (eqb (rowAt mrFlagT l n) 1 && card l .pd (rowAt mrT l n .pd) && (fieldsOk (rowAt mrT l n) && landOk (rowAt memoryT l 0) (regionAt l n)))
+  pub mr-flag : (rowAt mrFlagT l n ≡ 0 → ⊥) → (rowAt mrFlagT l n ≡ 1 → ⊥) → mrOk l n ≡ false
   unfolding mrOk regionAt
-  mr-rest e = rw (ne-eqb (rowAt mrFlagT l n) 0 e)
+  mr-flag e f = rw (ne-eqb (rowAt mrFlagT l n) 0 e, ne-eqb (rowAt mrFlagT l n) 1 f)
+
+  pub mr-rest : rowAt mrFlagT l n ≡ 1
+      → mrOk l n ≡ (card l .pd (rowAt mrT l n .pd) && (fieldsOk (rowAt mrT l n) && landOk (rowAt memoryT l 0) (regionAt l n)))
+  unfolding mrOk regionAt
+  mr-rest e = rw e
 
   pub qp-off : rowAt qpFlagT l n ≡ 0 → qpOk l n ≡ true
   unfolding qpOk pairAt

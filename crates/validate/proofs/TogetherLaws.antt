@@ -210,8 +210,7 @@ module _ (l : List ℕ) (kind limit n : ℕ) (live : rowAt mrFlagT l n ≡ 1) (p
 
   mr-by : landOk (rowAt memoryT l 0) (regionAt l n) ≡ true → mrOk l n ≡ true
   mr-by land =
-      mr-rest l n (λ z. let y : _≡_ {A = ℕ} 0 1 = sym z ∙ live in omega arith)
-      ∙ both-true _ _ (both-true _ _ (eq-eqb (rowAt mrFlagT l n) 1 live) pd-ok) (both-true _ _ fields-ok land)
+      mr-rest l n live ∙ both-true _ _ pd-ok (both-true _ _ fields-ok land)
 
   pub flat-by : kind ≡ 0 → limit ≡ rowAt memoryT l 0 → mrOk l n ≡ true
   flat-by k m =
