@@ -6,7 +6,8 @@ use lib.ListN.{length}
 use Rattle.tape.specs.declared.Found.{Found}
 use Rattle.tape.specs.declared.input.Held.{Held}
 use Rattle.tape.specs.Pieces.{heldIn, Lies, Reads}
-use Rattle.tape.specs.Audit.{Finding, findingOf}
+use Rattle.tape.specs.Audit.{Finding, findingOf, mostAnswer}
+use Rattle.tape.specs.Tape.{headerSize, mostBody}
 use Rattle.audit.specs.declared.Next.{Next}
 use Rattle.audit.specs.declared.Place.{Place}
 use Rattle.audit.specs.declared.Verdict.{Verdict}
@@ -58,7 +59,7 @@ Goes (Next.Done v) n x y = Unit {0}
 
 -- each window has room for a longest record
 abbrev pub Wide : (x y : List ℕ) → Type 0
-Wide x y = (646 ≤ length x) × (135 ≤ length y)
+Wide x y = (headerSize + mostBody ≤ length x) × (mostAnswer ≤ length y)
 
 -- The program's turn follows what the bytes held show.
 pub record Turns (l m x y : List ℕ) (p : Place) (r : Next) (l′ m′ x′ y′ : List ℕ) : Type 0 where

@@ -1,4 +1,4 @@
--- Turn after turn of the program has the verdict on the tapes that its reads are of, "however both are cut into pieces". Assumes nothing.
+-- Turn after turn of the program has the verdict on the tapes that its reads are of; 02, M-110: "however both are cut into pieces". Assumes nothing.
 use mathlib.Core.Path.{_≡_}
 use mathlib.Core.Bool.{false}
 use mathlib.Core.List.{List, [], _++_}

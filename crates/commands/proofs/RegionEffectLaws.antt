@@ -21,7 +21,7 @@ use Rattle.validate.specs.Accept.{accessOk, fieldsOk, pageInside, pagedOk, land
 use Rattle.validate.proofs.AcceptedLaws.{Accepted, Paged, access-most, memory-most, registering}
 use Rattle.validate.proofs.KeptLaws.{region-accepted}
 use Rattle.validate.proofs.TestLaws.{page-by-number}
-use Rattle.validate.specs.Search.{freeMrn}
+use Rattle.validate.specs.Search.{lastVariant, freeMrn}
 use Rattle.tables.specs.Card.{Card, withMr}
 use Rattle.tables.specs.State.{RegionRows, card, mrOf, pagesNeeded, pagesAt, regionAt}
 use Rattle.tables.specs.Layout.{memoryT, mrFlagT, mrT, flagCodec, regionCodec}
@@ -66,7 +66,7 @@ module _ (l : List ℕ) (ok : Accepted l) (g : Registration) (a : Allowed (card 
   abbrev x : List ℕ
   x = putRow mrT l n row
 
-  variant : v ≤ 255
+  variant : v ≤ lastVariant
   variant = new-small (card l) (a .below)
 
   fits : Fits regionCodec row

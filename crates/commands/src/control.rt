@@ -9,8 +9,19 @@ use rules::Answer;
 use rules::numbers::BAD_FIELD;
 use rules::numbers::BAD_RANGE;
 use rules::numbers::BAD_STATE;
+use rules::numbers::CREATE_CQ;
+use rules::numbers::CREATE_PD;
+use rules::numbers::CREATE_QP;
+use rules::numbers::DEREGISTER_MR;
+use rules::numbers::DESTROY_CQ;
+use rules::numbers::DESTROY_PD;
+use rules::numbers::DESTROY_QP;
 use rules::numbers::FULL;
+use rules::numbers::MODIFY_QP;
 use rules::numbers::NOT_LIVE;
+use rules::numbers::QUERY_DEVICE;
+use rules::numbers::QUERY_PORT;
+use rules::numbers::REGISTER_MR;
 use rules::numbers::SHORT_BUFFER;
 use rules::numbers::UNKNOWN;
 use rules::numbers::WRONG_LENGTH;
@@ -57,29 +68,6 @@ pub const ACK_LEAST: usize = 13;
 
 // The class byte and the command byte.
 pub const HEAD_SIZE: usize = 2;
-
-// The command numbers: the queries of document 02, and document 01's table.
-const QUERY_DEVICE: u8 = 0;
-
-const QUERY_PORT: u8 = 1;
-
-const CREATE_CQ: u8 = 2;
-
-const DESTROY_CQ: u8 = 3;
-
-const CREATE_PD: u8 = 4;
-
-const DESTROY_PD: u8 = 5;
-
-pub const REGISTER_MR: u8 = 7;
-
-const DEREGISTER_MR: u8 = 8;
-
-const CREATE_QP: u8 = 9;
-
-const MODIFY_QP: u8 = 10;
-
-const DESTROY_QP: u8 = 12;
 
 // ---- completion queues
 

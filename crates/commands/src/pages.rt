@@ -2,13 +2,13 @@
 use crate::Outcome;
 use crate::control;
 use crate::control::ACK_LEAST;
-use crate::control::REGISTER_MR;
 use rules::Answer;
 use rules::numbers::BAD_FIELD;
 use rules::numbers::BAD_RANGE;
 use rules::numbers::BAD_STATE;
 use rules::numbers::FULL;
 use rules::numbers::NOT_LIVE;
+use rules::numbers::REGISTER_MR;
 use rules::numbers::SHORT_BUFFER;
 use rules::numbers::UNKNOWN;
 use rules::numbers::WRONG_LENGTH;

@@ -65,7 +65,7 @@ pub record Keys (n : ℕ) (mr : ℕ → Mr) (st : ℕ → Option Standing) (dr h
   pub spent : (k : ℕ) → hd k ≡ true → k % 256 ≤ mr (k / 256) .variant
   pub distinct : D
   pub inside : (i : ℕ) → mr i .live ≡ true → Inside n (mr i .pages) (mr i .reg)
-  pub small : (i : ℕ) → mr i .variant ≤ 255
+  pub small : (i : ℕ) → mr i .variant ≤ lastVariant
 
 eqb-sym : (x y : ℕ) → eqb x y ≡ eqb y x
 eqb-sym x y = go (eqb x y) refl
@@ -75,7 +75,7 @@ eqb-sym x y = go (eqb x y) refl
     go false e = e ∙ sym (ne-eqb y x (λ p. eqb-false x y e (sym p)))
 
 -- a key of another slot is another key
-other-key : (i v k : ℕ) → v ≤ 255 → eqb i (k / 256) ≡ false → eqb (keyOf i v) k ≡ false
+other-key : (i v k : ℕ) → v ≤ lastVariant → eqb i (k / 256) ≡ false → eqb (keyOf i v) k ≡ false
 other-key i v k h e = ne-eqb (keyOf i v) k (λ p. eqb-false i (k / 256) e (omega (arith, slot i v h)))
 
 -- a slot that is not live finds nothing
@@ -122,7 +122,7 @@ module _ (n : ℕ) (mr : ℕ → Mr) (st : ℕ → Option Standing) (dr hd : ℕ
       new : Mr
       new = record { live = true; variant = mr i .variant + 1; reg = g; pages = ps }
 
-      small′ : mr i .variant + 1 ≤ 255
+      small′ : mr i .variant + 1 ≤ lastVariant
       small′ = omega arith
 
       -- its key was never handed out: the slot's variant would be as large

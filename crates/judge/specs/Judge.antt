@@ -220,7 +220,7 @@ far l w =
 abbrev pub allPass : Log → Side → Bool
 allPass l s = all (passes l (s .party) (s .right)) (s .bytes)
 
--- "any receive it fills": that of opcodes 2 and 3
+-- 00: "any receive it fills": that of opcodes 2 and 3
 abbrev pub fitsReceive : Log → Work → Bool
 fitsReceive l w =
     not (eqb (w .request .opcode) 2 || eqb (w .request .opcode) 3) || leb (total (w .request)) (sgeTotal (filled l w .sges))
@@ -231,8 +231,8 @@ nearPasses l w = leb (total (w .request)) mostMessage && allPass l (near l w)
 unfoldable pub farPasses : Log → Work → Bool
 farPasses l w = fitsReceive l w && allPass l (far l w)
 
--- The verdict: the request "succeeds exactly when its length fits the message limit and any receive it fills, and the judge passes every
--- byte it touches"; 02, M-103: it "counts a flushed request as failing, with no byte judged".
+-- The verdict, in 00's words: the request "succeeds exactly when its length fits the message limit and any receive it fills, and the judge
+-- passes every byte it touches"; 02, M-103: it "counts a flushed request as failing, with no byte judged".
 unfoldable pub judge : Log → Work → Bool
 judge l w = not (errored l (w .qpn)) && (nearPasses l w && farPasses l w)
 

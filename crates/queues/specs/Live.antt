@@ -10,7 +10,7 @@ use Rattle.rules.specs.Lists.{isEmpty}
 use Rattle.rules.specs.Queues.{flushesAtOnce}
 use Rattle.rules.specs.Send.{room}
 
--- neither "15 lent card state not acceptable" nor, of completion queue n, "2 number not live"
+-- neither 15, "lent card state not acceptable", nor, of completion queue n, 2, "number not live"
 pub record LiveQueue (l : List ℕ) (n : ℕ) : Type 0 where
   pub ok : accepts l ≡ true
   pub live : cqLive (card l) n ≡ true

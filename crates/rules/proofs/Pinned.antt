@@ -131,10 +131,10 @@ pub deliveries : (moved (request 0 1 (piece 0 4 ∷ [])) noReceive
 unfolding delivered message total ownBytes farBytes range sgeBytes sgeTotal stored
 deliveries = refl
 
--- 02, M-100: what a card reports that was reset to 16,777,216 bytes; "flags 0, largest region the memory length, page size mask 4096, version 1, then in 001's
+-- 02, M-100: what a card reports that was reset to 66,051 bytes, a length that is no limit; "flags 0, largest region the memory length, page size mask 4096, version 1, then in 001's
 -- order 4, 4, 2, 4, 16, 32, 8, 1, 1, 0, delay 0, rest zero"; M-106: "A query reports 256."
-pub device-reported : bufferAfter (fresh 16777216) (Call.control (6 ∷ 0 ∷ []) (replicate 130 99))
-    ≡ 0 ∷ 0 ∷ 0 ∷ 0 ∷ 0 ∷ 0 ∷ 0 ∷ 0 ∷ 0 ∷ 0 ∷ 0 ∷ 0 ∷ 1 ∷ 0 ∷ 0 ∷ 0 ∷ 0 ∷ 0 ∷ 16 ∷ 0 ∷ 0 ∷ 0 ∷ 0 ∷ 0 ∷ 0 ∷ 1 ∷ 0 ∷ 0 ∷ 0 ∷
+pub device-reported : bufferAfter (fresh 66051) (Call.control (6 ∷ 0 ∷ []) (replicate 130 99))
+    ≡ 0 ∷ 0 ∷ 0 ∷ 0 ∷ 0 ∷ 0 ∷ 0 ∷ 0 ∷ 0 ∷ 3 ∷ 2 ∷ 1 ∷ 0 ∷ 0 ∷ 0 ∷ 0 ∷ 0 ∷ 0 ∷ 16 ∷ 0 ∷ 0 ∷ 0 ∷ 0 ∷ 0 ∷ 0 ∷ 1 ∷ 0 ∷ 0 ∷ 0 ∷
     4 ∷ 0 ∷ 0 ∷ 0 ∷ 4 ∷ 0 ∷ 0 ∷ 0 ∷ 2 ∷ 0 ∷ 0 ∷ 0 ∷ 4 ∷ 0 ∷ 0 ∷ 0 ∷ 16 ∷ 0 ∷ 0 ∷ 0 ∷
     0 ∷ 1 ∷ 0 ∷ 0 ∷ 8 ∷ 0 ∷ 0 ∷ 0 ∷ 1 ∷ 0 ∷ 0 ∷ 0 ∷ 1 ∷ 0 ∷ 0 ∷ 0 ∷ 0 ∷ 0 ∷ 0 ∷ 0 ∷ 0 ∷ (replicate 59 0 ++ (99 ∷ []))
 unfolding bufferAfter commandOf commandAck deviceOf deviceCodec putFields putLe leAt

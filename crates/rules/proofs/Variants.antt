@@ -32,7 +32,7 @@ module _ (c : Card) (h : freeMrn c < mrCount) where
   new-small = let s = slot-free .1 in omega arith
 
 -- a key tells its slot
-pub slot : (i v : ℕ) → v ≤ 255 → keyOf i v / 256 ≡ i
+pub slot : (i v : ℕ) → v ≤ lastVariant → keyOf i v / 256 ≡ i
 slot i v h = omega arith
 
 pub live-found : LiveFound

@@ -94,7 +94,7 @@ HeldStays =
 -- a live region is found under its key, and under no other: any other key finds without it what it finds with it
 unfoldable pub LiveFound : Type 0
 LiveFound =
-    (mr : ℕ → Mr) (n : ℕ) → mr n .live ≡ true → mr n .variant ≤ 255 →
+    (mr : ℕ → Mr) (n : ℕ) → mr n .live ≡ true → mr n .variant ≤ lastVariant →
     (lookup mr (keyOf n (mr n .variant)) ≡ some (mr n .reg)) ×
     ((k : ℕ) → k ≢ keyOf n (mr n .variant) → lookup (upd mr n (freeMr (mr n .variant))) k ≡ lookup mr k)
 
@@ -123,12 +123,12 @@ OldKeysGone =
     (c : Card) (k : ℕ) → Spent c k →
     ((x : Command) → Spent (commandEffect c x) k) × ((g : Registration) (ps : List ℕ) → Spent (registered c g ps) k)
 
--- "A slot whose variant 255 was handed out and dropped is retired"
+-- 02, M-109: "A slot whose variant 255 was handed out and dropped is retired"
 unfoldable pub DropRetires : Type 0
 DropRetires =
     (c : Card) (n : ℕ) → c .mr n .variant ≡ lastVariant → retired (commandEffect c (Command.deregister n) .mr n) ≡ true
 
--- "until reset": a command, or a registration over pages, that passes its tests leaves a retired slot so
+-- 02, M-109: "until reset": a command, or a registration over pages, that passes its tests leaves a retired slot so
 unfoldable pub StaysRetired : Type 0
 StaysRetired =
     (c : Card) (n : ℕ) → retired (c .mr n) ≡ true →

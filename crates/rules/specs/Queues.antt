@@ -47,7 +47,7 @@ joined c q w = withQp c (upd (c .qp) q (withWaiting (c .qp q) (c .qp q .waiting 
 unfoldable pub joinPuts : Card → (q : ℕ) → Receive → List Put
 joinPuts c q w = cond (flushesAtOnce c q) (flushedPut c q (w .wr) ∷ []) []
 
--- "answer 0, status 4, and a completion with status 4, byte length 0, and .. 3"; one that joins has "answer 0, status 0"
+-- 02, M-103: "answer 0, status 4, and a completion with status 4, byte length 0, and .. 3"; one that joins has "answer 0, status 0"
 unfoldable pub joinStatus : Card → (q : ℕ) → ℕ
 joinStatus c q = cond (flushesAtOnce c q) 4 0
 

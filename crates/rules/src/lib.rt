@@ -43,7 +43,7 @@ pub fn number_of(a: Answer) -> u8
     }
 }
 
-// The status of a work request that is done; 0 of any other answer.
+// The status of a call that is done; 0 of any other answer.
 pub fn status_of(a: Answer) -> u8
     ensures { λ r. ⌜ r ≡ status a ⌝ }
 {

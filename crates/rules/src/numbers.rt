@@ -1,4 +1,4 @@
-// Document 01's answer numbers by name, and the commands whose ack has data.
+// Document 01's answer numbers and command numbers by name.
 
 // ---- "Answer numbers"; holds are an answer's cause, not a refusal
 
@@ -41,15 +41,26 @@ pub const BAD_RECORD: u8 = 14;
 // "lent card state not acceptable"
 pub const BAD_STATE: u8 = 15;
 
-// ---- commands: the queries of document 02, M-100, and document 01's "Ack data"
+// ---- commands: the queries of document 02, M-100, and document 01's table
+
 pub const QUERY_DEVICE: u8 = 0;
 
 pub const QUERY_PORT: u8 = 1;
 
 pub const CREATE_CQ: u8 = 2;
 
+pub const DESTROY_CQ: u8 = 3;
+
 pub const CREATE_PD: u8 = 4;
+
+pub const DESTROY_PD: u8 = 5;
 
 pub const REGISTER_MR: u8 = 7;
 
+pub const DEREGISTER_MR: u8 = 8;
+
 pub const CREATE_QP: u8 = 9;
+
+pub const MODIFY_QP: u8 = 10;
+
+pub const DESTROY_QP: u8 = 12;

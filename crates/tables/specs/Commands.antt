@@ -247,6 +247,6 @@ abbrev pub roomBy : Option Command → ℕ
 roomBy none = ackLeast
 roomBy (some k) = ackRoom k
 
--- "Where a record's first two bytes name one of these": a record of one byte names none
+-- 02, M-100: "Where a record's first two bytes name one of these"; a record of one byte names none
 unfoldable pub ackNeed : List ℕ → ℕ
 ackNeed k = cond (leb 2 (length k) && eqb (leAt 1 k 0) controlClass) (roomBy (commandOf k)) ackLeast

@@ -8,7 +8,7 @@ use lib.ListN.{length, take, drop}
 use Rattle.tables.specs.Reset.{zeros, resetBytes}
 use Rattle.tape.specs.declared.Found.{Found}
 use Rattle.tape.specs.declared.Turn.{Turn}
-use Rattle.tape.specs.Tape.{stepOf, records}
+use Rattle.tape.specs.Tape.{headerSize, tapeAck, stepOf, records}
 use Rattle.tape.specs.Pieces.{Left, turned, Input, unread, next, past, turnsFor}
 
 -- ---- the verdict on two tapes, calls and answers
@@ -64,7 +64,7 @@ DiffersFirst = (memory : ℕ) (calls answers : List ℕ) (n : ℕ) →
 
 -- the longest answer record
 abbrev pub mostAnswer : ℕ
-mostAnswer = 135
+mostAnswer = headerSize + tapeAck
 
 -- behind the last answer, with so many bytes left
 abbrev pub closing : (later left : ℕ) → Found

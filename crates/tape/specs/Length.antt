@@ -4,7 +4,7 @@ use mathlib.Core.List.{List, [], _∷_}
 use Prim.Native.Nat.{ℕ, _+_, _-_, _*_}
 use lib.Dec.{leb}
 
--- the longest memory that a program takes, though a card takes more; 02, M-106: "The program keeps its 4,096 bytes."
+-- the longest memory that a program takes: its own limit, as a card takes more
 abbrev pub mostLength : ℕ
 mostLength = 1048576
 

@@ -2,7 +2,7 @@
 use mathlib.Core.Path.{_≡_}
 use mathlib.Core.Bool.{Bool, true, cond, _&&_, _||_}
 use mathlib.Core.List.{List, [], _∷_, _++_, flatten}
-use Prim.Native.Nat.{ℕ, zero, suc, _+_, _*_, _/_, _%_}
+use Prim.Native.Nat.{ℕ, zero, suc, _+_, _/_, _%_}
 use lib.Dec.{eqb, ltb, leb}
 use lib.ListN.{length, take, drop}
 use Rattle.wire.specs.Le.{leAt}
@@ -37,9 +37,13 @@ isMark i = eqb (leAt 1 i 0) 82 && eqb (leAt 1 i 1) 75
 abbrev pub isKind : ℕ → Bool
 isKind k = leb 1 k && leb k 5
 
+-- "length 16 bits up to 640"
+abbrev pub mostBody : ℕ
+mostBody = 640
+
 -- "A bad .. length (over 640, or not 0 for 4 and 5)"
 abbrev pub isLength : (kind length : ℕ) → Bool
-isLength k n = leb n 640 && (ltb k 4 || eqb n 0)
+isLength k n = leb n mostBody && (ltb k 4 || eqb n 0)
 
 abbrev pub isGood : List ℕ → Bool
 isGood i = isMark i && isKind (leAt 1 i 2) && isLength (leAt 1 i 2) (leAt 2 i 4)
@@ -167,6 +171,7 @@ records memory i = played (resetBytes memory) (zeros memory) i
 abbrev pub resets : (l : List ℕ) → (memory : ℕ) → Bool
 resets l memory = eqb (length l) stateSize && memoryOk memory
 
+-- 02, M-106: "The program keeps its 4,096 bytes."
 abbrev pub tapeMemory : ℕ
 tapeMemory = 4096
 
