@@ -15,10 +15,11 @@ use Rattle.wire.specs.Le.{leAt}
 use Rattle.wire.specs.Ring.{ringList}
 use Rattle.wire.specs.Scan.{all, allBelow, lowest, clearAt}
 use Rattle.wire.specs.Table.{rowAt, place}
+use Rattle.wire.proofs.FlagLaws.{flags-most}
 use Rattle.wire.proofs.LeLaws.{leAt-below}
 use Rattle.wire.proofs.ScanLaws.{all-each, all-at, all-nil, all-cons, lowest-least, and-left, and-right, both-true}
 use Rattle.tables.specs.Layout.{memoryT, pdFlagT, pdFlagBase, mrFlagT, mrFlagBase, mrT, mrBase, pageT, entryT, receiveT, flagCodec, regionCodec}
-use Rattle.tables.specs.Limits.{pdCount, qpCount, mostPlaces, mostWaiting, mostMessage, mostAddress, mostAccess, pageSize, mostPages}
+use Rattle.tables.specs.Limits.{qpCount, mostPlaces, mostWaiting, mostMessage, mostAddress, mostAccess, pageSize, mostPages}
 use Rattle.tables.specs.State.{card, regionAt, pagesAt, pagesNeeded, ringAt, receivesAt, noCompletion, noRecord}
 use Rattle.tables.specs.declared.Completion.{Completion}
 use Rattle.tables.specs.declared.Region.{Region}
@@ -113,18 +114,19 @@ or-cases true b e = inl refl
 or-cases false b e = inr e
 
 -- the word of one row is between what all words and any have in common
-pub word-by : (kind all any : ℕ) (r : Region) → kind < 256 → Small r → wordsOk kind any all ≡ true → Between all any (firstWord r) → wordOk kind r ≡ true
-word-by kind all any r small s e b =
+pub word-by : (kind domains all any : ℕ) (r : Region) → kind < 256 → Small r → wordsOk kind domains any all ≡ true → Between all any (firstWord r)
+    → wordOk kind domains r ≡ true
+word-by kind domains all any r small s e b =
     let w : Bool = remoteOk any all in
     let a : Bool = leb (any % 256) mostAccess in
-    let p : Bool = ltb (any / 65536 % 256) pdCount in
+    let p : Bool = ltb (any / 65536 % 256) domains in
     let k : Bool = eqb (any / 16777216) kind in
     let m : Bool = eqb (all / 16777216) kind in
     let e4 : (w && a && p && k) ≡ true = and-left (w && a && p && k) m e in
     let e3 : (w && a && p) ≡ true = and-left (w && a && p) k e4 in
     let e2 : (w && a) ≡ true = and-left (w && a) p e3 in
     let ha : any % 256 ≤ mostAccess = leb-true _ _ (and-right w a e2) in
-    let hp : any / 65536 % 256 < pdCount = ltb-true _ _ (and-right (w && a) p e3) in
+    let hp : any / 65536 % 256 < domains = ltb-true _ _ (and-right (w && a) p e3) in
     let hk : any / 16777216 ≡ kind = eqb-true _ _ (and-right (w && a && p) k e4) in
     let hm : all / 16777216 ≡ kind = eqb-true _ _ (and-right (w && a && p && k) m e) in
     let x0 : firstWord r % 256 ≤ any % 256 = let y = b .high 0 8 in omega arith in
@@ -139,7 +141,7 @@ word-by kind all any r small s e b =
     (access-by (r .access) (omega arith)
     (⊎-elim (λ z. inr (let y : all % 2 ≡ 1 = eqb-true _ _ z in omega arith)) (λ z. inl (let y : any / 2 % 2 ≡ 0 = eqb-true _ _ z in omega arith))
     (or-cases (eqb (all % 2) 1) (eqb (any / 2 % 2) 0) (and-left w a e2))))
-    (lt-ltb (r .pd) pdCount (omega arith)))
+    (lt-ltb (r .pd) domains (omega arith)))
     (eq-eqb (r .kind) kind (omega arith))
 
 -- ---- a range by the place before its length
@@ -165,10 +167,10 @@ module _ (limit : ℕ) (r : Region) where
         ])
       ]
 
--- ---- a live region, while every domain is live
+-- ---- a live region of one of the first domains, which are live
 
-module _ (l : List ℕ) (kind limit n : ℕ) (live : rowAt mrFlagT l n ≡ 1) (pds : allBelow pdCount (card l .pd) ≡ true) (most : limit ≤ mostAddress)
-    (ok : rowOk kind limit (rowAt mrT l n) ≡ true) where
+module _ (l : List ℕ) (kind limit domains n : ℕ) (live : rowAt mrFlagT l n ≡ 1) (pds : allBelow domains (card l .pd) ≡ true) (most : limit ≤ mostAddress)
+    (ok : rowOk kind limit domains (rowAt mrT l n) ≡ true) where
   abbrev r : Region
   r = rowAt mrT l n
 
@@ -176,30 +178,30 @@ module _ (l : List ℕ) (kind limit n : ℕ) (live : rowAt mrFlagT l n ≡ 1) (p
   first = variantOk r && virtOk limit r
 
   range-ok : rangeOk limit r ≡ true
-  range-ok = and-right (first && wordOk kind r) (rangeOk limit r) ok
+  range-ok = and-right (first && wordOk kind domains r) (rangeOk limit r) ok
 
-  word-ok : wordOk kind r ≡ true
-  word-ok = and-right first (wordOk kind r) (and-left (first && wordOk kind r) (rangeOk limit r) ok)
+  word-ok : wordOk kind domains r ≡ true
+  word-ok = and-right first (wordOk kind domains r) (and-left (first && wordOk kind domains r) (rangeOk limit r) ok)
 
   first-ok : first ≡ true
-  first-ok = and-left first (wordOk kind r) (and-left (first && wordOk kind r) (rangeOk limit r) ok)
+  first-ok = and-left first (wordOk kind domains r) (and-left (first && wordOk kind domains r) (rangeOk limit r) ok)
 
   ends : r .start + r .length ≤ limit
   ends = leb-true (r .start + r .length) limit (and-right (leb 1 (r .length)) (leb (r .start + r .length) limit) range-ok)
 
   is-kind : r .kind ≡ kind
-  is-kind = eqb-true (r .kind) kind (and-right (accessOk (r .access) && ltb (r .pd) pdCount) (eqb (r .kind) kind) word-ok)
+  is-kind = eqb-true (r .kind) kind (and-right (accessOk (r .access) && ltb (r .pd) domains) (eqb (r .kind) kind) word-ok)
 
   pd-ok : card l .pd (r .pd) ≡ true
   pd-ok =
       let a : Bool = accessOk (r .access) in
-      let b : Bool = ltb (r .pd) pdCount in
-      all-at pdCount (card l .pd) (r .pd) (ltb-true (r .pd) pdCount (and-right a b (and-left (a && b) (eqb (r .kind) kind) word-ok))) pds
+      let b : Bool = ltb (r .pd) domains in
+      all-at domains (card l .pd) (r .pd) (ltb-true (r .pd) domains (and-right a b (and-left (a && b) (eqb (r .kind) kind) word-ok))) pds
 
   fields-ok : fieldsOk r ≡ true
   fields-ok =
       let a : Bool = accessOk (r .access) in
-      let b : Bool = ltb (r .pd) pdCount in
+      let b : Bool = ltb (r .pd) domains in
       let v : r .virt ≤ mostAddress - limit = leb-true (r .virt) (mostAddress - limit) (and-right (variantOk r) (virtOk limit r) first-ok) in
       let e = ends in
       both-true _ _
@@ -232,23 +234,23 @@ module _ (l : List ℕ) (kind limit n : ℕ) (live : rowAt mrFlagT l n ≡ 1) (p
 
 -- ---- eight of them
 
-module _ (l : List ℕ) (g kind limit : ℕ) (live : allBelow 8 (λ i. eqb (rowAt mrFlagT l (8 * g + i)) 1) ≡ true)
-    (pds : allBelow pdCount (card l .pd) ≡ true) (most : limit ≤ mostAddress) (ok : eightOk (rowOk kind limit) l g ≡ true) where
+module _ (l : List ℕ) (g kind limit domains : ℕ) (live : allBelow 8 (λ i. eqb (rowAt mrFlagT l (8 * g + i)) 1) ≡ true)
+    (pds : allBelow domains (card l .pd) ≡ true) (most : limit ≤ mostAddress) (ok : eightOk (rowOk kind limit domains) l g ≡ true) where
   is-live : (i : ℕ) → i < 8 → rowAt mrFlagT l (8 * g + i) ≡ 1
   is-live i h = eqb-true (rowAt mrFlagT l (8 * g + i)) 1 (all-at 8 (λ i. eqb (rowAt mrFlagT l (8 * g + i)) 1) i h live)
 
-  row-ok : (i : ℕ) → i < 8 → rowOk kind limit (rowAt mrT l (8 * g + i)) ≡ true
-  row-ok i h = all-at 8 (λ i. rowOk kind limit (rowAt mrT l (8 * g + i))) i h ok
+  row-ok : (i : ℕ) → i < 8 → rowOk kind limit domains (rowAt mrT l (8 * g + i)) ≡ true
+  row-ok i h = all-at 8 (λ i. rowOk kind limit domains (rowAt mrT l (8 * g + i))) i h ok
 
   pub eight-flat : kind ≡ 0 → limit ≡ rowAt memoryT l 0 → allBelow 8 (λ i. mrOk l (8 * g + i)) ≡ true
   eight-flat k m =
-      all-each 8 (λ i. mrOk l (8 * g + i)) (λ i h. flat-by l kind limit (8 * g + i) (is-live i h) pds most (row-ok i h) k m)
+      all-each 8 (λ i. mrOk l (8 * g + i)) (λ i h. flat-by l kind limit domains (8 * g + i) (is-live i h) pds most (row-ok i h) k m)
 
   pub eight-paged : kind ≡ 1 → limit ≡ mostPages * pageSize → eightOk (λ r. leb (r .start) (pageSize - 1)) l g ≡ true
       → pagesOk (rowAt memoryT l 0) l (128 * g) 128 ≡ true → allBelow 8 (λ i. mrOk l (8 * g + i)) ≡ true
   eight-paged k m starts pages =
       all-each 8 (λ i. mrOk l (8 * g + i))
-      (λ i h. paged-by l kind limit (8 * g + i) (is-live i h) pds most (row-ok i h) k m
+      (λ i h. paged-by l kind limit domains (8 * g + i) (is-live i h) pds most (row-ok i h) k m
       (leb-true (rowAt mrT l (8 * g + i) .start) (pageSize - 1) (all-at 8 (λ i. leb (rowAt mrT l (8 * g + i) .start) (pageSize - 1)) i h starts))
       (λ j b. let z : mostPages * (8 * g + i) + j ≡ 128 * g + (16 * i + j) = omega arith in
       let memory : ℕ = rowAt memoryT l 0 in
@@ -256,21 +258,24 @@ module _ (l : List ℕ) (g kind limit : ℕ) (live : allBelow 8 (λ i. eqb (rowA
       let q = all-at 128 (λ k. pageInside memory (pageSize * rowAt pageT l (128 * g + k))) (16 * i + j) (omega arith) pages in
       rw z (ltb-true p (memory / pageSize) (sym (page-by-number memory p) ∙ q))))
 
--- ---- flags that are all set
+-- ---- flags that are set
 
 module _ (l : List ℕ) where
-  set-at : (at i : ℕ) → 8 ≤ lowest 8 (clearAt l at) → i < 8 → eqb (leAt 1 l (at + i)) 1 ≡ true
-  set-at at i h b = not-false (eqb (leAt 1 l (at + i)) 1) (lowest-least 8 (clearAt l at) i (omega arith))
+  set-at : (at i : ℕ) → i < lowest 8 (clearAt l at) → eqb (leAt 1 l (at + i)) 1 ≡ true
+  set-at at i h = not-false (eqb (leAt 1 l (at + i)) 1) (lowest-least 8 (clearAt l at) i h)
 
   pub live-mrs : (g : ℕ) → 8 ≤ lowest 8 (clearAt l (mrFlagBase + 8 * g)) → allBelow 8 (λ i. eqb (rowAt mrFlagT l (8 * g + i)) 1) ≡ true
   unfolding rowAt mrFlagT flagCodec fieldsAt place
   live-mrs g h =
       all-each 8 (λ i. eqb (rowAt mrFlagT l (8 * g + i)) 1)
-      (λ i b. let z : mrFlagBase + (8 * g + i) ≡ mrFlagBase + 8 * g + i = omega arith in rw (mul-one, add-zero, z) (set-at (mrFlagBase + 8 * g) i h b))
+      (λ i b. let z : mrFlagBase + (8 * g + i) ≡ mrFlagBase + 8 * g + i = omega arith in rw (mul-one, add-zero, z) (set-at (mrFlagBase + 8 * g) i (omega arith)))
 
-  pub live-pds : pdCount ≤ lowest 8 (clearAt l pdFlagBase) → allBelow pdCount (card l .pd) ≡ true
+  -- the domains below the lowest free one
+  pub live-pds : allBelow (lowest 8 (clearAt l pdFlagBase)) (card l .pd) ≡ true
   unfolding rowAt pdFlagT flagCodec fieldsAt place
-  live-pds h = all-each pdCount (card l .pd) (λ i b. pd-is l i b ∙ rw (mul-one, add-zero) (set-at pdFlagBase i h b))
+  live-pds =
+      let most : lowest 8 (clearAt l pdFlagBase) ≤ 8 = flags-most l pdFlagBase 8 in
+      all-each (lowest 8 (clearAt l pdFlagBase)) (card l .pd) (λ i b. pd-is l i (omega arith) ∙ rw (mul-one, add-zero) (set-at pdFlagBase i b))
 
 -- ---- rings
 

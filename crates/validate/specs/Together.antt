@@ -8,7 +8,7 @@ use Rattle.wire.specs.Le.{leAt}
 use Rattle.wire.specs.Scan.{allBelow}
 use Rattle.wire.specs.Table.{rowAt}
 use Rattle.tables.specs.Layout.{mrT, pageT}
-use Rattle.tables.specs.Limits.{pdCount, mostAddress, mostAccess, pageSize}
+use Rattle.tables.specs.Limits.{mostAddress, mostAccess, pageSize}
 use Rattle.tables.specs.declared.Region.{Region}
 use Rattle.validate.specs.Accept.{accessOk, pageInside}
 
@@ -43,17 +43,17 @@ firstWord r = r .access + 256 * r .variant + 65536 * r .pd + 16777216 * r .kind
 abbrev pub remoteOk : (any all : ℕ) → Bool
 remoteOk any all = eqb (all % 2) 1 || eqb (any / 2 % 2) 0
 
-abbrev pub wordsOk : (kind any all : ℕ) → Bool
-wordsOk kind any all =
-    remoteOk any all && leb (any % 256) mostAccess && ltb (any / 65536 % 256) pdCount && eqb (any / 16777216) kind && eqb (all / 16777216) kind
+abbrev pub wordsOk : (kind domains any all : ℕ) → Bool
+wordsOk kind domains any all =
+    remoteOk any all && leb (any % 256) mostAccess && ltb (any / 65536 % 256) domains && eqb (any / 16777216) kind && eqb (all / 16777216) kind
 
--- a row's access, domain and kind
-abbrev pub wordOk : (kind : ℕ) → Region → Bool
-wordOk kind r = accessOk (r .access) && ltb (r .pd) pdCount && eqb (r .kind) kind
+-- a row's access, its domain, one of the first `domains`, and its kind
+abbrev pub wordOk : (kind domains : ℕ) → Region → Bool
+wordOk kind domains r = accessOk (r .access) && ltb (r .pd) domains && eqb (r .kind) kind
 
 -- its range, that ends at `limit` at most
 abbrev pub rangeOk : (limit : ℕ) → Region → Bool
 rangeOk limit r = leb 1 (r .length) && leb (r .start + r .length) limit
 
-abbrev pub rowOk : (kind limit : ℕ) → Region → Bool
-rowOk kind limit r = variantOk r && virtOk limit r && wordOk kind r && rangeOk limit r
+abbrev pub rowOk : (kind limit domains : ℕ) → Region → Bool
+rowOk kind limit domains r = variantOk r && virtOk limit r && wordOk kind domains r && rangeOk limit r

@@ -13,7 +13,6 @@ use tables::limits::MOST_WAITING;
 use tables::limits::MR_COUNT;
 use tables::limits::PAGE_SIZE;
 use tables::limits::PAGED;
-use tables::limits::PD_COUNT;
 use tables::limits::QP_COUNT;
 use tables::limits::RECEIVED_WRITE;
 use tables::rows;
@@ -25,7 +24,7 @@ ghost use lib.ListN.{length};
 ghost use Rattle.wire.specs.Scan.{allBelow};
 ghost use Rattle.wire.specs.Table.{rowAt};
 ghost use Rattle.tables.specs.Layout.{stateSize, pageCount, memoryT, mrFlagT, entryT, receiveT};
-ghost use Rattle.tables.specs.Limits.{pdCount, cqCount, mrCount, qpCount, mostPages, pageSize, mostPlaces, mostWaiting};
+ghost use Rattle.tables.specs.Limits.{cqCount, mrCount, qpCount, mostPages, pageSize, mostPlaces, mostWaiting};
 ghost use Rattle.tables.specs.State.{card};
 ghost use Rattle.validate.specs.Accept.{mrOk, completionOk, receiveOk};
 ghost use Rattle.validate.specs.Together.{Enough, Zeros, eightOk, pagesOk, firstWord, remoteOk, wordsOk, wordOk, variantOk, virtOk, rangeOk, rowOk};
@@ -85,8 +84,8 @@ fn remote_ok(any: u32, all: u32) -> bool
     any / 2 % 2 == 0
 }
 
-fn words_ok(any: u32, all: u32, kind: u8) -> bool
-    ensures { λ x. ⌜ x ≡ wordsOk kind any all ⌝ }
+fn words_ok(any: u32, all: u32, kind: u8, domains: usize) -> bool
+    ensures { λ x. ⌜ x ≡ wordsOk kind domains any all ⌝ }
 {
     if !remote_ok(any, all) {
         return false;
@@ -95,16 +94,13 @@ fn words_ok(any: u32, all: u32, kind: u8) -> bool
     let pd = (any / 65536 % 256) as usize;
     let most = any / 16777216;
     let least = all / 16777216;
-    (access <= MOST_ACCESS as u32)
-        & (pd < PD_COUNT)
-        & (most == kind as u32)
-        & (least == kind as u32)
+    (access <= MOST_ACCESS as u32) & (pd < domains) & (most == kind as u32) & (least == kind as u32)
 }
 
 // Access, domain and kind.
-fn words_pass(state: &[u8], g: usize, kind: u8) -> bool
+fn words_pass(state: &[u8], g: usize, kind: u8, domains: usize) -> bool
     requires { ⌜ (8 * g + 8 ≤ mrCount) × (length (now state) ≡ stateSize) ⌝ }
-    ensures { λ x. ⌜ Enough x (eightOk (wordOk kind) (now (state .entry)) g) ⌝ }
+    ensures { λ x. ⌜ Enough x (eightOk (wordOk kind domains) (now (state .entry)) g) ⌝ }
 {
     let mut any: u32 = 0;
     let mut all: u32 = 0xffff_ffff;
@@ -115,7 +111,7 @@ fn words_pass(state: &[u8], g: usize, kind: u8) -> bool
         all = all & w;
         i += 1;
     }
-    words_ok(any, all, kind)
+    words_ok(any, all, kind, domains)
 }
 
 // Whether the range is not empty and ends at the limit at most.
@@ -223,9 +219,9 @@ fn limit_of(kind: u8, memory: u64) -> u64
 }
 
 // What eight rows of one kind show without the pages.
-fn rows_pass(state: &[u8], g: usize, kind: u8, limit: u64) -> bool
+fn rows_pass(state: &[u8], g: usize, kind: u8, limit: u64, domains: usize) -> bool
     requires { ⌜ (8 * g + 8 ≤ mrCount) × (length (now state) ≡ stateSize) ⌝ }
-    ensures { λ x. ⌜ Enough x (eightOk (rowOk kind limit) (now (state .entry)) g) ⌝ }
+    ensures { λ x. ⌜ Enough x (eightOk (rowOk kind limit domains) (now (state .entry)) g) ⌝ }
 {
     if !variants_pass(state, g) {
         return false;
@@ -233,21 +229,21 @@ fn rows_pass(state: &[u8], g: usize, kind: u8, limit: u64) -> bool
     if !virts_pass(state, g, limit) {
         return false;
     }
-    if !words_pass(state, g, kind) {
+    if !words_pass(state, g, kind, domains) {
         return false;
     }
     ranges_pass(state, g, limit)
 }
 
-// Eight live regions of one kind, while every domain is live.
-fn live_pass(state: &[u8], memory: u64, g: usize) -> bool
+// Eight live regions of one kind, whose domains are among the first, which are live.
+fn live_pass(state: &[u8], memory: u64, g: usize, domains: usize) -> bool
     requires { ⌜ (8 * g + 8 ≤ mrCount) × (length (now state) ≡ stateSize) × (memory ≡ rowAt memoryT (now state) 0) ⌝ }
     requires { ⌜ allBelow 8 (λ i. eqb (rowAt mrFlagT (now state) (8 * g + i)) 1) ≡ true ⌝ }
-    requires { ⌜ allBelow pdCount (card (now state) .pd) ≡ true ⌝ }
+    requires { ⌜ allBelow domains (card (now state) .pd) ≡ true ⌝ }
     ensures { λ x. ⌜ Enough x (allBelow 8 (λ i. mrOk (now (state .entry)) (8 * g + i))) ⌝ }
 {
     let kind = wire::get8(state, rows::MRS + 8 * g * rows::MR_SIZE + 3);
-    if !rows_pass(state, g, kind, limit_of(kind, memory)) {
+    if !rows_pass(state, g, kind, limit_of(kind, memory), domains) {
         return false;
     }
     if kind == FLAT {
@@ -270,10 +266,8 @@ pub fn regions_pass(state: &[u8], memory: u64, g: usize) -> bool
     if wire::lowest_clear(state, rows::MR_FLAGS + 8 * g, 1) < 8 {
         return false;
     }
-    if wire::lowest_clear(state, rows::PD_FLAGS, 1) < PD_COUNT {
-        return false;
-    }
-    live_pass(state, memory, g)
+    let domains = wire::lowest_clear(state, rows::PD_FLAGS, 1);
+    live_pass(state, memory, g, domains)
 }
 
 // ---- free slots

@@ -37,7 +37,7 @@ returns-2 c e =
     let s = c .before .before .before .before .before .before in
     let k = c .before .before .before .before .get8 .result in
     let m : c .before .before .before .limit-of .result ≡ rowAt memoryT (now (s .args .state)) 0 = c .before .before .before .limit-of .ensures ∙ rw (eq-eqb k 0 (c .if2 .taken)) (s .pre .0 .2) in
-    eight-flat (now (s .args .state)) (s .args .g) k (c .before .before .before .limit-of .result) (s .pre .1 .0) (s .pre .1 .1) (search needs)
+    eight-flat (now (s .args .state)) (s .args .g) k (c .before .before .before .limit-of .result) (s .args .domains) (s .pre .1 .0) (s .pre .1 .1) (search needs)
     (c .before .before .rows-pass .ensures (not-false _ (c .before .if1 .left))) (c .if2 .taken) m
 
 returns-3 : tie.Need-returns-3
@@ -57,7 +57,7 @@ returns-5 c e =
     let s = c .before .before .before .before .before .before .before .before .before .before in
     let k = c .before .before .before .before .before .before .before .before .get8 .result in
     let m : c .before .before .before .before .before .before .before .limit-of .result ≡ 65536 = c .before .before .before .before .before .before .before .limit-of .ensures ∙ rw (ne-eqb k 0 (c .before .before .before .before .if2 .left)) in
-    eight-paged (now (s .args .state)) (s .args .g) k (c .before .before .before .before .before .before .before .limit-of .result) (s .pre .1 .0) (s .pre .1 .1) (search needs)
+    eight-paged (now (s .args .state)) (s .args .g) k (c .before .before .before .before .before .before .before .limit-of .result) (s .args .domains) (s .pre .1 .0) (s .pre .1 .1) (search needs)
     (c .before .before .before .before .before .before .rows-pass .ensures (not-false _ (c .before .before .before .before .before .if1 .left))) (c .before .before .before .if3 .left) m
     (c .before .before .starts-pass .ensures (not-false _ (c .before .if4 .left))) (rw (s .pre .0 .2) at (c .pages-pass .ensures e))
 

@@ -19,16 +19,13 @@ returns c e = (cc)
 lowest-clear-requires-2 : tie.Need-lowest-clear-requires-2
 lowest-clear-requires-2 c κs = search needs
 
-returns-2 : tie.Need-returns-2
-returns-2 c e = (cc)
-
 live-pass-requires : tie.Need-live-pass-requires
 live-pass-requires c κs =
-    let s = c .before .before .before .before .before in
-    (s .pre, (live-mrs (now (s .args .state)) (s .args .g) (rw (c .before .before .before .lowest-clear .ensures) at (c .before .before .if1 .left)), live-pds (now (s .args .state)) (rw (c .before .lowest-clear2 .ensures) at (c .if2 .left))))
+    let s = c .before .before .before .before in
+    (s .pre, (live-mrs (now (s .args .state)) (s .args .g) (rw (c .before .before .lowest-clear .ensures) at (c .before .if1 .left)), rw (c .lowest-clear2 .ensures) (live-pds (now (s .args .state)))))
 
-returns-3 : tie.Need-returns-3
-returns-3 c = search needs
+returns-2 : tie.Need-returns-2
+returns-2 c = search needs
 
 pub regions-pass-spec : {M : Type 1} → statement M
 regions-pass-spec =
@@ -39,6 +36,5 @@ regions-pass-spec =
     lowest-clear-requires
     returns
     lowest-clear-requires-2
-    returns-2
     live-pass-requires
-    returns-3)
+    returns-2)

@@ -36,7 +36,7 @@ returns-4 : tie.Need-returns-4
 returns-4 c e =
     let a = c .before .before .before .before .before .before .before .before .args in
     let r : ℕ → Region = λ i. rowAt mrT (now (a .state)) (8 * a .g + i) in
-    all-four 8 (λ i. variantOk (r i)) (λ i. virtOk (a .limit) (r i)) (λ i. wordOk (a .kind) (r i)) (λ i. rangeOk (a .limit) (r i))
+    all-four 8 (λ i. variantOk (r i)) (λ i. virtOk (a .limit) (r i)) (λ i. wordOk (a .kind) (a .domains) (r i)) (λ i. rangeOk (a .limit) (r i))
     (sym (c .before .before .before .before .before .before .variants-pass .ensures) ∙ not-false _ (c .before .before .before .before .before .if1 .left))
     (c .before .before .before .before .virts-pass .ensures (not-false _ (c .before .before .before .if2 .left)))
     (c .before .before .words-pass .ensures (not-false _ (c .before .if3 .left)))

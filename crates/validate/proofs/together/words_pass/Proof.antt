@@ -13,10 +13,10 @@ use Rattle.validate.proofs.together.words_pass.Statement.{statement}
 use Rattle.validate.proofs.together.words_pass.Tie as tie
 
 abbrev Inv-loop : tie.InvT-loop
-Inv-loop state g kind any₀ all₀ i₀ any all i = (i ≤ 8) × ((k : ℕ) → k < i → Between all any (firstWord (rowAt mrT state (8 * g + k))))
+Inv-loop state g kind domains any₀ all₀ i₀ any all i = (i ≤ 8) × ((k : ℕ) → k < i → Between all any (firstWord (rowAt mrT state (8 * g + k))))
 
 abbrev μ-loop : tie.MeasureT-loop
-μ-loop state g kind any₀ all₀ i₀ any all i = 8 - i
+μ-loop state g kind domains any₀ all₀ i₀ any all i = 8 - i
 
 loop-holds : tie.Need-loop-holds Inv-loop μ-loop
 loop-holds c = (search needs, λ k h. absurd (omega arith))
@@ -56,8 +56,8 @@ returns c e =
     let h = c .before .before .loop in
     let z : h .i ≡ 8 = omega arith in
     let m : (k : ℕ) → k < 8 → Between (h .all) (h .any) (firstWord (rowAt mrT (now (a .state)) (8 * a .g + k))) = rw z at (h .inv .1) in
-    all-each 8 (λ i. wordOk (a .kind) (rowAt mrT (now (a .state)) (8 * a .g + i)))
-    (λ i b. word-by (a .kind) (h .all) (h .any) (rowAt mrT (now (a .state)) (8 * a .g + i)) (search needs) (row-small (now (a .state)) (8 * a .g + i))
+    all-each 8 (λ i. wordOk (a .kind) (a .domains) (rowAt mrT (now (a .state)) (8 * a .g + i)))
+    (λ i b. word-by (a .kind) (a .domains) (h .all) (h .any) (rowAt mrT (now (a .state)) (8 * a .g + i)) (search needs) (row-small (now (a .state)) (8 * a .g + i))
     (sym (c .words-ok .ensures) ∙ e) (m i b))
 
 pub words-pass-spec : {M : Type 1} → statement M
