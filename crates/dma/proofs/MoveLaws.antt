@@ -1,6 +1,6 @@
 -- Laws of the copies: one entry read and written, a list of entries one by one, and a whole message. Assumes nothing.
 use mathlib.Core.Path.{_≡_, sym, ap, ap₂, _∙_}
-use mathlib.Core.Bool.{true, _&&_}
+use mathlib.Core.Bool.{Bool, true, false, cond, _&&_}
 use mathlib.Core.List.{List, [], _∷_, _++_, append-assoc, append-nil, map, map-append}
 use Prim.Native.Nat.{ℕ, zero, suc, _+_, _-_, _≤_, _<_}
 use native.Mathlib.Nat.{add-zero, zero-add, suc-add}
@@ -18,7 +18,7 @@ use Rattle.rules.specs.Permit.{place}
 use Rattle.rules.specs.Touch.{Byte, range, sgeBytes, sgeTotal}
 use Rattle.rules.proofs.Runs.{run, map-run, read-run, store-run, stored-join, stored-take}
 use Rattle.rules.proofs.Stored.{sge-length}
-use Rattle.dma.specs.Moves.{mapped, mappedAll, places, placeOf, front, back, Lies, Splits, readBytes, moved}
+use Rattle.dma.specs.Moves.{mapped, mappedAll, places, placeOf, front, back, Lies, Splits, readBytes, moved, Message}
 use Rattle.dma.proofs.SgeLaws.{one-bytes, one-total, alone, left-cons, left-none, left-tests, left-total}
 
 -- ---- a copy by way of a staging list
@@ -230,3 +230,18 @@ moved-one c m m′ s t a b ls lt ea eb k e =
     let w : m′ ≡ paste m b (drop a m) (t .length) = e ∙ ap (paste m b (drop a m)) (sym n) in
     transferred c m m′ (drop a m) (t ∷ []) (written c m t lt b eb m′ (drop a m) h w) (s ∷ []) k
     (ap (λ (j : ℕ). take j (drop a m)) (one-total s) ∙ sym (read c m s ls a ea))
+
+-- there or back
+pub between : (c : Card) (m m′ : List ℕ) (a b : Sge) (x y : ℕ) (reverse : Bool) → Lies c (length m) a → Lies c (length m) b → x ≡ placeOf c a → y ≡ placeOf c b
+    → sgeTotal (b ∷ []) ≡ sgeTotal (a ∷ []) → m′ ≡ cond reverse (paste m x (drop y m) (a .length)) (paste m y (drop x m) (a .length))
+    → m′ ≡ cond reverse (moved m (places c (b ∷ [])) (places c (a ∷ []))) (moved m (places c (a ∷ [])) (places c (b ∷ [])))
+between c m m′ a b x y true la lb ex ey k e =
+    let n : a .length ≡ b .length = sym (one-total a) ∙ sym k ∙ one-total b in
+    moved-one c m m′ b a y x lb la ey ex (sym k) (e ∙ ap (paste m x (drop y m)) n)
+between c m m′ a b x y false la lb ex ey k e = moved-one c m m′ a b x y la lb ex ey k e
+
+pub backwards : (c : Card) (a b : List Sge) → Message c a b → Message c b a
+backwards c a b m =
+    let k = m .total in
+    let h = m .most in
+    record { sources = m .targets; targets = m .sources; total = sym k; most = omega arith }

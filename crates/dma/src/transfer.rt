@@ -6,7 +6,7 @@ use tables::limits::MOST_PAGES;
 use tables::limits::PAGE_SIZE;
 use tables::rows;
 ghost use mathlib.Core.Path.{_≡_};
-ghost use mathlib.Core.Bool.{true};
+ghost use mathlib.Core.Bool.{true, cond};
 ghost use mathlib.Core.List.{_∷_, [], _++_};
 ghost use Prim.Native.Nat.{_+_, _≤_};
 ghost use lib.ListN.{length, take, drop};
@@ -149,6 +149,18 @@ fn deliver_one(memory: &mut [u8], from: usize, to: usize, n: usize)
     wire::copy_bytes(memory, to, &staging, 0, n);
 }
 
+// Moves n bytes between two places of memory: from a to b, or where back holds from b to a.
+fn deliver_between(memory: &mut [u8], a: usize, b: usize, n: usize, back: bool)
+    requires { ⌜ (n ≤ mostMessage) × (a + n ≤ length (now memory)) × (b + n ≤ length (now memory)) ⌝ }
+    ensures { λ _. ⌜ now (memory .exit) ≡ cond back (paste (now (memory .entry)) a (drop b (now (memory .entry))) n) (paste (now (memory .entry)) b (drop a (now (memory .entry))) n) ⌝ }
+{
+    if back {
+        deliver_one(memory, b, a, n);
+        return;
+    }
+    deliver_one(memory, a, b, n);
+}
+
 // Moves one entry's bytes to one entry, each of which lies in one run of memory.
 fn transfer_one(state: &[u8], memory: &mut [u8], from: Sge, to: Sge)
     requires { ⌜ Ready (now state) (now memory) ⌝ }
@@ -201,6 +213,33 @@ pub fn transfer_single(state: &[u8], memory: &mut [u8], from: Sge, to: Sge)
         [to, none, none, none],
         1,
     );
+}
+
+// Moves the bytes of the entry a to the entry b, or where back holds those of b to a: one move where no page ends in between. Called from one
+// place, so that the compiler has the regions' rows at hand.
+pub fn transfer_between(state: &[u8], memory: &mut [u8], a: Sge, b: Sge, back: bool)
+    requires { ⌜ Ready (now state) (now memory) ⌝ }
+    requires { ⌜ Message (card (now state)) (a ∷ []) (b ∷ []) ⌝ }
+    ensures { λ _. ⌜ now (memory .exit) ≡ cond back (moved (now (memory .entry)) (places (card (now (state .entry))) (b ∷ [])) (places (card (now (state .entry))) (a ∷ []))) (moved (now (memory .entry)) (places (card (now (state .entry))) (a ∷ [])) (places (card (now (state .entry))) (b ∷ []))) ⌝ }
+{
+    if (run_of(state, memory, a) == a.length) & (run_of(state, memory, b) == b.length) {
+        let x = place_of(state, a);
+        let y = place_of(state, b);
+        deliver_between(memory, x, y, a.length as usize, back);
+        return;
+    }
+    let none = Sge {
+        address: 0,
+        length: 0,
+        key: 0,
+    };
+    let own = [a, none, none, none];
+    let far = [b, none, none, none];
+    if back {
+        transfer_many(state, memory, far, 1, own, 1);
+        return;
+    }
+    transfer_many(state, memory, own, 1, far, 1);
 }
 
 // Moves the bytes of the first nf entries of from to the first nt entries of to, of one entry to one entry by themselves.

@@ -66,7 +66,7 @@ far-mask true b = refl
 far-mask false true = refl
 far-mask false false = refl
 
-fills-takes : (o : ℕ) → fills o ≡ true → takes o ≡ true
+pub fills-takes : (o : ℕ) → fills o ≡ true → takes o ≡ true
 fills-takes o e =
     let h = leb-true 2 o (and-left (leb 2 o) (leb o 3) e) in
     rw (le-leb 1 o (omega arith), and-right (leb 2 o) (leb o 3) e)

@@ -1,23 +1,24 @@
 -- The stores of post send, each ending by a law. Assumes nothing.
-use mathlib.Core.Path.{_≡_, refl}
+use mathlib.Core.Path.{_≡_, refl, sym, ap, _∙_}
 use mathlib.Core.Bool.{Bool, true, false, cond, not, _&&_, _||_}
 use mathlib.Core.List.{List, [], _∷_}
 use Prim.Native.Nat.{ℕ, zero, suc, _<_, _≤_}
 use native.Mathlib.Omega.{arith}
-use lib.Bits.{bitAnd}
 use lib.Dec.{eqb}
 use lib.ListN.{take}
 use borrow.Author.Tests.{eq-eqb, ne-eqb, le-leb, lt-leb}
+use Rattle.wire.proofs.ScanLaws.{and-left}
 use Rattle.tables.specs.Queue.{pushBytes}
-use Rattle.tables.specs.Records.{receiveSges}
+use Rattle.tables.specs.Records.{isSignaled, receiveSges}
+use Rattle.tables.specs.State.{noRecord}
 use Rattle.tables.specs.declared.QueuePair.{QueuePair}
 use Rattle.tables.specs.declared.ReceiveRecord.{ReceiveRecord}
 use Rattle.tables.specs.declared.SendRecord.{SendRecord}
 use Rattle.tables.specs.declared.Sge.{Sge}
-use Rattle.rules.specs.Send.{consumes}
-use Rattle.rules.specs.Touch.{sgeTotal}
-use Rattle.rules.specs.Bytes.{pushAll}
-use Rattle.engine.specs.Settle.{senderEntry, receiverEntry, receiverStatus, putFirst, putSecond}
+use Rattle.rules.specs.Send.{consumes, fails}
+use Rattle.rules.specs.Touch.{takes, sgeTotal}
+use Rattle.rules.specs.Bytes.{pushAll, errorBytes}
+use Rattle.engine.specs.Settle.{isSilent, senderEntry, receiverEntry, receiverStatus, putFirst, putSecond, settledBytes}
 use Rattle.engine.specs.declared.meet.Ends.{Ends}
 
 -- ---- a receive's entries, in a list of four
@@ -47,24 +48,20 @@ module _ (w : ReceiveRecord) (st n : ℕ) where
 
 -- ---- completions that are put, or not
 
-wanted : (x y z : Bool) → (not x || y || not z) ≡ not (x && not y && z)
+wanted : (x y z : Bool) → (not x || y || z) ≡ not (x && not y && not z)
 wanted true true z = refl
 wanted true false true = refl
 wanted true false false = refl
 wanted false y z = refl
 
 module _ (l : List ℕ) (q : ℕ) (own : QueuePair) (s : SendRecord) (st n : ℕ) where
-  -- no sign of success is asked for
-  abbrev silent : Bool
-  silent = eqb st 0 && not (eqb (own .signal) 0) && eqb (bitAnd (s .flags) 2) 0
-
-  pub put-silent : silent ≡ true → l ≡ pushAll l (putFirst q own s st n)
+  pub put-silent : isSilent own s st ≡ true → l ≡ pushAll l (putFirst q own s st n)
   unfolding pushAll
-  put-silent h = rw (wanted (eqb st 0) (eqb (own .signal) 0) (eqb (bitAnd (s .flags) 2) 0), h)
+  put-silent h = rw (wanted (eqb st 0) (eqb (own .signal) 0) (isSignaled s), h)
 
-  pub put-told : silent ≡ false → pushBytes l (own .scq) (senderEntry q (s .wr) (s .opcode) st (cond (eqb st 0) n 0)) ≡ pushAll l (putFirst q own s st n)
+  pub put-told : isSilent own s st ≡ false → pushBytes l (own .scq) (senderEntry q (s .wr) (s .opcode) st (cond (eqb st 0) n 0)) ≡ pushAll l (putFirst q own s st n)
   unfolding pushAll
-  put-told h = rw (wanted (eqb st 0) (eqb (own .signal) 0) (eqb (bitAnd (s .flags) 2) 0), h)
+  put-told h = rw (wanted (eqb st 0) (eqb (own .signal) 0) (isSignaled s), h)
 
 module _ (l : List ℕ) (e : Ends) (s : SendRecord) (st n : ℕ) where
   module _ (w : ReceiveRecord) where
@@ -75,3 +72,27 @@ module _ (l : List ℕ) (e : Ends) (s : SendRecord) (st n : ℕ) where
     pub consumed : consumes (s .opcode) st ≡ true → pushBytes l (e .far .rcq) (receiverEntry e s w st n) ≡ pushAll l (putSecond e s w st n)
     unfolding pushAll
     consumed h = rw h
+
+-- ---- a request that takes no receive, and whose status is no receiver's
+
+module _ (l : List ℕ) (e : Ends) (s : SendRecord) (st n : ℕ) (untaken : takes (s .opcode) ≡ false) (own-fault : eqb st 7 ≡ false) where
+  single-settled : errorBytes (fails st) (pushAll l (putFirst (e .q) (e .own) s st n)) (e .q) ≡ settledBytes l e s noRecord st n
+  unfolding pushAll
+  single-settled = rw (untaken, own-fault)
+
+  -- it succeeded
+  succeeded : (x : Bool) → (eqb st 0 && x) ≡ true → fails st ≡ false
+  succeeded x h = rw (and-left (eqb st 0) x h)
+
+  pub single-silent : isSilent (e .own) s st ≡ true → l ≡ settledBytes l e s noRecord st n
+  single-silent h =
+      put-silent l (e .q) (e .own) s st n h
+      ∙ ap (λ (b : Bool). errorBytes b (pushAll l (putFirst (e .q) (e .own) s st n)) (e .q))
+      (sym (succeeded (not (eqb (e .own .signal) 0)) (and-left (eqb st 0 && not (eqb (e .own .signal) 0)) (not (isSignaled s)) h)))
+      ∙ single-settled
+
+  pub single-told : isSilent (e .own) s st ≡ false → (l₁ l₂ : List ℕ)
+      → l₁ ≡ pushBytes l (e .own .scq) (senderEntry (e .q) (s .wr) (s .opcode) st (cond (eqb st 0) n 0))
+      → l₂ ≡ errorBytes (fails st) l₁ (e .q) → l₂ ≡ settledBytes l e s noRecord st n
+  single-told h l₁ l₂ i j =
+      j ∙ ap (λ (x : List ℕ). errorBytes (fails st) x (e .q)) (i ∙ put-told l (e .q) (e .own) s st n h) ∙ single-settled

@@ -1,37 +1,60 @@
--- A request of one entry whose other side is the remote range: what the code finds of it without an array, and that it fares as any. Assumes nothing.
-use mathlib.Core.Path.{_≡_, sym, ap, _∙_}
+-- A write or a read of one entry: what the code finds of it without an array, and that it fares as any request. Assumes nothing.
+use mathlib.Core.Path.{_≡_, refl, sym, ap, _∙_}
 use mathlib.Core.Bool.{Bool, true, false, not, _&&_, false≢true}
 use mathlib.Core.List.{List, [], _∷_}
 use Prim.Native.Nat.{ℕ}
 use native.Mathlib.Omega.{arith}
-use lib.Dec.{eqb}
+use lib.Dec.{eqb, leb}
 use lib.ListN.{take}
 use borrow.Author.Tests.{eqb-true, not-true}
 use Rattle.wire.proofs.ScanLaws.{and-left, and-right}
-use Rattle.tables.specs.Records.{isInline}
+use Rattle.tables.specs.Limits.{mostMessage}
+use Rattle.tables.specs.Records.{isInline, receiveSges}
 use Rattle.tables.specs.State.{card, noRecord}
 use Rattle.tables.specs.declared.ReceiveRecord.{ReceiveRecord}
 use Rattle.tables.specs.declared.SendRecord.{SendRecord}
 use Rattle.tables.specs.declared.Sge.{Sge}
-use Rattle.rules.specs.Touch.{fills, range, sgeBytes}
+use Rattle.rules.specs.Send.{statusBy}
+use Rattle.rules.specs.Touch.{takes, fills, range, sgeBytes, sgeTotal}
 use Rattle.rules.specs.declared.Party.{Party}
 use Rattle.dma.specs.Grants.{allowsAll}
 use Rattle.dma.proofs.SgeLaws.{one-bytes, one-total}
-use Rattle.engine.specs.Deliver.{isSingle, partyIn, ownMask, farMask, ownBy, farList, Sending, Delivery}
+use Rattle.engine.specs.Deliver.{isSingle, partyIn, ownMask, farMask, ownBy, farList, statusIn, Sending, Delivery}
 use Rattle.engine.specs.declared.meet.Ends.{Ends}
+use Rattle.engine.proofs.RequestLaws.{fills-takes}
 
 module _ (s : SendRecord) (i : isSingle s ≡ true) where
   abbrev lone : Bool
   lone = not (isInline s) && eqb (s .count) 1
 
   pub plain : isInline s ≡ false
-  plain = not-true (isInline s) (and-left (not (isInline s)) (eqb (s .count) 1) (and-left lone (not (fills (s .opcode))) i))
+  plain = not-true (isInline s) (and-left (not (isInline s)) (eqb (s .count) 1) (and-left lone (not (takes (s .opcode))) i))
 
   pub one : s .count ≡ 1
-  one = eqb-true (s .count) 1 (and-right (not (isInline s)) (eqb (s .count) 1) (and-left lone (not (fills (s .opcode))) i))
+  one = eqb-true (s .count) 1 (and-right (not (isInline s)) (eqb (s .count) 1) (and-left lone (not (takes (s .opcode))) i))
+
+  pub untaken : takes (s .opcode) ≡ false
+  untaken = not-true (takes (s .opcode)) (and-right lone (not (takes (s .opcode))) i)
 
   pub unfilled : fills (s .opcode) ≡ false
-  unfilled = not-true (fills (s .opcode)) (and-right lone (not (fills (s .opcode))) i)
+  unfilled = go (fills (s .opcode)) refl
+    where
+      go : (f : Bool) → fills (s .opcode) ≡ f → f ≡ false
+      go true h = absurd (false≢true (sym untaken ∙ fills-takes (s .opcode) h))
+      go false h = refl
+
+  -- its status is not that of a receive that does not take the message
+  pub own-fault : (l : List ℕ) (e : Ends) (sges : List Sge) (w : ReceiveRecord) (n st : ℕ) → st ≡ statusIn l e s sges w n → eqb st 7 ≡ false
+  own-fault l e sges w n st k =
+      ap (λ (y : ℕ). eqb y 7) k ∙ go (fills (s .opcode)) unfilled (leb n mostMessage) (allowsAll (card l) (partyIn (e .own)) (ownMask (s .opcode)) (ownBy s sges))
+      (leb n (sgeTotal (receiveSges w))) (allowsAll (card l) (partyIn (e .far)) (farMask (s .opcode)) (sgeBytes (farList s w n)))
+    where
+      go : (f : Bool) → f ≡ false → (short mine fit theirs : Bool) → eqb (statusBy f short mine fit theirs) 7 ≡ false
+      go true h short mine fit theirs = absurd (false≢true (sym h))
+      go false h true true fit true = refl
+      go false h true true fit false = refl
+      go false h true false fit theirs = refl
+      go false h false mine fit theirs = refl
 
   module _ (a : Sge) where
     pub list-is : take (s .count) (a ∷ []) ≡ a ∷ []

@@ -47,9 +47,9 @@ ownBy s sges = cond (isInline s) [] (sgeBytes (take (s .count) sges))
 abbrev pub farList : SendRecord → ReceiveRecord → (n : ℕ) → List Sge
 farList s w n = cond (fills (s .opcode)) (cut n (receiveSges w)) (record { address = s .address; length = n; key = s .key } ∷ [])
 
--- a request of one entry whose other side is the remote range
+-- a write or a read of one entry, which takes no receive: its other side is the remote range
 abbrev pub isSingle : SendRecord → Bool
-isSingle s = not (isInline s) && eqb (s .count) 1 && not (fills (s .opcode))
+isSingle s = not (isInline s) && eqb (s .count) 1 && not (takes (s .opcode))
 
 abbrev pub farCount : (opcode : ℕ) → ReceiveRecord → ℕ
 farCount o w = cond (fills o) (w .count) 1

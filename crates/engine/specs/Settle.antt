@@ -1,7 +1,7 @@
 -- What a post send that is carried out or flushed leaves in the state, document 01: its completions, the error states, the receive consumed. In each
 -- definition st is the status, n the number of bytes of the message, w the receive that is taken. Assumes nothing.
 use mathlib.Core.Path.{_≡_}
-use mathlib.Core.Bool.{true, cond, not, _&&_, _||_}
+use mathlib.Core.Bool.{Bool, true, cond, not, _&&_, _||_}
 use mathlib.Core.List.{List, [], _∷_}
 use Prim.Native.Nat.{ℕ, _<_, _≤_}
 use lib.Dec.{eqb, leb}
@@ -40,6 +40,10 @@ receiverEntry e s w st n =
       imm = cond (eqb st 0 && (eqb (s .opcode) 1 || eqb (s .opcode) 3)) (s .imm) 0;
       owner = e .d;
     }
+
+-- a success that is not put
+abbrev pub isSilent : (own : QueuePair) → SendRecord → (st : ℕ) → Bool
+isSilent own s st = eqb st 0 && not (eqb (own .signal) 0) && not (isSignaled s)
 
 -- "Sender's success is put if signal is 0 or the flag is set; errors and receiver completions always." "Length is the total on success, else 0"
 abbrev pub putFirst : (q : ℕ) → (own : QueuePair) → SendRecord → (st n : ℕ) → List Put

@@ -43,11 +43,11 @@ fn is_inline(s: SendRecord) -> bool
     s.flags & INLINE_FLAG != 0
 }
 
-// Whether the request has one entry, whose other side is the remote range.
-fn is_single(s: SendRecord) -> bool
+// Whether the request is a write or a read of one entry, which takes no receive.
+pub fn is_single(s: SendRecord) -> bool
     ensures { λ r. ⌜ r ≡ isSingle s ⌝ }
 {
-    !is_inline(s) & (s.count == 1) & !meet::fills_receive(s.opcode)
+    !is_inline(s) & (s.count == 1) & !meet::takes_receive(s.opcode)
 }
 
 // The number of bytes of the message.
@@ -243,15 +243,11 @@ fn move_single(state: &[u8], memory: &mut [u8], s: SendRecord, a: Sge)
         length: a.length,
         key: s.key,
     };
-    if s.opcode == READ {
-        transfer::transfer_single(state, memory, b, a);
-        return;
-    }
-    transfer::transfer_single(state, memory, a, b);
+    transfer::transfer_between(state, memory, a, b, s.opcode == READ);
 }
 
 // Steps 3 to 6 of such a request; no array is made of its one entry.
-fn deliver_single(state: &[u8], memory: &mut [u8], e: Ends, s: SendRecord, a: Sge) -> u8
+pub fn deliver_single(state: &[u8], memory: &mut [u8], e: Ends, s: SendRecord, a: Sge) -> u8
     requires { ⌜ Ready (now state) (now memory) × (isSingle s ≡ true) ⌝ }
     ensures { λ r. ⌜ Delivery (now (state .entry)) (now (memory .entry)) e s (a ∷ []) [] noRecord (a .length) r (now (memory .exit)) ⌝ }
 {
@@ -284,10 +280,6 @@ pub fn deliver(
     requires { ⌜ (w .count ≤ 2) × Sending s sges (now inline) total ⌝ }
     ensures { λ r. ⌜ Delivery (now (state .entry)) (now (memory .entry)) e s sges (now (inline .entry)) w total r (now (memory .exit)) ⌝ }
 {
-    if is_single(s) {
-        let a = sges[0];
-        return deliver_single(state, memory, e, s, a);
-    }
     if (MOST_MESSAGE as u64) < total {
         return LOCAL_LENGTH;
     }

@@ -20,7 +20,8 @@ ghost use Rattle.rules.specs.Contract.{Owes};
 ghost use Rattle.dma.specs.Moves.{Ready};
 ghost use Rattle.engine.specs.Send.{requestBy, Bounded, Met, Carried, Ran};
 
-// Steps 3 to 6 for two queue pairs that passed the tests: the status, and all that the request leaves.
+// Steps 3 to 6 for two queue pairs that passed the tests: the status, and all that the request leaves. A write or a read of one entry goes a way of
+// its own, without arrays.
 fn carry_out(
     state: &mut [u8],
     memory: &mut [u8],
@@ -33,6 +34,12 @@ fn carry_out(
     requires { ⌜ Bounded s (now inline) × Met (now state) e (s .opcode) ⌝ }
     ensures { λ r. ⌜ Carried (now (state .entry)) (e .q) (requestBy s sges (now (inline .entry))) (now (memory .entry)) r (now (state .exit)) (now (memory .exit)) ⌝ }
 {
+    if deliver::is_single(s) {
+        let a = sges[0];
+        let st = deliver::deliver_single(state, memory, e, s, a);
+        settle::settle_single(state, e, s, st, a.length as u64);
+        return st;
+    }
     let total = deliver::total_of(s, sges, inline);
     let w = deliver::taken_receive(state, e.d, s.opcode);
     let st = deliver::deliver(state, memory, e, s, sges, inline, w, total);

@@ -25,7 +25,7 @@ use tables::limits::WRITTEN;
 use tables::queue;
 use tables::rows;
 ghost use mathlib.Core.Path.{_≡_};
-ghost use mathlib.Core.Bool.{true, cond};
+ghost use mathlib.Core.Bool.{true, false, cond};
 ghost use Prim.Native.Nat.{_<_, _≤_};
 ghost use lib.Dec.{eqb};
 ghost use lib.ListN.{length, take};
@@ -34,9 +34,11 @@ ghost use Rattle.tables.specs.Layout.{stateSize, cqT, waitingT};
 ghost use Rattle.tables.specs.Queue.{pushBytes};
 ghost use Rattle.tables.specs.Limits.{cqCount, qpCount, mostPlaces, mostMessage};
 ghost use Rattle.tables.specs.Records.{receiveSges};
+ghost use Rattle.tables.specs.State.{noRecord};
 ghost use Rattle.rules.specs.Send.{senderOpcode, receiverOpcode, consumes};
 ghost use Rattle.rules.specs.Bytes.{pushAll, errorBytes, consumeBytes};
-ghost use Rattle.engine.specs.Settle.{senderEntry, receiverStatus, putFirst, putSecond, settledBytes, Settling};
+ghost use Rattle.rules.specs.Touch.{takes};
+ghost use Rattle.engine.specs.Settle.{isSilent, senderEntry, receiverStatus, putFirst, putSecond, settledBytes, Settling};
 
 // x where b holds, else y.
 pub fn choose(b: bool, x: u8, y: u8) -> u8
@@ -133,14 +135,20 @@ pub fn put_work(state: &mut [u8], cqn: u8, q: usize, wr: u64, opcode: u8, st: u8
     queue::push_completion(state, cqn as usize, entry);
 }
 
+// Whether a success is told by no completion.
+fn is_silent(own: QueuePair, s: SendRecord, st: u8) -> bool
+    ensures { λ r. ⌜ r ≡ isSilent own s st ⌝ }
+{
+    (st == SUCCESS) & (own.signal != 0) & !(s.flags & SIGNALED_FLAG != 0)
+}
+
 // The sender's completion, where one is put.
 fn put_sender(state: &mut [u8], q: usize, own: QueuePair, s: SendRecord, st: u8, n: u64)
     requires { ⌜ (q < qpCount) × (own .scq < cqCount) × (length (now state) ≡ stateSize) × (rowAt cqT (now state) (own .scq) .count < mostPlaces) ⌝ }
     requires { ⌜ (st ≡ 0 → n ≤ mostMessage) ⌝ }
     ensures { λ _. ⌜ now (state .exit) ≡ pushAll (now (state .entry)) (putFirst q own s st n) ⌝ }
 {
-    let silent = (st == SUCCESS) & (own.signal != 0) & (s.flags & SIGNALED_FLAG == 0);
-    if silent {
+    if is_silent(own, s, st) {
         return;
     }
     put_work(state, own.scq, q, s.wr, s.opcode, st, told_length(st, n));
@@ -218,4 +226,24 @@ pub fn settle(state: &mut [u8], e: Ends, s: SendRecord, w: ReceiveRecord, st: u8
     fail_if(state, (st != SUCCESS) & (st != FLUSHED), e.q);
     consume_if(state, is_consumed(s.opcode, st), e.d);
     fail_if(state, st == REMOTE_INVALID, e.d);
+}
+
+// What is left of that by a request that takes no receive: no byte where it succeeds silently.
+pub fn settle_single(state: &mut [u8], e: Ends, s: SendRecord, st: u8, n: u64)
+    requires { ⌜ Settling (now state) e s noRecord st n × (takes (s .opcode) ≡ false) × (eqb st 7 ≡ false) ⌝ }
+    ensures { λ _. ⌜ now (state .exit) ≡ settledBytes (now (state .entry)) e s noRecord st n ⌝ }
+{
+    if is_silent(e.own, s, st) {
+        return;
+    }
+    put_work(
+        state,
+        e.own.scq,
+        e.q,
+        s.wr,
+        s.opcode,
+        st,
+        told_length(st, n),
+    );
+    fail_if(state, (st != SUCCESS) & (st != FLUSHED), e.q);
 }

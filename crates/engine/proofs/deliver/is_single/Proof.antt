@@ -5,11 +5,11 @@ use Rattle.engine.proofs.deliver.is_single.Tie as tie
 is-inline-requires : tie.Need-is-inline-requires
 is-inline-requires c κs = search needs
 
-fills-receive-requires : tie.Need-fills-receive-requires
-fills-receive-requires c κs = search needs
+takes-receive-requires : tie.Need-takes-receive-requires
+takes-receive-requires c κs = search needs
 
 returns : tie.Need-returns
-returns c = rw (c .fills-receive .ensures, c .before .before .is-inline .ensures)
+returns c = rw (c .takes-receive .ensures, c .before .before .is-inline .ensures)
 
 pub is-single-spec : {M : Type 1} → statement M
-is-single-spec = tie.close (tie.spec is-inline-requires fills-receive-requires returns)
+is-single-spec = tie.close (tie.spec is-inline-requires takes-receive-requires returns)

@@ -1,11 +1,17 @@
-use Rattle.engine.proofs.SettleLaws.{put-silent, put-told}
+use mathlib.Core.Path.{sym, _∙_}
 use denote.Ref.{now}
+use Rattle.engine.proofs.SettleLaws.{put-silent, put-told}
 use borrow.Author.Needs.{needs}
 use Rattle.engine.proofs.settle.put_sender.Statement.{statement}
 use Rattle.engine.proofs.settle.put_sender.Tie as tie
 
+is-silent-requires : tie.Need-is-silent-requires
+is-silent-requires c κs = search needs
+
 returns : tie.Need-returns
-returns c = let a = c .before .before .before .before .args in put-silent (now (a .state)) (a .q) (a .own) (a .s) (a .st) (a .n) (c .if1 .taken)
+returns c =
+    let a = c .before .before .before .args in
+    put-silent (now (a .state)) (a .q) (a .own) (a .s) (a .st) (a .n) (sym (c .before .is-silent .ensures) ∙ c .if1 .taken)
 
 told-length-requires : tie.Need-told-length-requires
 told-length-requires c κs = search needs
@@ -18,10 +24,17 @@ same-length c = search needs
 
 returns-2 : tie.Need-returns-2
 returns-2 c =
-    let a = c .before .before .before .before .before .before .before .before .before .args in
+    let a = c .before .before .before .before .before .before .before .before .args in
     rw (c .before .before .put-work .ensures, c .before .before .before .told-length .ensures)
-    (put-told (now (a .state)) (a .q) (a .own) (a .s) (a .st) (a .n) (c .before .before .before .before .before .if1 .left))
+    (put-told (now (a .state)) (a .q) (a .own) (a .s) (a .st) (a .n) (sym (c .before .before .before .before .before .before .is-silent .ensures) ∙ c .before .before .before .before .before .if1 .left))
 
 pub put-sender-spec : {M : Type 1} → statement M
 put-sender-spec =
-    tie.close (tie.spec returns told-length-requires put-work-requires same-length returns-2)
+    tie.close
+    (tie.spec
+    is-silent-requires
+    returns
+    told-length-requires
+    put-work-requires
+    same-length
+    returns-2)
