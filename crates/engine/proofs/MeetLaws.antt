@@ -71,6 +71,14 @@ pub needed-most : (b : Bool) (n : ℕ) → n ≡ cond b 2 1 → n ≤ 2
 needed-most true n e = omega arith
 needed-most false n e = omega arith
 
+-- a request that takes no receive needs a place in the send queue only
+pub own-place : (h k : QueueHead) (same : Bool) (o : ℕ) → takes o ≡ false → leb (h .count + 1) (h .places) ≡ placesBy h k same o
+own-place h k same o e = rw e (go (leb (h .count + 1) (h .places)))
+  where
+    go : (b : Bool) → b ≡ (b && true)
+    go true = refl
+    go false = refl
+
 -- ---- the tests of a peer that is ready
 
 module _ (l : List ℕ) (e : Ends) (o : ℕ) (t : Bool) (is : t ≡ takes o) (h : WaitingHead) (at : h ≡ rowAt waitingT l (e .d)) where

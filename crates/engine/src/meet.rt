@@ -95,12 +95,14 @@ fn has_places(state: &[u8], s: u8, r: u8, opcode: u8) -> bool
     ensures { λ b. ⌜ b ≡ placesBy (rowAt cqT (now (state .entry)) s) (rowAt cqT (now (state .entry)) r) (eqb s r) opcode ⌝ }
 {
     let first = rows::load_cq(state, s as usize);
+    if !takes_receive(opcode) {
+        return has_room(first, 1);
+    }
     let second = rows::load_cq(state, r as usize);
-    let taken = takes_receive(opcode);
-    let n = places_needed(taken & (s == r));
+    let n = places_needed(s == r);
     let own = has_room(first, n);
     let far = has_room(second, 1);
-    own & (!taken | far)
+    own & far
 }
 
 // The tests of a peer that is ready: a receive that waits, and places for the completions.
