@@ -4,7 +4,7 @@ pub mod Ranges
 pub mod Full
 pub mod Variants
 pub mod Answers
-pub mod Holds
+pub mod OnlyHolds
 pub mod Marks
 pub mod Dropped
 pub mod Pinned
