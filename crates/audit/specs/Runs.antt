@@ -48,9 +48,11 @@ foundAt l m x y p = shown l m x y p .found
 
 -- Turn after turn from the place p to the verdict v.
 pub data Runs : (l m x y : List ℕ) → (p : Place) → (c a : List ℕ) → (v : Verdict) → Type 0 where
-  done : {l m x y : List ℕ} {p : Place} {c a : List ℕ} {v : Verdict} {l′ m′ x′ y′ : List ℕ} → Turns l m x y p (Next.Done v) l′ m′ x′ y′
+  done : {l m x y : List ℕ} {p : Place} {c a : List ℕ} {v : Verdict} {l′ m′ x′ y′ : List ℕ}
+      → Turns l m x y p (Next.Done v) l′ m′ x′ y′
       → Runs l m x y p c a v
-  on : {l m x y : List ℕ} {p : Place} {c a : List ℕ} {v : Verdict} {q : Place} {l′ m′ x′ y′ : List ℕ} → Turns l m x y p (Next.On q) l′ m′ x′ y′
+  on : {l m x y : List ℕ} {p : Place} {c a : List ℕ} {v : Verdict} {q : Place} {l′ m′ x′ y′ : List ℕ}
+      → Turns l m x y p (Next.On q) l′ m′ x′ y′
       → Given (foundAt l m x y p) c a p x y q x′ y′
       → Runs l′ m′ x′ y′ q (drop (callsPassed (foundAt l m x y p)) c) (drop (answersPassed (foundAt l m x y p)) a) v → Runs l m x y p c a v
 

@@ -99,7 +99,9 @@ two = piece 101 (four 2) (keyOf 0)
 
 -- queue pair 0 sends so many bytes from 100 on, to 200 under the key of slot 1, in a memory of two pages
 abbrev pub sendPaged : (opcode count : ℕ) → Call
-sendPaged o n = Call.send 0 (sendRecord o 0 200 (keyOf 1) unused 1 (piece 100 (four n) (keyOf 0))) (twoPages (1 ∷ 2 ∷ 3 ∷ 4 ∷ 5 ∷ 6 ∷ []) (0 ∷ 0 ∷ []))
+sendPaged o n =
+    Call.send 0 (sendRecord o 0 200 (keyOf 1) unused 1 (piece 100 (four n) (keyOf 0)))
+    (twoPages (1 ∷ 2 ∷ 3 ∷ 4 ∷ 5 ∷ 6 ∷ []) (0 ∷ 0 ∷ []))
 
 -- queue pair 1 waits for two bytes, at 200 and at 8,392
 abbrev pub receivePaged : Call
@@ -201,9 +203,11 @@ allowing =
     passes (send 0 0 200 (keyOf 1) unused 1 (piece 101 (four 0) (keyOf 0))) memory ∷
     fails (send 0 0 200 (keyOf 1) unused 1 two) 8 ∷
     again
-    ++ (done (move 1 0) ∷ done (allow 1 1 4) ∷ done (aim 1 0) ∷ passes (send 4 0 200 (keyOf 1) unused 1 two) (1 ∷ 5 ∷ 6 ∷ 4 ∷ 5 ∷ 6 ∷ 7 ∷ 8 ∷ []) ∷
+    ++ (done (move 1 0) ∷ done (allow 1 1 4) ∷ done (aim 1 0) ∷
+    passes (send 4 0 200 (keyOf 1) unused 1 two) (1 ∷ 5 ∷ 6 ∷ 4 ∷ 5 ∷ 6 ∷ 7 ∷ 8 ∷ []) ∷
     fails (send 0 0 200 (keyOf 1) unused 1 two) 8 ∷ again)
-    ++ (done (allow 1 3 2) ∷ passes (send 0 0 200 (keyOf 1) unused 1 two) (1 ∷ 2 ∷ 3 ∷ 4 ∷ 2 ∷ 3 ∷ 7 ∷ 8 ∷ []) ∷ done poll ∷ done poll ∷ [])
+    ++ (done (allow 1 3 2) ∷
+    passes (send 0 0 200 (keyOf 1) unused 1 two) (1 ∷ 2 ∷ 3 ∷ 4 ∷ 2 ∷ 3 ∷ 7 ∷ 8 ∷ []) ∷ done poll ∷ done poll ∷ [])
 
 -- the peer's region is dropped while two receives wait for its bytes: the first is consumed in vain, and both queue pairs are in error. There a
 -- send is flushed, a third receive waits behind the second, both are flushed, and the fourth is flushed at once. Nor is the key one that can be

@@ -7,7 +7,7 @@ use native.Mathlib.Omega.{arith}
 use lib.Dec.{eqb}
 use lib.ListN.{take}
 use borrow.Author.Tests.{eq-eqb, ne-eqb, le-leb, lt-leb}
-use Rattle.wire.proofs.ScanLaws.{and-left}
+use Rattle.wire.proofs.ScanLaws.{or-left}
 use Rattle.tables.specs.Queue.{pushBytes}
 use Rattle.tables.specs.Records.{isSignaled, receiveSges}
 use Rattle.tables.specs.State.{noRecord}
@@ -18,7 +18,7 @@ use Rattle.tables.specs.declared.Sge.{Sge}
 use Rattle.rules.specs.Send.{consumes, fails}
 use Rattle.rules.specs.Touch.{takes, sgeTotal}
 use Rattle.rules.specs.Bytes.{pushAll, errorBytes}
-use Rattle.engine.specs.Settle.{isSilent, senderEntry, receiverEntry, receiverStatus, putFirst, putSecond, settledBytes}
+use Rattle.engine.specs.Settle.{isPut, senderEntry, receiverEntry, receiverStatus, putFirst, putSecond, settledBytes}
 use Rattle.engine.specs.declared.meet.Ends.{Ends}
 
 -- ---- a receive's entries, in a list of four
@@ -48,20 +48,14 @@ module _ (w : ReceiveRecord) (st n : ℕ) where
 
 -- ---- completions that are put, or not
 
-wanted : (x y z : Bool) → (not x || y || z) ≡ not (x && not y && not z)
-wanted true true z = refl
-wanted true false true = refl
-wanted true false false = refl
-wanted false y z = refl
-
 module _ (l : List ℕ) (q : ℕ) (own : QueuePair) (s : SendRecord) (st n : ℕ) where
-  pub put-silent : isSilent own s st ≡ true → l ≡ pushAll l (putFirst q own s st n)
+  pub put-silent : isPut own s st ≡ false → l ≡ pushAll l (putFirst q own s st n)
   unfolding pushAll
-  put-silent h = rw (wanted (eqb st 0) (eqb (own .signal) 0) (isSignaled s), h)
+  put-silent h = rw h
 
-  pub put-told : isSilent own s st ≡ false → pushBytes l (own .scq) (senderEntry q (s .wr) (s .opcode) st (cond (eqb st 0) n 0)) ≡ pushAll l (putFirst q own s st n)
+  pub put-told : isPut own s st ≡ true → pushBytes l (own .scq) (senderEntry q (s .wr) (s .opcode) st (cond (eqb st 0) n 0)) ≡ pushAll l (putFirst q own s st n)
   unfolding pushAll
-  put-told h = rw (wanted (eqb st 0) (eqb (own .signal) 0) (isSignaled s), h)
+  put-told h = rw h
 
 module _ (l : List ℕ) (e : Ends) (s : SendRecord) (st n : ℕ) where
   module _ (w : ReceiveRecord) where
@@ -81,17 +75,17 @@ module _ (l : List ℕ) (e : Ends) (s : SendRecord) (st n : ℕ) (untaken : take
   single-settled = rw (untaken, own-fault)
 
   -- it succeeded
-  succeeded : (x : Bool) → (eqb st 0 && x) ≡ true → fails st ≡ false
-  succeeded x h = rw (and-left (eqb st 0) x h)
+  succeeded : (x : Bool) → (not (eqb st 0) || x) ≡ false → fails st ≡ false
+  succeeded x h = rw (or-left (not (eqb st 0)) x h)
 
-  pub single-silent : isSilent (e .own) s st ≡ true → l ≡ settledBytes l e s noRecord st n
+  pub single-silent : isPut (e .own) s st ≡ false → l ≡ settledBytes l e s noRecord st n
   single-silent h =
       put-silent l (e .q) (e .own) s st n h
       ∙ ap (λ (b : Bool). errorBytes b (pushAll l (putFirst (e .q) (e .own) s st n)) (e .q))
-      (sym (succeeded (not (eqb (e .own .signal) 0)) (and-left (eqb st 0 && not (eqb (e .own .signal) 0)) (not (isSignaled s)) h)))
+      (sym (succeeded (eqb (e .own .signal) 0) (or-left (not (eqb st 0) || eqb (e .own .signal) 0) (isSignaled s) h)))
       ∙ single-settled
 
-  pub single-told : isSilent (e .own) s st ≡ false → (l₁ l₂ : List ℕ)
+  pub single-told : isPut (e .own) s st ≡ true → (l₁ l₂ : List ℕ)
       → l₁ ≡ pushBytes l (e .own .scq) (senderEntry (e .q) (s .wr) (s .opcode) st (cond (eqb st 0) n 0))
       → l₂ ≡ errorBytes (fails st) l₁ (e .q) → l₂ ≡ settledBytes l e s noRecord st n
   single-told h l₁ l₂ i j =

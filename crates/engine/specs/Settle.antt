@@ -41,14 +41,14 @@ receiverEntry e s w st n =
       owner = e .d;
     }
 
--- a success that is not put
-abbrev pub isSilent : (own : QueuePair) → SendRecord → (st : ℕ) → Bool
-isSilent own s st = eqb st 0 && not (eqb (own .signal) 0) && not (isSignaled s)
+-- "Sender's success is put if signal is 0 or the flag is set; errors and receiver completions always."
+abbrev pub isPut : (own : QueuePair) → SendRecord → (st : ℕ) → Bool
+isPut own s st = not (eqb st 0) || eqb (own .signal) 0 || isSignaled s
 
--- "Sender's success is put if signal is 0 or the flag is set; errors and receiver completions always." "Length is the total on success, else 0"
+-- "Length is the total on success, else 0"
 abbrev pub putFirst : (q : ℕ) → (own : QueuePair) → SendRecord → (st n : ℕ) → List Put
 putFirst q own s st n =
-    cond (not (eqb st 0) || eqb (own .signal) 0 || isSignaled s)
+    cond (isPut own s st)
     (record { cqn = own .scq; entry = senderEntry q (s .wr) (s .opcode) st (cond (eqb st 0) n 0) } ∷ []) []
 
 abbrev pub putSecond : Ends → SendRecord → ReceiveRecord → (st n : ℕ) → List Put

@@ -38,7 +38,7 @@ ghost use Rattle.tables.specs.State.{noRecord};
 ghost use Rattle.rules.specs.Send.{senderOpcode, receiverOpcode, consumes};
 ghost use Rattle.rules.specs.Bytes.{pushAll, errorBytes, consumeBytes};
 ghost use Rattle.rules.specs.Touch.{takes};
-ghost use Rattle.engine.specs.Settle.{isSilent, senderEntry, receiverStatus, putFirst, putSecond, settledBytes, Settling};
+ghost use Rattle.engine.specs.Settle.{isPut, senderEntry, receiverStatus, putFirst, putSecond, settledBytes, Settling};
 
 // x where b holds, else y.
 pub fn choose(b: bool, x: u8, y: u8) -> u8
@@ -135,11 +135,11 @@ pub fn put_work(state: &mut [u8], cqn: u8, q: usize, wr: u64, opcode: u8, st: u8
     queue::push_completion(state, cqn as usize, entry);
 }
 
-// Whether a success is told by no completion.
-fn is_silent(own: QueuePair, s: SendRecord, st: u8) -> bool
-    ensures { λ r. ⌜ r ≡ isSilent own s st ⌝ }
+// Whether the sender's completion is put.
+fn is_put(own: QueuePair, s: SendRecord, st: u8) -> bool
+    ensures { λ r. ⌜ r ≡ isPut own s st ⌝ }
 {
-    (st == SUCCESS) & (own.signal != 0) & !(s.flags & SIGNALED_FLAG != 0)
+    (st != SUCCESS) | (own.signal == 0) | (s.flags & SIGNALED_FLAG != 0)
 }
 
 // The sender's completion, where one is put.
@@ -148,10 +148,9 @@ fn put_sender(state: &mut [u8], q: usize, own: QueuePair, s: SendRecord, st: u8,
     requires { ⌜ (st ≡ 0 → n ≤ mostMessage) ⌝ }
     ensures { λ _. ⌜ now (state .exit) ≡ pushAll (now (state .entry)) (putFirst q own s st n) ⌝ }
 {
-    if is_silent(own, s, st) {
-        return;
+    if is_put(own, s, st) {
+        put_work(state, own.scq, q, s.wr, s.opcode, st, told_length(st, n));
     }
-    put_work(state, own.scq, q, s.wr, s.opcode, st, told_length(st, n));
 }
 
 // The receiver's completion, where the receive is consumed.
@@ -233,17 +232,16 @@ pub fn settle_single(state: &mut [u8], e: Ends, s: SendRecord, st: u8, n: u64)
     requires { ⌜ Settling (now state) e s noRecord st n × (takes (s .opcode) ≡ false) × (eqb st 7 ≡ false) ⌝ }
     ensures { λ _. ⌜ now (state .exit) ≡ settledBytes (now (state .entry)) e s noRecord st n ⌝ }
 {
-    if is_silent(e.own, s, st) {
-        return;
+    if is_put(e.own, s, st) {
+        put_work(
+            state,
+            e.own.scq,
+            e.q,
+            s.wr,
+            s.opcode,
+            st,
+            told_length(st, n),
+        );
+        fail_if(state, (st != SUCCESS) & (st != FLUSHED), e.q);
     }
-    put_work(
-        state,
-        e.own.scq,
-        e.q,
-        s.wr,
-        s.opcode,
-        st,
-        told_length(st, n),
-    );
-    fail_if(state, (st != SUCCESS) & (st != FLUSHED), e.q);
 }

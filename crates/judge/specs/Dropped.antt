@@ -54,5 +54,6 @@ Fruitless cardOf st l x =
 unfoldable pub StaysHeld : (Made : (st : List ℕ) → Seen → Type 0) → Type 0
 StaysHeld Made =
     (q n : ℕ) (s m k a st : List ℕ) (x y z : Seen) → Linked Made st (x ∷ y ∷ z ∷ []) →
-    x .call ≡ Call.send q s m → isDone (x .left .answer) ≡ false → y .call ≡ Call.control k a → commandOf k ≡ some (Command.deregister n) → z .call ≡ x .call →
+    x .call ≡ Call.send q s m → isDone (x .left .answer) ≡ false →
+    y .call ≡ Call.control k a → commandOf k ≡ some (Command.deregister n) → z .call ≡ x .call →
     z .left .answer ≡ x .left .answer

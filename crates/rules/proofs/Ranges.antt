@@ -93,6 +93,11 @@ module _ (c : Card) (q : ℕ) (u : Use) (k : ℕ) where
   one-more (some g) a (suc n) =
       rw (ne-eqb (suc n) 0 (omega arith)) (more (admits g p u) (g .virt) (g .virt + g .length) a n)
 
+  -- 02, M-104: "an empty range looks at neither"
+  range-none : (a : ℕ) → permitsAll c q u (range a k 0) ≡ true
+  unfolding permitsAll all range
+  range-none a = refl
+
   range-some : (a n : ℕ) → permitsAll c q u (range a k (suc n)) ≡ ends o p u a (suc n)
   unfolding permitsAll all permits range
   range-some a zero = and-true (covers o p u a) ∙ sym (and-true (covers o p u a)) ∙ one-more o a 0
@@ -101,8 +106,7 @@ module _ (c : Card) (q : ℕ) (u : Use) (k : ℕ) where
       (ap (λ (b : Bool). covers o p u a && b) (sym (rw (ne-eqb (suc n) 0 (omega arith)))) ∙ one-more o a (suc n))
 
   pub range-permitted : (a n : ℕ) → permitsAll c q u (range a k n) ≡ cond (eqb n 0) true (ends o p u a n)
-  unfolding permitsAll all range
-  range-permitted a zero = refl
+  range-permitted a zero = range-none a
   range-permitted a (suc n) = rw (ne-eqb (suc n) 0 (omega arith)) (range-some a n)
 
 -- ---- lists of pieces

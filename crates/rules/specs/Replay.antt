@@ -26,4 +26,5 @@ pub record Alike (r r′ : ℕ) (l l′ b b′ : List ℕ) : Type 0 where
 unfoldable pub Replays : Type 0
 Replays =
     (l : List ℕ) (k : Call) (m : List ℕ) → length m ≡ length (memoryOf k) →
-    (r r′ : ℕ) (l₁ l₂ m₁ m₂ b₁ b₂ : List ℕ) → Exports l k r l₁ m₁ b₁ → Exports l (lending m k) r′ l₂ m₂ b₂ → Alike r r′ l₁ l₂ b₁ b₂
+    (r r′ : ℕ) (l₁ l₂ m₁ m₂ b₁ b₂ : List ℕ) →
+    Exports l k r l₁ m₁ b₁ → Exports l (lending m k) r′ l₂ m₂ b₂ → Alike r r′ l₁ l₂ b₁ b₂

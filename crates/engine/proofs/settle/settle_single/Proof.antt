@@ -8,14 +8,8 @@ use borrow.Author.Needs.{needs}
 use Rattle.engine.proofs.settle.settle_single.Statement.{statement}
 use Rattle.engine.proofs.settle.settle_single.Tie as tie
 
-is-silent-requires : tie.Need-is-silent-requires
-is-silent-requires c κs = search needs
-
-returns : tie.Need-returns
-returns c =
-    let b = c .before .before .before in
-    let a = b .args in
-    single-silent (now (a .state)) (a .e) (a .s) (a .st) (a .n) (b .pre .1) (b .pre .2) (sym (c .before .is-silent .ensures) ∙ c .if1 .taken)
+is-put-requires : tie.Need-is-put-requires
+is-put-requires c κs = search needs
 
 told-length-requires : tie.Need-told-length-requires
 told-length-requires c κs = search needs
@@ -29,23 +23,29 @@ fail-if-requires c κs = search needs
 same-length : tie.Need-same-length
 same-length c = search needs
 
-returns-2 : tie.Need-returns-2
-returns-2 c =
+returns : tie.Need-returns
+returns c =
     let b = c .before .before .before .before .before .before .before .before .before .before .before .before in
     let a = b .args in
     let put = c .before .before .before .before .before .before .put-work .ensures
     ∙ ap (λ (k : ℕ). pushBytes (now (a .state)) (a .e .own .scq) (senderEntry (a .e .q) (a .s .wr) (a .s .opcode) (a .st) k)) (c .before .before .before .before .before .before .before .told-length .ensures) in
-    single-told (now (a .state)) (a .e) (a .s) (a .st) (a .n) (b .pre .1) (b .pre .2) (sym (c .before .before .before .before .before .before .before .before .before .before .is-silent .ensures) ∙ c .before .before .before .before .before .before .before .before .before .if1 .left) _ _ put
+    single-told (now (a .state)) (a .e) (a .s) (a .st) (a .n) (b .pre .1) (b .pre .2) (sym (c .before .before .before .before .before .before .before .before .before .before .is-put .ensures) ∙ c .before .before .before .before .before .before .before .before .before .if1 .taken) _ _ put
     (c .before .before .fail-if .ensures)
+
+returns-2 : tie.Need-returns-2
+returns-2 c =
+    let b = c .before .before .before in
+    let a = b .args in
+    single-silent (now (a .state)) (a .e) (a .s) (a .st) (a .n) (b .pre .1) (b .pre .2) (sym (c .before .is-put .ensures) ∙ c .if1 .left)
 
 pub settle-single-spec : {M : Type 1} → statement M
 settle-single-spec =
     tie.close
     (tie.spec
-    is-silent-requires
-    returns
+    is-put-requires
     told-length-requires
     put-work-requires
     fail-if-requires
     same-length
+    returns
     returns-2)
