@@ -1,5 +1,5 @@
-//! The tuned engine answers as the reference does, and leaves the same bytes: on the calls that are timed, and after any one byte of the state
-//! has changed.
+//! The tuned engine answers as the reference does, and leaves the same bytes: on the calls that are timed, and after one byte of the record or
+//! of the state has changed (`changed` says which).
 
 use bench::fixture::{self, Regions};
 use bench::tuned::Tuned;

@@ -17,6 +17,7 @@ use tables::HeadRead;
 use tables::RegisterRead;
 use tables::Registration;
 use tables::limits::MOST_ADDRESS;
+use tables::limits::MOST_PAGED;
 use tables::limits::MOST_PAGES;
 use tables::limits::MR_COUNT;
 use tables::limits::PAGE_SIZE;
@@ -39,9 +40,6 @@ ghost use Rattle.rules.specs.Contract.{Owes};
 ghost use Rattle.rules.specs.Bytes.{putPages};
 ghost use Rattle.rules.specs.Pages.{entryOk, entriesOk};
 ghost use Rattle.commands.specs.Pages.{countOk, inPages, Listed, Recorded};
-
-// The bytes of 16 pages.
-const MOST_PAGED: u64 = 65536;
 
 // ---- the list
 

@@ -9,7 +9,7 @@ use Rattle.wire.specs.Codec.{fieldsAt, putFields, encode}
 use Rattle.wire.specs.Le.{leAt, putLe}
 use Rattle.wire.specs.Rows.{rows, rowsFrom}
 use Rattle.wire.specs.Scan.{lowest, lowestFrom, anyBelow, all}
-use Rattle.tables.specs.Card.{fresh, receiveOf}
+use Rattle.tables.specs.Card.{Card, fresh, receiveOf}
 use Rattle.tables.specs.Commands.{commandOf, dataSize, numberCodec, registerCodec, createQpCodec, modifyQpCodec, ackNeed}
 use Rattle.tables.specs.Records.{sendCodec, sgeCodec, receiveCodec, sendChecks, receiveChecks, receiveSges, sendSge, inlineBytes, inlineLength, completionCodec}
 use Rattle.tables.specs.State.{pagesNeeded}
@@ -24,8 +24,8 @@ use Rattle.rules.specs.Send.{pairChecks, readyChecks, holdChecks, deliveryCheck
 use Rattle.rules.specs.Queues.{joinChecks, joinStatus, joinPuts, joined, received}
 use Rattle.rules.specs.Call.{Call}
 use Rattle.rules.specs.Calls.{checks, controlChecks, statusOf, effect, memoryAfter, bufferAfter, step}
-use Rattle.judge.specs.Log.{fed, ackData}
-use Rattle.judge.specs.Judge.{judge, nearPasses, farPasses, near, far, passes, filled, waiting, standing, told, toldOfBoth, domain, peer, accepted, taken, errored, rights}
+use Rattle.judge.specs.Log.{Log, fed, ackData}
+use Rattle.judge.specs.Judge.{judge, judgedMemory, readSide, writtenSide, sources, placed, nearPasses, farPasses, near, far, passes, filled, waiting, standing, told, toldOfBoth, domain, peer, accepted, taken, errored, rights}
 use Rattle.judge.proofs.Example.{command, control, registered, modified, created, run, buffers}
 
 -- two pages
@@ -38,12 +38,13 @@ paged ps =
     Call.registerPages (encode registerCodec (command 7 32) 2 (record { pd = 0; access = 7; start = 4094; length = 8194; virt = 4096 })) ps (replicate 13 9)
 
 -- so many bytes from 100 on, which is memory byte 2; the remote address is the first of the region over pages
+abbrev asked : (opcode count : ℕ) → List ℕ
+asked o n =
+    encode sgeCodec (encode sendCodec (replicate 592 0) 0 (record { wr = 7; opcode = o; flags = 0; imm = 0; address = 4096; key = 257; count = 1 })) 576
+    (record { address = 100; length = n; key = 1 })
+
 abbrev posted : (opcode count : ℕ) → Call
-posted o n =
-    Call.send 0
-    (encode sgeCodec (encode sendCodec (replicate 592 0) 0 (record { wr = 7; opcode = o; flags = 0; imm = 0; address = 4096; key = 257; count = 1 })) 576
-    (record { address = 100; length = n; key = 1 }))
-    mem
+posted o n = Call.send 0 (asked o n) mem
 
 -- two pieces of one byte, which both mean memory byte 8190
 abbrev waited : Call
@@ -71,9 +72,13 @@ setup =
     modified 1 32769 2 0 0 ∷
     []
 
--- an answer, the first six bytes of the memory after it and its last two, and the verdict
+-- the first six bytes of a memory and its last two
+abbrev ends : List ℕ → List ℕ
+ends m = take 6 m ++ drop 8190 m
+
+-- an answer, the memory after it, and the verdict
 abbrev shown : Answer × (List ℕ × Bool) → Answer × (List ℕ × Bool)
-shown x = (x .0, (take 6 (x .1 .0) ++ drop 8190 (x .1 .0), x .1 .1))
+shown x = (x .0, (ends (x .1 .0), x .1 .1))
 
 -- a write of four bytes to 8190, 8191, 0 and 1; a read of them; a send of two bytes, of which the later wins; and the write once the region is
 -- dropped
@@ -87,6 +92,27 @@ pub works : map shown (drop 11 (run (fresh 8192) [] (setup ++ (posted 0 4 ∷ po
     ∷ []
 unfolding run fieldsAt putFields leAt putLe rows rowsFrom lowest lowestFrom anyBelow commandOf dataSize ackNeed numberCodec registerCodec createQpCodec modifyQpCodec sendCodec sgeCodec receiveCodec completionCodec sendChecks receiveChecks receiveSges receiveOf sendSge inlineBytes inlineLength pagesNeeded pageRecordChecks pageListChecks all stored requestOf receiveIn range sgeBytes sgeTotal total ownBytes farBytes byteIn byteOf message delivered permits permitsAll place lookup covers commandChecks commandAck commandEffect pairChecks readyChecks holdChecks deliveryChecks runStatus sendStatus sendPuts putAll sendQps sendEffect sendMemory joinChecks joinStatus joinPuts joined received checks controlChecks statusOf effect memoryAfter bufferAfter step fed ackData judge nearPasses farPasses near far passes filled waiting standing told toldOfBoth domain peer accepted taken errored rights
 works = refl
+
+-- ---- what the judge makes of the log
+
+-- what it has heard of the calls
+unfoldable pub heard : Card → Log → List Call → Log
+heard c l [] = l
+heard c l (k ∷ ks) = let r = step c k in heard (r .card) (fed l k (r .answer) (r .buffer)) ks
+
+-- the bytes that it takes the first two addresses of the region over pages for, those on both sides of the second border, and the last
+pub means : map (λ (a : ℕ). placed (heard (fresh 8192) [] (take 4 setup)) (record { address = a; key = 257 })) (4096 ∷ 4097 ∷ 4098 ∷ 8193 ∷ 8194 ∷ 12289 ∷ [])
+    ≡ 8190 ∷ 8191 ∷ 0 ∷ 4095 ∷ 4096 ∷ 8191 ∷ []
+unfolding heard placed fieldsAt putFields leAt putLe rows rowsFrom lowest lowestFrom anyBelow commandOf dataSize ackNeed numberCodec registerCodec createQpCodec modifyQpCodec sendCodec sgeCodec receiveCodec completionCodec sendChecks receiveChecks receiveSges receiveOf sendSge inlineBytes inlineLength pagesNeeded pageRecordChecks pageListChecks all stored requestOf receiveIn range sgeBytes sgeTotal total ownBytes farBytes byteIn byteOf message delivered permits permitsAll place lookup covers commandChecks commandAck commandEffect pairChecks readyChecks holdChecks deliveryChecks runStatus sendStatus sendPuts putAll sendQps sendEffect sendMemory joinChecks joinStatus joinPuts joined received checks controlChecks statusOf effect memoryAfter bufferAfter step fed ackData judge nearPasses farPasses near far passes filled waiting standing told toldOfBoth domain peer accepted taken errored rights
+means = refl
+
+-- the memory that it expects of the write and of the read
+pub expects : map (λ (o : ℕ). ends (judgedMemory (heard (fresh 8192) [] setup) (record { qpn = 0; request = requestOf (asked o 4) }) mem)) (0 ∷ 4 ∷ [])
+    ≡ (5 ∷ 6 ∷ 3 ∷ 4 ∷ 5 ∷ 6 ∷ 3 ∷ 4 ∷ []) ∷ (1 ∷ 2 ∷ 0 ∷ 0 ∷ 1 ∷ 2 ∷ 0 ∷ 0 ∷ []) ∷ []
+unfolding heard placed judgedMemory readSide writtenSide sources fieldsAt putFields leAt putLe rows rowsFrom lowest lowestFrom anyBelow commandOf dataSize ackNeed numberCodec registerCodec createQpCodec modifyQpCodec sendCodec sgeCodec receiveCodec completionCodec sendChecks receiveChecks receiveSges receiveOf sendSge inlineBytes inlineLength pagesNeeded pageRecordChecks pageListChecks all stored requestOf receiveIn range sgeBytes sgeTotal total ownBytes farBytes byteIn byteOf message delivered permits permitsAll place lookup covers commandChecks commandAck commandEffect pairChecks readyChecks holdChecks deliveryChecks runStatus sendStatus sendPuts putAll sendQps sendEffect sendMemory joinChecks joinStatus joinPuts joined received checks controlChecks statusOf effect memoryAfter bufferAfter step fed ackData judge nearPasses farPasses near far passes filled waiting standing told toldOfBoth domain peer accepted taken errored rights
+expects = refl
+
+-- ---- acks
 
 -- ack, mrn, lkey, rkey; a page too few, and a create PD: the ack byte 1, and later bytes stay
 pub acks : drop 3 (buffers (fresh 8192) (take 4 setup ++ (paged (4096 ∷ 0 ∷ []) ∷ Call.registerPages (command 4 0) [] (replicate 13 9) ∷ [])))

@@ -19,6 +19,8 @@ pub const PAGE_SIZE: u64 = 4096;
 
 pub const MOST_PAGES: usize = 16;
 
+pub const MOST_PAGED: u64 = (MOST_PAGES as u64) * PAGE_SIZE;
+
 pub const MOST_ADDRESS: u64 = 0xffff_ffff_ffff_ffff;
 
 pub const MOST_MESSAGE: u32 = 4096;

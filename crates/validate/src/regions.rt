@@ -7,6 +7,7 @@ use tables::limits::FLAT;
 use tables::limits::LOCAL_WRITE;
 use tables::limits::MOST_ACCESS;
 use tables::limits::MOST_ADDRESS;
+use tables::limits::MOST_PAGED;
 use tables::limits::MOST_PAGES;
 use tables::limits::MR_COUNT;
 use tables::limits::PAGE_SIZE;
@@ -20,7 +21,7 @@ ghost use Rattle.wire.specs.Scan.{allBelow};
 ghost use Rattle.wire.specs.Table.{rowAt};
 ghost use Rattle.tables.specs.State.{regionAt, pagesAt, pagesNeeded};
 ghost use Rattle.tables.specs.Layout.{stateSize, memoryT, mrT};
-ghost use Rattle.tables.specs.Limits.{mrCount, mostPages};
+ghost use Rattle.tables.specs.Limits.{mrCount, mostPages, pageSize};
 ghost use Rattle.validate.specs.Accept.{accessOk, fieldsOk, numbersOk, pagedOk, landOk, mrOk};
 
 // Whether a region may have the access bits.
@@ -70,7 +71,7 @@ fn numbers_ok(state: &[u8], memory: u64, n: usize, count: usize) -> bool
 
 // How many pages the bytes need from an offset into the first one on.
 pub fn pages_needed(start: u64, length: u64) -> u64
-    requires { ⌜ start + length ≤ 65536 ⌝ }
+    requires { ⌜ start + length ≤ mostPages * pageSize ⌝ }
     ensures { λ x. ⌜ x ≡ pagesNeeded start length ⌝ }
 {
     (start + length + (PAGE_SIZE - 1)) / PAGE_SIZE
@@ -84,7 +85,7 @@ fn paged_ok(state: &[u8], memory: u64, n: usize, r: Region) -> bool
     if PAGE_SIZE - 1 < r.start {
         return false;
     }
-    if !wire::sum_within(r.start, r.length, 65536) {
+    if !wire::sum_within(r.start, r.length, MOST_PAGED) {
         return false;
     }
     numbers_ok(state, memory, n, pages_needed(r.start, r.length) as usize)

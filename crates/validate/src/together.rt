@@ -6,6 +6,7 @@ use tables::limits::LOCAL_LENGTH;
 use tables::limits::MOST_ACCESS;
 use tables::limits::MOST_ADDRESS;
 use tables::limits::MOST_MESSAGE;
+use tables::limits::MOST_PAGED;
 use tables::limits::MOST_PAGES;
 use tables::limits::MOST_PLACES;
 use tables::limits::MOST_RECEIVE_SGES;
@@ -215,7 +216,7 @@ fn limit_of(kind: u8, memory: u64) -> u64
     if kind == FLAT {
         return memory;
     }
-    65536
+    MOST_PAGED
 }
 
 // What eight rows of one kind show without the pages.

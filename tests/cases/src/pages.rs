@@ -192,13 +192,14 @@ fn counts() -> Vec<Case> {
     let mut slot = 0;
     for need in [1, 2, 3, 7, 15, 16] {
         for length in [4096 * (need as u64 - 1) + 1, 4096 * need as u64] {
-            for count in (0..=20).filter(|&count| count != need) {
+            for count in (0..=20).filter(|&count| count != need).chain([256 + need]) {
                 exact.pages_refused(region(0, length), &scattered(count), 11);
             }
             exact.register_pages(region(0, length), &scattered(need), 256 * slot + 1);
             slot += 1;
         }
     }
+    exact.pages_refused(region(0, 65536), &scattered(65536 + 16), 11);
     let sixteen = scattered(16);
     let (fifteen, seventeen) = (scattered(15), scattered(17));
     let most = tried(

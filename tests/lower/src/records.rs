@@ -285,7 +285,8 @@ fn acks(records: &mut Records) {
 
 // ---- page lists
 
-/// Every field of the record, every bit of an entry, lists of every length, and random ones; records of other commands.
+/// Every field of the record, every bit of an entry, lists of 0 to 20 entries and of those with higher bits in their number, and random ones;
+/// records of other commands.
 fn page_lists(records: &mut Records, rng: &mut Rng) {
     let command = register(0, 5, 4095, 2, 3 << 32);
     records.check_fields(&command, &[0..command.len()]);
@@ -310,7 +311,7 @@ fn page_lists(records: &mut Records, rng: &mut Rng) {
     }
     for length in [1, 4096, 4097, 8192, 8193, 61440, 61441, 65535, 65536, 65537, 69632, u64::MAX] {
         for start in [0, 1, 4095, 4096] {
-            (0..=20).for_each(|count| list(start, length, vec![4096; count]));
+            (0..=20).chain(256..=273).chain([65537, 65552]).for_each(|count| list(start, length, vec![4096; count]));
         }
     }
     for _ in 0..20_000 {

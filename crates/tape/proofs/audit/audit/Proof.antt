@@ -20,14 +20,15 @@ same-length-2 c = search needs
 returns : tie.Need-returns
 returns c =
     let a = c .before .before .before .before .before .before .before .before .before .before .before .before .args in
-    let h : (a .answers-ended || leb 135 (length (now (a .answers)))) ≡ true = cc in
+    let h : (a .answers-ended || leb 135 (length (now (a .answers)))) ≡ true =
+    c .before .before .before .before .before .before .before .if1 .taken in
     found-held (now (a .state)) (now (a .memory)) (now (a .calls)) (a .calls-ended) (now (a .answers)) (a .answers-ended) h
     (c .before .before .before .before .judge .ensures)
 
 returns-2 : tie.Need-returns-2
 returns-2 c =
     let a = c .before .before .before .before .before .args in
-    let h : (a .answers-ended || leb 135 (length (now (a .answers)))) ≡ false = cc in
+    let h : (a .answers-ended || leb 135 (length (now (a .answers)))) ≡ false = c .if1 .left in
     found-wants (now (a .state)) (now (a .memory)) (now (a .calls)) (a .calls-ended) (now (a .answers)) (a .answers-ended) h
 
 pub audit-spec : {M : Type 1} → statement M
