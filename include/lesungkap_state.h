@@ -7,7 +7,7 @@
  *       entry, or a region no page, of this index.
  *
  * A peek writes nothing but x, and never reads outside the state. It makes no test of the content: what it says is true of a state that
- * a call has left.
+ * a call has left. Of another, lesungkap_peek_receive also answers LESUNGKAP_BAD_FIELD, where a receive has more than two entries.
  */
 #ifndef LESUNGKAP_STATE_H
 #define LESUNGKAP_STATE_H
