@@ -1,10 +1,11 @@
 -- The calls that exported functions make are a list of the judge's theorem, and what they show is what the rules do on the card. Assumes
 -- nothing.
 use mathlib.Core.Path.{_≡_, refl, ap, ap₂, _∙_}
-use mathlib.Core.Bool.{Bool, true, cond}
+use mathlib.Core.Bool.{Bool, true, false, cond}
 use mathlib.Core.List.{List, [], _∷_, map}
 use mathlib.Core.Option.{some}
 use Prim.Native.Nat.{ℕ}
+use lib.Dec.{eqb}
 use lib.ListN.{length}
 use borrow.Author.Tests.{eq-eqb}
 use Rattle.tables.specs.Card.{Card}
@@ -13,7 +14,7 @@ use Rattle.tables.specs.State.{card}
 use Rattle.validate.specs.Accept.{accepts}
 use Rattle.validate.proofs.AcceptedLaws.{accepted}
 use Rattle.rules.specs.Answer.{codeOf, isDone}
-use Rattle.rules.specs.Call.{Call}
+use Rattle.rules.specs.Call.{Call, given}
 use Rattle.rules.specs.Calls.{Result, owed, usable, settled, step}
 use Rattle.rules.specs.Contract.{bytesAfter}
 use Rattle.rules.specs.declared.Answer.{Answer}
@@ -40,13 +41,11 @@ step-is : (l : List ℕ) (k : Call) → usable card accepts l k ≡ true → owe
 step-is l k e = owed-is card accepts l k ∙ ap (λ (b : Bool). cond b (step (card l) k) (settled (some 15) (card l) k)) e
 
 accepted-usable : (l : List ℕ) (k : Call) → accepts l ≡ true → usable card accepts l k ≡ true
-accepted-usable l (Call.reset n) e = eq-eqb (length l) stateSize (accepted l e .sized)
-accepted-usable l (Call.control k a) e = e
-accepted-usable l (Call.registerPages k ps a) e = e
-accepted-usable l (Call.send q x m) e = e
-accepted-usable l (Call.receive q x) e = e
-accepted-usable l (Call.flush q) e = e
-accepted-usable l (Call.poll n b) e = e
+accepted-usable l k e = go (given k .whole)
+  where
+    go : (b : Bool) → cond b (accepts l) (eqb (length l) stateSize) ≡ true
+    go true = e
+    go false = eq-eqb (length l) stateSize (accepted l e .sized)
 
 -- ---- the turns of calls on the card c
 

@@ -8,10 +8,9 @@ use Prim.Native.Nat.{ℕ}
 use Rattle.validate.specs.Accept.{accepts}
 use Rattle.tables.specs.State.{card}
 use Rattle.rules.specs.Answer.{codeOf}
-use Rattle.rules.specs.Call.{Call}
+use Rattle.rules.specs.Call.{Call, OnPair, given}
 use Rattle.rules.specs.Calls.{owed}
 use Rattle.rules.specs.Contract.{bytesAfter}
-use Rattle.rules.specs.Touch.{requestOf}
 use Rattle.rules.specs.declared.Answer.{Answer}
 use Rattle.rules.specs.declared.Answer.the-variants.{Done, Held, Refused}
 use Rattle.judge.specs.Log.{Log, fed}
@@ -42,18 +41,18 @@ pub record Line : Type 0 where
   pub memory : List ℕ
   pub verdict : Option Bool
 
+abbrev pub verdictIn : Log → OnPair → Answer → Option Bool
+verdictIn l OnPair.nothing a = none
+verdictIn l (OnPair.sends q r) (Done s) = some (judge l (record { qpn = q; request = r }))
+verdictIn l (OnPair.sends q r) (Held c) = none
+verdictIn l (OnPair.sends q r) (Refused n) = none
+verdictIn l (OnPair.receives q w) (Done s) = some (not (flushesAtOnce l q))
+verdictIn l (OnPair.receives q w) (Held c) = none
+verdictIn l (OnPair.receives q w) (Refused n) = none
+verdictIn l (OnPair.flushes q) a = none
+
 abbrev pub verdictBy : Log → Call → Answer → Option Bool
-verdictBy l (Call.send q x m) (Done s) = some (judge l (record { qpn = q; request = requestOf x }))
-verdictBy l (Call.send q x m) (Held c) = none
-verdictBy l (Call.send q x m) (Refused n) = none
-verdictBy l (Call.reset n) a = none
-verdictBy l (Call.control k b) a = none
-verdictBy l (Call.registerPages k ps b) a = none
-verdictBy l (Call.receive q x) (Done s) = some (not (flushesAtOnce l q))
-verdictBy l (Call.receive q x) (Held c) = none
-verdictBy l (Call.receive q x) (Refused n) = none
-verdictBy l (Call.flush q) a = none
-verdictBy l (Call.poll n b) a = none
+verdictBy l k a = verdictIn l (given k .pair) a
 
 -- the lines of calls after the log l
 unfoldable pub lines : Log → List Turn → List Line

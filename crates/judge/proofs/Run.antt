@@ -13,7 +13,7 @@ use Rattle.wire.proofs.CheckLaws.{passed}
 use Rattle.tables.specs.Card.{Card, fresh}
 use Rattle.tables.specs.Layout.{stateSize}
 use Rattle.rules.specs.Answer.{answered, number, isDone}
-use Rattle.rules.specs.Call.{Call, memoryOf, Outcome}
+use Rattle.rules.specs.Call.{Call, given, memoryOf, Outcome}
 use Rattle.rules.specs.Calls.{checks, effect, statusOf, memoryAfter, bufferRefused, settled, step, owed, usable, Result, Meets}
 use Rattle.rules.specs.declared.Answer.{Answer}
 use Rattle.rules.specs.declared.Cause.{Cause}
@@ -147,13 +147,11 @@ module _ (cardOf : List ℕ → Card) (accepts : List ℕ → Bool) where
   -- every state of a list is accepted where one is
   module _ (sized : (l : List ℕ) → accepts l ≡ true → eqb (length l) stateSize ≡ true) where
     usable-accepted : (l : List ℕ) (k : Call) → accepts l ≡ true → usable cardOf accepts l k ≡ true
-    usable-accepted l (Call.reset n) e = sized l e
-    usable-accepted l (Call.control k a) e = e
-    usable-accepted l (Call.registerPages k ps a) e = e
-    usable-accepted l (Call.send q y m) e = e
-    usable-accepted l (Call.receive q y) e = e
-    usable-accepted l (Call.flush q) e = e
-    usable-accepted l (Call.poll n b) e = e
+    usable-accepted l k e = go (given k .whole)
+      where
+        go : (b : Bool) → cond b (accepts l) (eqb (length l) stateSize) ≡ true
+        go true = e
+        go false = sized l e
 
     not-15 : (l : List ℕ) (x : Seen) → Met cardOf accepts l x → accepts l ≡ true → eqb (number (x .left .answer)) 15 ≡ false
     not-15 l x h e =

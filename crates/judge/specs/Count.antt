@@ -14,24 +14,24 @@ use Rattle.tables.specs.declared.Completion.{Completion}
 use Rattle.rules.specs.declared.Answer.{Answer}
 use Rattle.rules.specs.declared.Answer.the-variants.{Done, Held, Refused}
 use Rattle.rules.specs.Lists.{when, maybe}
-use Rattle.rules.specs.Touch.{requestOf, receiveIn}
 use Rattle.rules.specs.Send.{Put, sendPuts, sendStatus}
 use Rattle.rules.specs.Queues.{flushPut, joinPuts}
-use Rattle.rules.specs.Call.{Call}
+use Rattle.rules.specs.Call.{Call, OnPair, given}
 use Rattle.judge.specs.Log.{Log, Note, PairNote, entry, note, begins}
 use Rattle.judge.specs.Demand3.{Seen, Claim, heard, stateAfter, Linked, Begins}
 
 -- ---- completions put
 
--- the completions that a call puts when it is done
+-- the completions that a call puts when it is done, by what it does on a queue pair
+unfoldable pub putsOn : Card → OnPair → List Put
+putsOn c OnPair.nothing = []
+putsOn c (OnPair.sends q r) = sendPuts c q r (sendStatus c q r)
+putsOn c (OnPair.receives q w) = joinPuts c q w
+putsOn c (OnPair.flushes q) = flushPut c q ∷ []
+
 unfoldable pub puts : Card → Call → List Put
-puts c (Call.reset n) = []
-puts c (Call.control k a) = []
-puts c (Call.registerPages k ps a) = []
-puts c (Call.send q x m) = sendPuts c q (requestOf x) (sendStatus c q (requestOf x))
-puts c (Call.receive q x) = joinPuts c q (receiveIn x)
-puts c (Call.flush q) = flushPut c q ∷ []
-puts c (Call.poll n b) = []
+unfolding putsOn
+puts c k = putsOn c (given k .pair)
 
 -- those that go into queue n
 unfoldable pub putInto : (n : ℕ) → List Put → List Completion

@@ -11,8 +11,8 @@ use Rattle.tables.specs.Card.{Card}
 use Rattle.rules.specs.declared.Answer.{Answer}
 use Rattle.rules.specs.declared.Answer.the-variants.{Done, Held, Refused}
 use Rattle.rules.specs.Answer.{number}
-use Rattle.rules.specs.Call.{Call, memoryOf, Outcome}
-use Rattle.rules.specs.Touch.{Byte, requestOf, total}
+use Rattle.rules.specs.Call.{Call, OnPair, given, memoryOf, Outcome}
+use Rattle.rules.specs.Touch.{Byte, total}
 use Rattle.judge.specs.Log.{Log, begins, fed}
 use Rattle.judge.specs.Judge.{errored, flushesAtOnce, Party, Right, passes, placed, Work, judge, judgedMemory, writtenSide, Source, sources, valueOf}
 
@@ -91,14 +91,14 @@ stateAfter st [] = st
 stateAfter st (x ∷ xs) = stateAfter (x .left .state) xs
 
 -- the work request that a call runs, if it does, seen with the log before it: a post send's
+abbrev pub workIn : OnPair → Option Work
+workIn OnPair.nothing = none
+workIn (OnPair.sends q r) = some (record { qpn = q; request = r })
+workIn (OnPair.receives q w) = none
+workIn (OnPair.flushes q) = none
+
 abbrev pub workBy : Log → Call → Outcome → Option Work
-workBy l (Call.reset n) o = none
-workBy l (Call.control k a) o = none
-workBy l (Call.registerPages k ps a) o = none
-workBy l (Call.send q x m) o = some (record { qpn = q; request = requestOf x })
-workBy l (Call.receive q x) o = none
-workBy l (Call.flush q) o = none
-workBy l (Call.poll n b) o = none
+workBy l k o = workIn (given k .pair)
 
 abbrev pub work : Log → Seen → Option Work
 work l x = workBy l (x .call) (x .left)
@@ -120,14 +120,14 @@ OfWork P st l x = Ran (λ w s. P l w s (memoryOf (x .call)) (x .left .memory)) (
 -- ---- what is claimed of a post receive
 
 -- the queue pair that it is posted on
+abbrev pub postedIn : OnPair → Option ℕ
+postedIn OnPair.nothing = none
+postedIn (OnPair.sends q r) = none
+postedIn (OnPair.receives q w) = some q
+postedIn (OnPair.flushes q) = none
+
 abbrev pub postedOn : Call → Option ℕ
-postedOn (Call.reset n) = none
-postedOn (Call.control k a) = none
-postedOn (Call.registerPages k ps a) = none
-postedOn (Call.send q x m) = none
-postedOn (Call.receive q x) = some q
-postedOn (Call.flush q) = none
-postedOn (Call.poll n b) = none
+postedOn k = postedIn (given k .pair)
 
 -- done, it has status 4 where the log puts its queue pair in error and no older receive waits there, else 0
 abbrev pub FlushedBy : Log → Option ℕ → Answer → Type 0

@@ -6,13 +6,13 @@ use Prim.Native.Nat.{ℕ, _+_}
 use lib.ListN.{getD, take, drop}
 use Rattle.wire.specs.Codec.{fieldsAt}
 use Rattle.tables.specs.Card.{Receive}
-use Rattle.tables.specs.Commands.{Command, commandOf, ackFields}
+use Rattle.tables.specs.Commands.{Command, commandOf, ackNumbers, ackFields}
 use Rattle.tables.specs.declared.CreateQp.{CreateQp}
 use Rattle.tables.specs.declared.ModifyQp.{ModifyQp}
 use Rattle.tables.specs.declared.Registration.{Registration}
 use Rattle.rules.specs.declared.Answer.{Answer}
 use Rattle.rules.specs.declared.Answer.the-variants.{Done, Held, Refused}
-use Rattle.rules.specs.Call.{Call, registrationIn}
+use Rattle.rules.specs.Call.{Call, given, registrationIn}
 use Rattle.rules.specs.Touch.{Request, requestOf, receiveIn}
 use Rattle.rules.specs.Lists.{maybe}
 
@@ -24,33 +24,13 @@ pub record Entry : Type 0 where
   pub status : ℕ
   pub ack : List ℕ
 
--- how many numbers the ack of a command has: the column "Ack data"; the judge reads no query's report
-abbrev pub ackNumbers : Command → ℕ
-ackNumbers Command.queryDevice = 0
-ackNumbers Command.queryPort = 0
-ackNumbers (Command.createCq n) = 1
-ackNumbers (Command.destroyCq n) = 0
-ackNumbers Command.createPd = 1
-ackNumbers (Command.destroyPd n) = 0
-ackNumbers (Command.register g) = 3
-ackNumbers (Command.deregister n) = 0
-ackNumbers (Command.createQp r) = 1
-ackNumbers (Command.modifyQp r) = 0
-ackNumbers (Command.destroyQp q) = 0
-
 -- they are read out of the answer buffer after the call, by the layout that they were written by
 unfoldable pub ackData : Command → (b : List ℕ) → List ℕ
 ackData k b = drop 1 (fieldsAt (take (1 + ackNumbers k) ackFields) b 0)
 
 -- control commands have ack data, and so has a registration over pages, which is command 7's; other calls have none
 abbrev pub ackOf : Call → (b : List ℕ) → List ℕ
-ackOf (Call.reset n) b = []
-ackOf (Call.control k a) b = maybe [] (λ c. ackData c b) (commandOf k)
-ackOf (Call.registerPages k ps a) b = ackData (Command.register (registrationIn k)) b
-ackOf (Call.send q x m) b = []
-ackOf (Call.receive q x) b = []
-ackOf (Call.flush q) b = []
-ackOf (Call.poll n a) b = []
+ackOf k b = maybe [] (λ c. ackData c b) (given k .command)
 
 -- of the call k, done with the status s; b is the answer buffer after it
 abbrev pub entry : Call → (s : ℕ) → (b : List ℕ) → Entry

@@ -28,11 +28,11 @@ use Rattle.rules.specs.Touch.{Request, requestOf, fills, total, sgeTotal
 use Rattle.rules.specs.Permit.{permitsAll}
 use Rattle.rules.specs.Send.{pairChecks, readyChecks, placeChecks, holdChecks, deliveryChecks, isInError, peerOf, takenBy, ownUse, farUse, statusBy, runStatus, sendStatus}
 use Rattle.rules.specs.Queues.{flushesAtOnce, joinChecks, joinStatus, flushChecks, pollChecks}
-use Rattle.rules.specs.Call.{Call, memoryOf}
+use Rattle.rules.specs.Call.{Call, Buffer, given, memoryOf}
 use Rattle.rules.specs.Pages.{pageRecordChecks, pageListChecks}
 use Rattle.rules.proofs.Ranges.{all-split}
-use Rattle.rules.specs.Demand1.{ackLeft, bufferLeft, Returns, Demand1}
-use Rattle.rules.specs.Calls.{checks, resetChecks, controlChecks, bufferChecks, settled, step, statusOf, owed, owedChecks, usable, ackRefused, bufferRefused, Result}
+use Rattle.rules.specs.Demand1.{ackLeft, leftBy, bufferLeft, Returns, Demand1}
+use Rattle.rules.specs.Calls.{checks, resetChecks, controlChecks, bufferChecks, settled, step, statusOf, owed, owedChecks, usable, ackRefused, refusedBy, bufferRefused, Result}
 use Rattle.rules.specs.Lists.{maybe}
 
 -- ---- a fact of every test's number is one of the refusal's
@@ -271,14 +271,10 @@ module _ (cardOf : List ℕ → Card) (accepts : List ℕ → Bool) where
 ack-left : (n : ℕ) (a : List ℕ) → ackRefused n a ≡ ackLeft n a
 ack-left n a = ap (λ (x : List ℕ). cond (eqb n 12 || eqb n 15) a x) (error-ack a)
 
-buffer-left : (n : ℕ) (k : Call) → bufferRefused n k ≡ bufferLeft n k
-buffer-left n (Call.reset k) = refl
-buffer-left n (Call.control k a) = ack-left n a
-buffer-left n (Call.registerPages k ps a) = ack-left n a
-buffer-left n (Call.send q x m) = refl
-buffer-left n (Call.receive q x) = refl
-buffer-left n (Call.flush q) = refl
-buffer-left n (Call.poll k b) = refl
+buffer-left : (n : ℕ) (b : Buffer) → refusedBy n b ≡ leftBy n b
+buffer-left n Buffer.no-buffer = refl
+buffer-left n (Buffer.for-ack a) = ack-left n a
+buffer-left n (Buffer.for-completion b) = refl
 
 module _ (l : List ℕ) (k : Call) (r : ℕ) (l′ m′ b′ : List ℕ) where
   -- a call that is done
@@ -303,7 +299,7 @@ module _ (l : List ℕ) (k : Call) (r : ℕ) (l′ m′ b′ : List ℕ) where
         status = λ u. omega arith;
         state = λ u. i;
         memory = λ u. j;
-        buffer = λ u. b ∙ buffer-left n k ∙ ap (λ (y : ℕ). bufferLeft y k) (sym z);
+        buffer = λ u. b ∙ buffer-left n (given k .buffer) ∙ ap (λ (y : ℕ). bufferLeft y k) (sym z);
       }
 
 pub demand1 : Demand1

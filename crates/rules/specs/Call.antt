@@ -1,9 +1,14 @@
 -- The card's calls, each with the bytes and numbers that it is lent, and what a call leaves. Assumes nothing.
+use mathlib.Core.Bool.{Bool, true, false}
 use mathlib.Core.List.{List, []}
+use mathlib.Core.Option.{Option, none, some}
 use Prim.Native.Nat.{ℕ}
 use Rattle.wire.specs.Codec.{decode}
-use Rattle.tables.specs.Commands.{registerCodec}
+use Rattle.tables.specs.Card.{Receive}
+use Rattle.tables.specs.Commands.{Command, commandOf, registerCodec}
 use Rattle.tables.specs.declared.Registration.{Registration}
+use Rattle.rules.specs.Lists.{orElse}
+use Rattle.rules.specs.Touch.{Request, requestOf, receiveIn}
 use Rattle.rules.specs.declared.Answer.{Answer}
 
 pub data Call : Type 0 where
@@ -21,19 +26,51 @@ pub data Call : Type 0 where
   -- the buffer for a completion, as it was
   poll : (cqn : ℕ) (buffer : List ℕ) → Call
 
--- the memory lent to a call
-abbrev pub memoryOf : Call → List ℕ
-memoryOf (reset n) = []
-memoryOf (control k a) = []
-memoryOf (registerPages k ps a) = []
-memoryOf (send q x m) = m
-memoryOf (receive q x) = []
-memoryOf (flush q) = []
-memoryOf (poll n b) = []
-
 -- the registration that the record of command 7 holds
 abbrev pub registrationIn : (command : List ℕ) → Registration
 registrationIn k = decode registerCodec k 2
+
+-- ---- what a call is given
+
+-- the answer buffer that it is lent, as it was
+pub data Buffer : Type 0 where
+  no-buffer : Buffer
+  for-ack : (bytes : List ℕ) → Buffer
+  for-completion : (bytes : List ℕ) → Buffer
+
+-- what it does on a queue pair
+pub data OnPair : Type 0 where
+  nothing : OnPair
+  sends : (qpn : ℕ) → Request → OnPair
+  receives : (qpn : ℕ) → Receive → OnPair
+  flushes : (qpn : ℕ) → OnPair
+
+pub record Given : Type 0 where
+  -- the state is tested whole, and not its length alone
+  pub whole : Bool
+  -- the memory, where it is lent
+  pub memory : Option (List ℕ)
+  pub buffer : Buffer
+  -- the control command that it runs
+  pub command : Option Command
+  pub pair : OnPair
+
+-- "Reset tests only the length"; 02, M-105: "command 7's record"
+abbrev pub given : Call → Given
+given (reset n) = record { whole = false; memory = none; buffer = no-buffer; command = none; pair = nothing }
+given (control k a) = record { whole = true; memory = none; buffer = for-ack a; command = commandOf k; pair = nothing }
+given (registerPages k ps a) =
+    record { whole = true; memory = none; buffer = for-ack a; command = some (Command.register (registrationIn k)); pair = nothing }
+given (send q x m) = record { whole = true; memory = some m; buffer = no-buffer; command = none; pair = sends q (requestOf x) }
+given (receive q x) = record { whole = true; memory = none; buffer = no-buffer; command = none; pair = receives q (receiveIn x) }
+given (flush q) = record { whole = true; memory = none; buffer = no-buffer; command = none; pair = flushes q }
+given (poll n b) = record { whole = true; memory = none; buffer = for-completion b; command = none; pair = nothing }
+
+-- the memory lent to a call
+abbrev pub memoryOf : Call → List ℕ
+memoryOf k = orElse (given k .memory) []
+
+-- ---- what it leaves
 
 -- what can be seen of a call that returned: its answer, and the state, the memory and the answer buffer that it left
 pub record Outcome : Type 0 where

@@ -23,7 +23,7 @@ use Rattle.rules.specs.Control.{commandChecks, commandAck, commandEffect
 use Rattle.rules.specs.Pages.{pageRecordChecks, pageListChecks}
 use Rattle.rules.specs.Send.{deliveryChecks, sendStatus, sendEffect, sendMemory}
 use Rattle.rules.specs.Queues.{joinChecks, joinStatus, received, flushChecks, flushed, pollChecks, polled, oldestEntry}
-use Rattle.rules.specs.Call.{Call, memoryOf, registrationIn, Outcome}
+use Rattle.rules.specs.Call.{Call, Buffer, given, memoryOf, registrationIn, Outcome}
 
 -- ---- the tests
 
@@ -42,56 +42,69 @@ controlChecks k a =
 unfoldable pub bufferChecks : List ℕ → List Check
 bufferChecks b = 12 if ltb (length b) (completionCodec .size) ∷ []
 
--- the whole order of each call, after 15
+-- ---- each call
+
+-- Its tests, the whole order after 15; and where they pass the status, the card, the memory and the answer buffer after it. "Status is 0
+-- outside work requests", but for a receive that is flushed: 02, M-103, "status 4".
+pub record CallRule : Type 0 where
+  pub checks : List Check
+  pub status : ℕ
+  pub card : Card
+  pub memory : List ℕ
+  pub buffer : List ℕ
+
+-- a call with no status that leaves the answer buffer b, and one that is lent none
+abbrev pub fills : List Check → Card → (b : List ℕ) → CallRule
+fills ts c b = record { checks = ts; status = 0; card = c; memory = []; buffer = b }
+
+abbrev pub does : List Check → Card → CallRule
+does ts c = fills ts c []
+
+unfoldable pub callRule : Card → Call → CallRule
+callRule c (Call.reset n) = does (resetChecks n) (fresh n)
+-- "On OK the ack byte and its data are written, later bytes stay"
+callRule c (Call.control k a) =
+    fills (controlChecks k a ++ maybe [] (commandChecks c) (commandOf k)) (maybe c (commandEffect c) (commandOf k))
+    (maybe a (λ q. encodeAck (commandAck c q) a) (commandOf k))
+-- 02, M-105: "command 7's .. ack as before"
+callRule c (Call.registerPages k ps a) =
+    fills (pageRecordChecks k a ++ pageListChecks c (registrationIn k) ps) (registered c (registrationIn k) ps)
+    (encodeAck (commandAck c (Command.register (registrationIn k))) a)
+callRule c (Call.send q x m) =
+    let r = requestOf x in
+    record {
+      checks = 7 if not (eqb (length m) (c .memory)) ∷ (sendChecks x ++ deliveryChecks c q r);
+      status = sendStatus c q r;
+      card = sendEffect c q r;
+      memory = sendMemory c q r m;
+      buffer = [];
+    }
+callRule c (Call.receive q x) =
+    record { checks = receiveChecks x ++ joinChecks c q; status = joinStatus c q; card = received c q (receiveIn x); memory = []; buffer = [] }
+callRule c (Call.flush q) = does (flushChecks c q) (flushed c q)
+-- a completion "fills the first 24 bytes"
+callRule c (Call.poll n b) = fills (bufferChecks b ++ pollChecks c n) (polled c n) (encode completionCodec b 0 (oldestEntry c n))
+
+-- its parts, by name
 unfoldable pub checks : Card → Call → List Check
-checks c (Call.reset n) = resetChecks n
-checks c (Call.control k a) = controlChecks k a ++ maybe [] (commandChecks c) (commandOf k)
-checks c (Call.registerPages k ps a) = pageRecordChecks k a ++ pageListChecks c (registrationIn k) ps
-checks c (Call.send q x m) = 7 if not (eqb (length m) (c .memory)) ∷ (sendChecks x ++ deliveryChecks c q (requestOf x))
-checks c (Call.receive q x) = receiveChecks x ++ joinChecks c q
-checks c (Call.flush q) = flushChecks c q
-checks c (Call.poll n b) = bufferChecks b ++ pollChecks c n
+unfolding callRule
+checks c k = callRule c k .checks
 
--- ---- a call that passes them
-
--- "Status is 0 outside work requests", but for a receive that is flushed: 02, M-103, "status 4"
 unfoldable pub statusOf : Card → Call → ℕ
-statusOf c (Call.reset n) = 0
-statusOf c (Call.control k a) = 0
-statusOf c (Call.registerPages k ps a) = 0
-statusOf c (Call.send q x m) = sendStatus c q (requestOf x)
-statusOf c (Call.receive q x) = joinStatus c q
-statusOf c (Call.flush q) = 0
-statusOf c (Call.poll n b) = 0
+unfolding callRule
+statusOf c k = callRule c k .status
 
 unfoldable pub effect : Card → Call → Card
-effect c (Call.reset n) = fresh n
-effect c (Call.control k a) = maybe c (commandEffect c) (commandOf k)
-effect c (Call.registerPages k ps a) = registered c (registrationIn k) ps
-effect c (Call.send q x m) = sendEffect c q (requestOf x)
-effect c (Call.receive q x) = received c q (receiveIn x)
-effect c (Call.flush q) = flushed c q
-effect c (Call.poll n b) = polled c n
+unfolding callRule
+effect c k = callRule c k .card
 
 unfoldable pub memoryAfter : Card → Call → List ℕ
-memoryAfter c (Call.reset n) = []
-memoryAfter c (Call.control k a) = []
-memoryAfter c (Call.registerPages k ps a) = []
-memoryAfter c (Call.send q x m) = sendMemory c q (requestOf x) m
-memoryAfter c (Call.receive q x) = []
-memoryAfter c (Call.flush q) = []
-memoryAfter c (Call.poll n b) = []
+unfolding callRule
+memoryAfter c k = callRule c k .memory
 
--- "On OK the ack byte and its data are written, later bytes stay"; 02, M-105: "command 7's .. ack as before"; a completion "fills the first 24
--- bytes"
 unfoldable pub bufferAfter : Card → Call → List ℕ
-bufferAfter c (Call.reset n) = []
-bufferAfter c (Call.control k a) = maybe a (λ q. encodeAck (commandAck c q) a) (commandOf k)
-bufferAfter c (Call.registerPages k ps a) = encodeAck (commandAck c (Command.register (registrationIn k))) a
-bufferAfter c (Call.send q x m) = []
-bufferAfter c (Call.receive q x) = []
-bufferAfter c (Call.flush q) = []
-bufferAfter c (Call.poll n b) = encode completionCodec b 0 (oldestEntry c n)
+unfolding callRule
+bufferAfter c k = callRule c k .buffer
 
 -- ---- a call that does not
 
@@ -99,14 +112,13 @@ bufferAfter c (Call.poll n b) = encode completionCodec b 0 (oldestEntry c n)
 abbrev pub ackRefused : (n : ℕ) → (ack : List ℕ) → List ℕ
 ackRefused n a = cond (eqb n 12 || eqb n 15) a (encodeAck ack.Error a)
 
+abbrev pub refusedBy : (n : ℕ) → Buffer → List ℕ
+refusedBy n Buffer.no-buffer = []
+refusedBy n (Buffer.for-ack a) = ackRefused n a
+refusedBy n (Buffer.for-completion b) = b
+
 abbrev pub bufferRefused : (n : ℕ) → Call → List ℕ
-bufferRefused n (Call.reset k) = []
-bufferRefused n (Call.control k a) = ackRefused n a
-bufferRefused n (Call.registerPages k ps a) = ackRefused n a
-bufferRefused n (Call.send q x m) = []
-bufferRefused n (Call.receive q x) = []
-bufferRefused n (Call.flush q) = []
-bufferRefused n (Call.poll k b) = b
+bufferRefused n k = refusedBy n (given k .buffer)
 
 -- ---- one call
 
@@ -128,13 +140,7 @@ step c k = settled (refusal (checks c k)) c k
 module _ (cardOf : List ℕ → Card) (accepts : List ℕ → Bool) where
   -- "Every call tests it before all else"; "Reset tests only the length"
   abbrev pub usable : List ℕ → Call → Bool
-  usable l (Call.reset n) = eqb (length l) stateSize
-  usable l (Call.control k a) = accepts l
-  usable l (Call.registerPages k ps a) = accepts l
-  usable l (Call.send q x m) = accepts l
-  usable l (Call.receive q x) = accepts l
-  usable l (Call.flush q) = accepts l
-  usable l (Call.poll n b) = accepts l
+  usable l k = cond (given k .whole) (accepts l) (eqb (length l) stateSize)
 
   -- the whole order of each call
   abbrev pub owedChecks : List ℕ → Call → List Check

@@ -15,6 +15,7 @@ use Rattle.validate.specs.Accept.{isState, accessOk}
 use Rattle.tables.specs.Commands.{Command}
 use Rattle.tables.specs.declared.Ack.{Ack}
 use Rattle.tables.specs.declared.Ack.the-variants as ack
+use Rattle.tables.specs.declared.CreateQp.{CreateQp}
 use Rattle.tables.specs.declared.Device.{Device}
 use Rattle.tables.specs.declared.ModifyQp.{ModifyQp}
 use Rattle.tables.specs.declared.Port.{Port}
@@ -44,7 +45,7 @@ rightsBit = 4
 abbrev pub destBit : ℕ
 destBit = 32768
 
--- ---- the tests of each command, in the order 4, 2, 11, 3, 10, 8
+-- ---- registrations
 
 -- "Range (11): length 0; start + length over the memory length; virt + length over 2^64 − 1"
 abbrev pub rangeChecks : Card → Registration → List Check
@@ -61,16 +62,11 @@ registrationChecks c g range =
     2 if not (c .pd (g .pd)) ∷
     (range ++ (8 if leb mrCount (freeMrn c) ∷ []))
 
-unfoldable pub commandChecks : Card → Command → List Check
-commandChecks c Command.queryDevice = []
-commandChecks c Command.queryPort = []
-commandChecks c (Command.createCq n) = 4 if not (leb 1 n && leb n mostPlaces) ∷ 8 if leb cqCount (freeCqn c) ∷ []
-commandChecks c (Command.destroyCq n) = 2 if not (cqLive c n) ∷ 10 if cqInUse c n ∷ []
-commandChecks c Command.createPd = 8 if leb pdCount (freePdn c) ∷ []
-commandChecks c (Command.destroyPd n) = 2 if not (c .pd n) ∷ 10 if pdInUse c n ∷ []
-commandChecks c (Command.register g) = registrationChecks c g (rangeChecks c g)
-commandChecks c (Command.deregister n) = 2 if not (c .mr n .live) ∷ []
-commandChecks c (Command.createQp r) =
+-- ---- queue pairs: their tests
+
+-- "type not 2 (RC); signal above 1"
+abbrev pub creationChecks : Card → CreateQp → List Check
+creationChecks c r =
     4 if not (eqb (r .kind) 2) ∷
     4 if ltb 1 (r .signal) ∷
     2 if not (c .pd (r .pd)) ∷
@@ -78,7 +74,11 @@ commandChecks c (Command.createQp r) =
     2 if not (cqLive c (r .rcq)) ∷
     8 if leb qpCount (freeQpn c) ∷
     []
-commandChecks c (Command.modifyQp r) =
+
+-- "Modify: mask with bits other than 0 and 15, or without bit 0; state 4, 5 or above 6; a padding byte not zero; bit 15 set unless state is 2, or
+-- clear when it is; with bit 15, a destination above 7 or equal to qpn"; 02, M-104: "flag bits above 2 give 4"
+abbrev pub moveChecks : Card → ModifyQp → List Check
+moveChecks c r =
     4 if not (only (stateBit + rightsBit + destBit) (r .mask)) ∷
     4 if not (has stateBit (r .mask)) ∷
     4 if not (isState (r .state)) ∷
@@ -90,7 +90,6 @@ commandChecks c (Command.modifyQp r) =
     2 if not (c .qp (r .qpn) .live) ∷
     3 if not (isMove (c .qp (r .qpn) .state) (r .state)) ∷
     []
-commandChecks c (Command.destroyQp q) = 2 if not (c .qp q .live) ∷ []
 
 -- ---- the acks: 01's column "ack data", and what a query reports
 
@@ -112,20 +111,12 @@ portOf c = record { gids = 0; message = mostMessage }
 abbrev pub newKeys : Card → Ack
 newKeys c = ack.Keys (freeMrn c) (keyOf (freeMrn c) (newVariant c))
 
-unfoldable pub commandAck : Card → Command → Ack
-commandAck c Command.queryDevice = ack.Device (deviceOf c)
-commandAck c Command.queryPort = ack.Port (portOf c)
-commandAck c (Command.createCq n) = ack.Number (freeCqn c)
-commandAck c (Command.destroyCq n) = ack.Done
-commandAck c Command.createPd = ack.Number (freePdn c)
-commandAck c (Command.destroyPd n) = ack.Done
-commandAck c (Command.register g) = newKeys c
-commandAck c (Command.deregister n) = ack.Done
-commandAck c (Command.createQp r) = ack.Number (freeQpn c)
-commandAck c (Command.modifyQp r) = ack.Done
-commandAck c (Command.destroyQp q) = ack.Done
-
 -- ---- the card after it
+
+-- "A new QP is in 0"
+abbrev pub created : CreateQp → Qp
+created r =
+    record { live = true; pd = r .pd; signal = r .signal; scq = r .scq; rcq = r .rcq; state = 0; dest = none; rights = 0; waiting = [] }
 
 -- 02, M-104: "The QP's flags are 0 .. after a move to reset, even one with bit 2"; another move with bit 2 sets them, and "without bit 2 the
 -- number is ignored"
@@ -152,18 +143,44 @@ moved s r =
 abbrev pub registered : Card → Registration → (pages : List ℕ) → Card
 registered c g ps = withMr c (upd (c .mr) (freeMrn c) (record { live = true; variant = newVariant c; reg = g; pages = ps }))
 
+-- ---- each command
+
+-- its tests in the order 4, 2, 11, 3, 10, 8; its ack where they pass, by 01's column "ack data", and the card after it
+pub record Rule : Type 0 where
+  pub checks : List Check
+  pub ack : Ack
+  pub card : Card
+
+abbrev pub does : List Check → Ack → Card → Rule
+does ts a c = record { checks = ts; ack = a; card = c }
+
+unfoldable pub rule : Card → Command → Rule
+rule c Command.queryDevice = does [] (ack.Device (deviceOf c)) c
+rule c Command.queryPort = does [] (ack.Port (portOf c)) c
+rule c (Command.createCq n) =
+    does (4 if not (leb 1 n && leb n mostPlaces) ∷ 8 if leb cqCount (freeCqn c) ∷ []) (ack.Number (freeCqn c))
+    (withCq c (upd (c .cq) (freeCqn c) (record { live = true; places = n; entries = [] })))
+-- "a CQ named by a live QP"; its destruction drops "its unread completions"
+rule c (Command.destroyCq n) = does (2 if not (cqLive c n) ∷ 10 if cqInUse c n ∷ []) ack.Done (withCq c (upd (c .cq) n freeCq))
+rule c Command.createPd = does (8 if leb pdCount (freePdn c) ∷ []) (ack.Number (freePdn c)) (withPd c (upd (c .pd) (freePdn c) true))
+-- "a PD with a live MR or QP"
+rule c (Command.destroyPd n) = does (2 if not (c .pd n) ∷ 10 if pdInUse c n ∷ []) ack.Done (withPd c (upd (c .pd) n false))
+rule c (Command.register g) = does (registrationChecks c g (rangeChecks c g)) (newKeys c) (registered c g [])
+rule c (Command.deregister n) = does (2 if not (c .mr n .live) ∷ []) ack.Done (withMr c (upd (c .mr) n (freeMr (c .mr n .variant))))
+rule c (Command.createQp r) = does (creationChecks c r) (ack.Number (freeQpn c)) (withQp c (upd (c .qp) (freeQpn c) (created r)))
+rule c (Command.modifyQp r) = does (moveChecks c r) ack.Done (withQp c (upd (c .qp) (r .qpn) (moved (c .qp (r .qpn)) r)))
+-- "Destroying a QP drops its receives"
+rule c (Command.destroyQp q) = does (2 if not (c .qp q .live) ∷ []) ack.Done (withQp c (upd (c .qp) q freeQp))
+
+-- its parts, by name
+unfoldable pub commandChecks : Card → Command → List Check
+unfolding rule
+commandChecks c k = rule c k .checks
+
+unfoldable pub commandAck : Card → Command → Ack
+unfolding rule
+commandAck c k = rule c k .ack
+
 unfoldable pub commandEffect : Card → Command → Card
-commandEffect c Command.queryDevice = c
-commandEffect c Command.queryPort = c
-commandEffect c (Command.createCq n) = withCq c (upd (c .cq) (freeCqn c) (record { live = true; places = n; entries = [] }))
-commandEffect c (Command.destroyCq n) = withCq c (upd (c .cq) n freeCq)
-commandEffect c Command.createPd = withPd c (upd (c .pd) (freePdn c) true)
-commandEffect c (Command.destroyPd n) = withPd c (upd (c .pd) n false)
-commandEffect c (Command.register g) = registered c g []
-commandEffect c (Command.deregister n) = withMr c (upd (c .mr) n (freeMr (c .mr n .variant)))
-commandEffect c (Command.createQp r) =
-    withQp c
-    (upd (c .qp) (freeQpn c)
-    (record { live = true; pd = r .pd; signal = r .signal; scq = r .scq; rcq = r .rcq; state = 0; dest = none; rights = 0; waiting = [] }))
-commandEffect c (Command.modifyQp r) = withQp c (upd (c .qp) (r .qpn) (moved (c .qp (r .qpn)) r))
-commandEffect c (Command.destroyQp q) = withQp c (upd (c .qp) q freeQp)
+unfolding rule
+commandEffect c k = rule c k .card

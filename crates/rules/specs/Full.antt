@@ -8,10 +8,10 @@ use lib.ListN.{length}
 use Rattle.wire.specs.Checks.{Check, _if_, refusal}
 use Rattle.wire.specs.Scan.{anyBelow}
 use Rattle.tables.specs.Card.{Card, cqLive}
-use Rattle.tables.specs.Commands.{Command, commandOf}
+use Rattle.tables.specs.Commands.{Command}
 use Rattle.tables.specs.Limits.{pdCount, cqCount, mrCount, qpCount, mostWaiting}
 use Rattle.validate.specs.Search.{vacant}
-use Rattle.rules.specs.Call.{Call}
+use Rattle.rules.specs.Call.{Call, OnPair, given}
 use Rattle.rules.specs.Calls.{checks}
 use Rattle.rules.specs.Lists.{maybe}
 
@@ -37,15 +37,16 @@ tableFull c (Command.createQp r) = noneFree qpCount (λ i. not (c .qp i .live))
 tableFull c (Command.modifyQp r) = false
 tableFull c (Command.destroyQp q) = false
 
+-- of the receive queue that a call posts on
+abbrev pub queueFull : Card → OnPair → Bool
+queueFull c OnPair.nothing = false
+queueFull c (OnPair.sends q r) = false
+queueFull c (OnPair.receives q w) = leb mostWaiting (length (c .qp q .waiting))
+queueFull c (OnPair.flushes q) = false
+
 -- no number, or no place in the receive queue, is free for the call
 abbrev pub isFull : Card → Call → Bool
-isFull c (Call.reset n) = false
-isFull c (Call.control k a) = maybe false (tableFull c) (commandOf k)
-isFull c (Call.registerPages k ps a) = noRegionFree c
-isFull c (Call.send q x m) = false
-isFull c (Call.receive q x) = leb mostWaiting (length (c .qp q .waiting))
-isFull c (Call.flush q) = false
-isFull c (Call.poll n b) = false
+isFull c k = maybe (queueFull c (given k .pair)) (tableFull c) (given k .command)
 
 -- the tests with another answer than 8
 abbrev pub others : List Check → List Check

@@ -5,12 +5,12 @@ use mathlib.Core.Bool.{Bool, false, cond, not, _&&_, _||_}
 use Prim.Native.Nat.{ℕ}
 use Rattle.tables.specs.Card.{Card}
 use Rattle.rules.specs.Answer.{isHeld}
-use Rattle.rules.specs.Call.{Call}
+use Rattle.rules.specs.Call.{Call, OnPair, given}
 use Rattle.rules.specs.Calls.{step}
 use Rattle.rules.specs.Lists.{isEmpty}
 use Rattle.rules.specs.Queues.{flushesAtOnce}
 use Rattle.rules.specs.Send.{peerOf, ready, room, hasPlaces, isInError}
-use Rattle.rules.specs.Touch.{requestOf, takes}
+use Rattle.rules.specs.Touch.{takes}
 
 -- step 1: "Peer (destination) none, not live, not in 2 or 3, or not naming this QP back"; "Opcodes 1, 2, 3 with no receive waiting there"
 abbrev pub lacksPeer : Card → (q opcode : ℕ) → Bool
@@ -24,20 +24,20 @@ lacksPlaces c q o = not (hasPlaces c q (peerOf c q) o)
 abbrev pub noPlace : Card → (n : ℕ) → Bool
 noPlace c n = not (room (c .cq n) 1)
 
+-- where what a call does on a queue pair may be held
+abbrev pub holdsOn : Card → OnPair → Bool
+holdsOn c OnPair.nothing = false
+-- steps 1 and 2; 02, M-103: "in state 6 .. with one free place in its own send .. CQ"
+holdsOn c (OnPair.sends q r) =
+    cond (isInError (c .qp q)) (noPlace c (c .qp q .scq)) (lacksPeer c q (r .opcode) || lacksPlaces c q (r .opcode))
+-- 02, M-103: "its own .. receive CQ"; "if any wait, a receive joins the queue (.. no place needed)"
+holdsOn c (OnPair.receives q w) = flushesAtOnce c q && noPlace c (c .qp q .rcq)
+-- "Flush one: .. no place 6"
+holdsOn c (OnPair.flushes q) = noPlace c (c .qp q .rcq)
+
 -- where a call on the card may be held
 abbrev pub mayHold : Card → Call → Bool
-mayHold c (Call.reset n) = false
-mayHold c (Call.control k a) = false
-mayHold c (Call.registerPages k ps a) = false
--- steps 1 and 2; 02, M-103: "in state 6 .. with one free place in its own send .. CQ"
-mayHold c (Call.send q x m) =
-    let o = requestOf x .opcode in
-    cond (isInError (c .qp q)) (noPlace c (c .qp q .scq)) (lacksPeer c q o || lacksPlaces c q o)
--- 02, M-103: "its own .. receive CQ"; "if any wait, a receive joins the queue (.. no place needed)"
-mayHold c (Call.receive q x) = flushesAtOnce c q && noPlace c (c .qp q .rcq)
--- "Flush one: .. no place 6"
-mayHold c (Call.flush q) = noPlace c (c .qp q .rcq)
-mayHold c (Call.poll n b) = false
+mayHold c k = holdsOn c (given k .pair)
 
 -- "are the only holds"
 unfoldable pub OnlyHolds : Type 0

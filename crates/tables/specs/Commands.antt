@@ -121,36 +121,54 @@ pub data Command : Type 0 where
   modifyQp : ModifyQp → Command
   destroyQp : (qpn : ℕ) → Command
 
+-- "The ack buffer has at least 13 bytes"
+abbrev pub ackLeast : ℕ
+ackLeast = 13
+
+-- a row of 01's table: the command byte, the length of the data, the least ack buffer, and how many numbers the ack data has
+pub record Row : Type 0 where
+  pub number : ℕ
+  pub size : ℕ
+  pub room : ℕ
+  pub numbers : ℕ
+
+-- 02, M-100: "fewer than 129 or 33 bytes"; the judge reads no query's report
+abbrev pub rowOf : Command → Row
+rowOf queryDevice = record { number = 0; size = 0; room = 129; numbers = 0 }
+rowOf queryPort = record { number = 1; size = 0; room = 33; numbers = 0 }
+rowOf (createCq n) = record { number = 2; size = numberCodec .size; room = ackLeast; numbers = 1 }
+rowOf (destroyCq n) = record { number = 3; size = numberCodec .size; room = ackLeast; numbers = 0 }
+rowOf createPd = record { number = 4; size = 0; room = ackLeast; numbers = 1 }
+rowOf (destroyPd n) = record { number = 5; size = numberCodec .size; room = ackLeast; numbers = 0 }
+rowOf (register g) = record { number = 7; size = registerCodec .size; room = ackLeast; numbers = 3 }
+rowOf (deregister n) = record { number = 8; size = numberCodec .size; room = ackLeast; numbers = 0 }
+rowOf (createQp r) = record { number = 9; size = createQpCodec .size; room = ackLeast; numbers = 1 }
+rowOf (modifyQp r) = record { number = 10; size = modifyQpCodec .size; room = ackLeast; numbers = 0 }
+rowOf (destroyQp q) = record { number = 12; size = numberCodec .size; room = ackLeast; numbers = 0 }
+
+-- its parts, by name
+unfoldable pub dataSize : Command → ℕ
+dataSize q = rowOf q .size
+
+abbrev pub ackRoom : Command → ℕ
+ackRoom q = rowOf q .room
+
+abbrev pub ackNumbers : Command → ℕ
+ackNumbers q = rowOf q .numbers
+
+-- the first of these commands that has the number n
+unfoldable pub numberedIn : (n : ℕ) → List Command → Option Command
+numberedIn n [] = none
+numberedIn n (q ∷ qs) = cond (eqb n (rowOf q .number)) (some q) (numberedIn n qs)
+
 -- "Class byte 6, command byte, data": the command that a record is by its command byte; none for a number that is no command's
 unfoldable pub commandOf : (k : List ℕ) → Option Command
+unfolding numberedIn
 commandOf k =
-    let n : ℕ = leAt 1 k 1 in
     let x : ℕ = decode numberCodec k 2 in
-    cond (eqb n 0) (some queryDevice)
-    (cond (eqb n 1) (some queryPort)
-    (cond (eqb n 2) (some (createCq x))
-    (cond (eqb n 3) (some (destroyCq x))
-    (cond (eqb n 4) (some createPd)
-    (cond (eqb n 5) (some (destroyPd x))
-    (cond (eqb n 7) (some (register (decode registerCodec k 2)))
-    (cond (eqb n 8) (some (deregister x))
-    (cond (eqb n 9) (some (createQp (decode createQpCodec k 2)))
-    (cond (eqb n 10) (some (modifyQp (decode modifyQpCodec k 2)))
-    (cond (eqb n 12) (some (destroyQp x)) none))))))))))
-
--- the length of a command's data
-unfoldable pub dataSize : Command → ℕ
-dataSize queryDevice = 0
-dataSize queryPort = 0
-dataSize (createCq n) = numberCodec .size
-dataSize (destroyCq n) = numberCodec .size
-dataSize createPd = 0
-dataSize (destroyPd n) = numberCodec .size
-dataSize (register g) = registerCodec .size
-dataSize (deregister n) = numberCodec .size
-dataSize (createQp r) = createQpCodec .size
-dataSize (modifyQp r) = modifyQpCodec .size
-dataSize (destroyQp q) = numberCodec .size
+    numberedIn (leAt 1 k 1)
+    (queryDevice ∷ queryPort ∷ createCq x ∷ destroyCq x ∷ createPd ∷ destroyPd x ∷ register (decode registerCodec k 2) ∷ deregister x ∷
+    createQp (decode createQpCodec k 2) ∷ modifyQp (decode modifyQpCodec k 2) ∷ destroyQp x ∷ [])
 
 -- ---- reading
 
@@ -224,24 +242,6 @@ ackSize (Number n) = 5
 ackSize (Keys n key) = 13
 ackSize (Device d) = 129
 ackSize (Port p) = 33
-
--- "The ack buffer has at least 13 bytes"
-abbrev pub ackLeast : ℕ
-ackLeast = 13
-
--- 02, M-100: "fewer than 129 or 33 bytes"
-abbrev pub ackRoom : Command → ℕ
-ackRoom queryDevice = 129
-ackRoom queryPort = 33
-ackRoom (createCq n) = ackLeast
-ackRoom (destroyCq n) = ackLeast
-ackRoom createPd = ackLeast
-ackRoom (destroyPd n) = ackLeast
-ackRoom (register g) = ackLeast
-ackRoom (deregister n) = ackLeast
-ackRoom (createQp r) = ackLeast
-ackRoom (modifyQp r) = ackLeast
-ackRoom (destroyQp q) = ackLeast
 
 abbrev pub roomBy : Option Command → ℕ
 roomBy none = ackLeast

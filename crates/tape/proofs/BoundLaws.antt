@@ -18,7 +18,7 @@ use Rattle.tables.specs.Card.{Card}
 use Rattle.tables.specs.State.{card}
 use Rattle.tables.specs.Commands.{Command, commandOf, ackSize}
 use Rattle.rules.specs.Answer.{isDone}
-use Rattle.rules.specs.Call.{Call}
+use Rattle.rules.specs.Call.{Call, Buffer, given}
 use Rattle.rules.specs.Calls.{Result, owed}
 use Rattle.rules.specs.Control.{commandAck}
 use Rattle.rules.specs.Lists.{maybe}
@@ -27,7 +27,7 @@ use Rattle.rules.specs.declared.Answer.the-variants.{Done, Held, Refused}
 use Rattle.rules.specs.Contract.{bytesAfter}
 use Rattle.tape.specs.declared.Header.{Header}
 use Rattle.tape.specs.declared.Header.the-variants.{Record, Bad, Cut}
-use Rattle.tape.specs.Tape.{isMark, isKind, isGood, isLength, ackWritten, writtenBy, answerHead, answerRecord, headerOf, callOf, memoryLeft, answerTo, Answers, badRecord, playBy, play}
+use Rattle.tape.specs.Tape.{isMark, isKind, isGood, isLength, ackWrittenBy, writtenIn, writtenBy, answerHead, answerRecord, headerOf, callOf, memoryLeft, answerTo, Answers, badRecord, playBy, play}
 
 -- ---- a header is in its first six bytes
 
@@ -85,26 +85,22 @@ picked-most : (b : Bool) {x y most : ℕ} → x ≤ most → y ≤ most → cond
 picked-most true p q = p
 picked-most false p q = q
 
-ack-most : (r : Answer) (c : Card) (k : List ℕ) → ackWritten r c k ≤ 129
-ack-most (Done s) c k = some-most c (commandOf k)
-ack-most (Held x) c k = omega arith
-ack-most (Refused n) c k = picked-most (eqb n 12 || eqb n 15) (omega arith) (omega arith)
+ack-most : (r : Answer) (c : Card) (o : Option Command) → ackWrittenBy r c o ≤ 129
+ack-most (Done s) c o = some-most c o
+ack-most (Held x) c o = omega arith
+ack-most (Refused n) c o = picked-most (eqb n 12 || eqb n 15) (omega arith) (omega arith)
 
-written-most : (r : Answer) (c : Card) (k : Call) → writtenBy r c k ≤ 129
-written-most r c (Call.reset n) = omega arith
-written-most r c (Call.control k a) = ack-most r c k
-written-most r c (Call.registerPages k ps a) = ack-most r c k
-written-most r c (Call.send q x m) = omega arith
-written-most r c (Call.receive q x) = omega arith
-written-most r c (Call.flush q) = omega arith
-written-most r c (Call.poll n b) = picked-most (isDone r) (omega arith) (omega arith)
+written-most : (r : Answer) (c : Card) (o : Option Command) (b : Buffer) → writtenIn r c o b ≤ 129
+written-most r c o Buffer.no-buffer = omega arith
+written-most r c o (Buffer.for-ack a) = ack-most r c o
+written-most r c o (Buffer.for-completion b) = picked-most (isDone r) (omega arith) (omega arith)
 
 pub answer-most : (l : List ℕ) (k : Call) → length (answerTo l k) ≤ 135
 unfolding answerTo answerRecord
 answer-most l k =
     let o : Result = owed card accepts l k in
     let n : ℕ = writtenBy (o .answer) (card l) k in
-    let w : n ≤ 129 = written-most (o .answer) (card l) k in
+    let w : n ≤ 129 = written-most (o .answer) (card l) (given k .command) (given k .buffer) in
     let t : length (take n (o .buffer)) ≡ min n (length (o .buffer)) = length-take n (o .buffer) in
     let e : length (answerTo l k) ≡ 6 + length (take n (o .buffer)) = length-append (answerHead (o .answer) (length (take n (o .buffer)))) (take n (o .buffer)) in
     omega arith

@@ -2,6 +2,7 @@
 use mathlib.Core.Path.{_≡_}
 use mathlib.Core.Bool.{Bool, true, cond, _&&_, _||_}
 use mathlib.Core.List.{List, [], _∷_, _++_, flatten}
+use mathlib.Core.Option.{Option}
 use Prim.Native.Nat.{ℕ, zero, suc, _+_, _/_, _%_}
 use lib.Dec.{eqb, ltb, leb}
 use lib.ListN.{length, take, drop}
@@ -10,10 +11,10 @@ use Rattle.validate.specs.Accept.{accepts, memoryOk}
 use Rattle.tables.specs.Card.{Card}
 use Rattle.tables.specs.State.{card}
 use Rattle.tables.specs.Layout.{stateSize}
-use Rattle.tables.specs.Commands.{ackSize, commandOf}
+use Rattle.tables.specs.Commands.{Command, ackSize, commandOf}
 use Rattle.tables.specs.Reset.{zeros, resetBytes}
 use Rattle.rules.specs.Answer.{number, status, isDone}
-use Rattle.rules.specs.Call.{Call}
+use Rattle.rules.specs.Call.{Call, Buffer, given}
 use Rattle.rules.specs.Calls.{Result, owed}
 use Rattle.rules.specs.Control.{commandAck}
 use Rattle.rules.specs.Lists.{maybe}
@@ -87,31 +88,27 @@ callOf k n b m =
 
 -- the memory after the call k on the state l; only a send is lent it; no record makes a reset or a registration over pages
 abbrev pub memoryLeft : (l m : List ℕ) → Call → List ℕ
-memoryLeft l m (Call.reset n) = m
-memoryLeft l m (Call.control k a) = m
-memoryLeft l m (Call.registerPages k ps a) = m
-memoryLeft l m (Call.send q x n) = owed card accepts l (Call.send q x n) .memory
-memoryLeft l m (Call.receive q x) = m
-memoryLeft l m (Call.flush q) = m
-memoryLeft l m (Call.poll n b) = m
+memoryLeft l m k = maybe m (λ n. owed card accepts l k .memory) (given k .memory)
 
 -- ---- its answer: "72 6B, answer, status, length 16 bits, bytes written (ack and its data, or a completion)"
 
 -- a control command writes its ack; one that is refused the ack byte, and none with 12 and 15
+abbrev pub ackWrittenBy : Answer → Card → Option Command → ℕ
+ackWrittenBy (Done s) c o = maybe 1 (λ q. ackSize (commandAck c q)) o
+ackWrittenBy (Held x) c o = 1
+ackWrittenBy (Refused n) c o = cond (eqb n 12 || eqb n 15) 0 1
+
 abbrev pub ackWritten : Answer → Card → List ℕ → ℕ
-ackWritten (Done s) c k = maybe 1 (λ q. ackSize (commandAck c q)) (commandOf k)
-ackWritten (Held x) c k = 1
-ackWritten (Refused n) c k = cond (eqb n 12 || eqb n 15) 0 1
+ackWritten r c k = ackWrittenBy r c (commandOf k)
+
+abbrev pub writtenIn : Answer → Card → Option Command → Buffer → ℕ
+writtenIn r c o Buffer.no-buffer = 0
+writtenIn r c o (Buffer.for-ack a) = ackWrittenBy r c o
+writtenIn r c o (Buffer.for-completion b) = cond (isDone r) completionSize 0
 
 -- how many bytes of its answer buffer a call writes that answers r on the card c
 abbrev pub writtenBy : Answer → Card → Call → ℕ
-writtenBy r c (Call.reset n) = 0
-writtenBy r c (Call.control k a) = ackWritten r c k
-writtenBy r c (Call.registerPages k ps a) = ackWritten r c k
-writtenBy r c (Call.send q x m) = 0
-writtenBy r c (Call.receive q x) = 0
-writtenBy r c (Call.flush q) = 0
-writtenBy r c (Call.poll n b) = cond (isDone r) completionSize 0
+writtenBy r c k = writtenIn r c (given k .command) (given k .buffer)
 
 abbrev pub answerHead : Answer → (length : ℕ) → List ℕ
 answerHead r n = 114 ∷ 107 ∷ number r ∷ status r ∷ n % 256 ∷ n / 256 ∷ []
