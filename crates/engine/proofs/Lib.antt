@@ -1,12 +1,3 @@
-pub mod CardLaws
-pub mod LimitLaws
+pub mod DirectLaws
 pub mod OwedLaws
-pub mod MeetLaws
-pub mod SettleLaws
-pub mod MoveLaws
-pub mod StatusLaws
-pub mod SingleLaws
 pub mod RecordLaws
-pub mod RequestLaws
-pub mod StoreLaws
-pub mod EndLaws

@@ -1,7 +1,7 @@
 -- From a send record to the request that post send hands on: its limits, and that it fares as the rules' request of the record. Assumes nothing.
 use mathlib.Core.Path.{_≡_, refl, sym, ap, subst, _∙_}
 use mathlib.Core.Bool.{Bool, true, false, cond, not, false≢true}
-use mathlib.Core.List.{List, [], _∷_}
+use mathlib.Core.List.{List, _∷_}
 use mathlib.Core.Option.{Option, none, some}
 use Prim.Native.Nat.{ℕ, zero, suc, _+_, _*_, _≤_}
 use native.Mathlib.Omega.{arith}
@@ -9,7 +9,7 @@ use lib.Dec.{eqb, ltb}
 use lib.ListN.{length, take, drop, length-drop}
 use lib.Seq.{length-take-le}
 use borrow.Author.Tests.{eqb-true, ltb-false, not-false}
-use Rattle.wire.specs.Checks.{refusal}
+use Rattle.wire.specs.Checks.{Check, refusal}
 use Rattle.wire.specs.Codec.{decode}
 use Rattle.wire.proofs.CheckLaws.{passed}
 use Rattle.wire.specs.Rows.{rowsFrom, rows}
@@ -25,7 +25,7 @@ use Rattle.rules.specs.Bytes.{sendBytes}
 use Rattle.rules.specs.Send.{holdChecks, readyChecks, deliveryChecks, runStatus, sendStatus, sendPuts, sendMemory}
 use Rattle.rules.specs.Touch.{Request, requestOf, total, ownBytes, farBytes, message, delivered}
 use Rattle.rules.specs.declared.Answer.{Answer}
-use Rattle.engine.specs.Send.{requestBy, Bounded, ranBytes, ranMemory, Ran}
+use Rattle.delivery.specs.Run.{requestBy, Bounded, ranBytes, ranMemory, Ran}
 
 -- s begins the send record x, which passes its own tests
 pub record Posted (x : List ℕ) (s : SendRecord) : Type 0 where
@@ -79,10 +79,17 @@ entries-are x n h = take-from n mostSges 0 (sendSge x) h
 
 -- ---- the request
 
-module _ (s : SendRecord) (b : List ℕ) where
-  -- the request of the head s and the inline bytes b whose inline flag is y and whose entries are ps
-  abbrev shape : (y : Bool) → (ps : List Sge) → Request
-  shape y ps =
+-- no rule tells the request r from r′
+record Alike (r r′ : Request) : Type 0 where
+  opcode : r .opcode ≡ r′ .opcode
+  status : (c : Card) (q : ℕ) → sendStatus c q r ≡ sendStatus c q r′
+  puts : (c : Card) (q st : ℕ) → sendPuts c q r st ≡ sendPuts c q r′ st
+  memory : (c : Card) (q : ℕ) (m : List ℕ) → sendMemory c q r m ≡ sendMemory c q r′ m
+
+module _ (s : SendRecord) where
+  -- the request of the head s whose inline flag is y, whose inline bytes are b and whose entries are ps
+  abbrev shape : (y : Bool) → (b : List ℕ) → (ps : List Sge) → Request
+  shape y b ps =
       record {
         wr = s .wr;
         opcode = s .opcode;
@@ -95,59 +102,66 @@ module _ (s : SendRecord) (b : List ℕ) where
         sges = ps;
       }
 
-  -- the rules look at no entry of an inline request
-  module _ (c : Card) (q : ℕ) (ps qs : List Sge) where
-    same-tests : refusal (deliveryChecks c q (shape true ps)) ≡ refusal (deliveryChecks c q (shape true qs))
-    unfolding deliveryChecks holdChecks readyChecks
-    same-tests = refl
+  -- they look at no entry of an inline request
+  other-entries : (b : List ℕ) (ps ps′ : List Sge) → Alike (shape true b ps) (shape true b ps′)
+  unfolding sendStatus runStatus sendPuts sendMemory total ownBytes farBytes message delivered
+  other-entries b ps ps′ = record { opcode = refl; status = λ c q. refl; puts = λ c q st. refl; memory = λ c q m. refl }
 
-    same-status : sendStatus c q (shape true ps) ≡ sendStatus c q (shape true qs)
-    unfolding sendStatus runStatus total ownBytes farBytes
-    same-status = refl
+  -- and at no inline byte of another
+  other-bytes : (b b′ : List ℕ) (ps : List Sge) → Alike (shape false b ps) (shape false b′ ps)
+  unfolding sendStatus runStatus sendPuts sendMemory total ownBytes farBytes message delivered
+  other-bytes b b′ ps = record { opcode = refl; status = λ c q. refl; puts = λ c q st. refl; memory = λ c q m. refl }
 
-    same-puts : (st : ℕ) → sendPuts c q (shape true ps) st ≡ sendPuts c q (shape true qs) st
-    unfolding sendPuts total
-    same-puts st = refl
+  alike : (y : Bool) (b b′ : List ℕ) (ps ps′ : List Sge) → (y ≡ true → b ≡ b′) → (y ≡ false → ps ≡ ps′) → Alike (shape y b ps) (shape y b′ ps′)
+  alike true b b′ ps ps′ i j = subst (λ (z : List ℕ). Alike (shape true b ps) (shape true z ps′)) (i refl) (other-entries b ps ps′)
+  alike false b b′ ps ps′ i j = subst (λ (z : List Sge). Alike (shape false b ps) (shape false b′ z)) (j refl) (other-bytes b b′ ps)
 
-    same-memory : (m : List ℕ) → sendMemory c q (shape true ps) m ≡ sendMemory c q (shape true qs) m
-    unfolding sendMemory sendStatus runStatus total ownBytes farBytes message delivered
-    same-memory m = refl
+-- the tests look at the opcode alone
+pub ByOpcode : (Card → ℕ → Request → List Check) → Type 0
+ByOpcode tests = (c : Card) (q : ℕ) (r r′ : Request) → r .opcode ≡ r′ .opcode → tests c q r ≡ tests c q r′
 
-  same-bytes : (l : List ℕ) (q : ℕ) (ps qs : List Sge) → sendBytes l q (shape true ps) ≡ sendBytes l q (shape true qs)
-  unfolding sendBytes
-  same-bytes l q ps qs = rw (same-status (card l) q ps qs, same-puts (card l) q ps qs (sendStatus (card l) q (shape true qs)))
+pub hold-opcode : ByOpcode holdChecks
+unfolding ByOpcode holdChecks readyChecks
+hold-opcode c q r r′ e = rw e
 
-  ran-bytes : (k : Option ℕ) (l : List ℕ) (q : ℕ) (ps qs : List Sge) → ranBytes k l q (shape true ps) ≡ ranBytes k l q (shape true qs)
-  ran-bytes none l q ps qs = same-bytes l q ps qs
-  ran-bytes (some n) l q ps qs = refl
+pub delivery-opcode : ByOpcode deliveryChecks
+unfolding ByOpcode deliveryChecks
+delivery-opcode c q r r′ e = rw (hold-opcode c q r r′ e)
 
-  ran-memory : (k : Option ℕ) (l : List ℕ) (q : ℕ) (ps qs : List Sge) (m : List ℕ) → ranMemory k l q (shape true ps) m ≡ ranMemory k l q (shape true qs) m
-  ran-memory none l q ps qs m = same-memory (card l) q ps qs m
-  ran-memory (some n) l q ps qs m = refl
-
-  other-entries : (y : Bool) (ps qs : List Sge) → (y ≡ false → ps ≡ qs) → (l : List ℕ) (q : ℕ) (m : List ℕ) (a : Answer) (l′ m′ : List ℕ) →
-      Ran l q (shape y ps) m a l′ m′ → Ran l q (shape y qs) m a l′ m′
-  other-entries true ps qs e l q m a l′ m′ w =
-      let k : Option ℕ = refusal (deliveryChecks (card l) q (shape true ps)) in
-      let t = same-tests (card l) q qs ps in
+module _ (tests : Card → ℕ → Request → List Check) (by : ByOpcode tests) where
+  ran-alike : (r r′ : Request) → Alike r r′ → (l : List ℕ) (q : ℕ) (m : List ℕ) (a : Answer) (l′ m′ : List ℕ) → Ran tests l q r m a l′ m′ → Ran tests l q r′ m a l′ m′
+  unfolding ByOpcode sendBytes
+  ran-alike r r′ k l q m a l′ m′ w =
+      let t : refusal (tests (card l) q r′) ≡ refusal (tests (card l) q r) = ap refusal (sym (by (card l) q r r′ (k .opcode))) in
+      let o : Option ℕ = refusal (tests (card l) q r) in
       record {
-        answer = rw (t, same-status (card l) q qs ps) (w .answer);
-        bytes = rw t (w .bytes ∙ ran-bytes k l q ps qs);
-        memory = rw t (w .memory ∙ ran-memory k l q ps qs m);
+        answer = rw (t, sym (k .status (card l) q)) (w .answer);
+        bytes = rw t (w .bytes ∙ bytes o);
+        memory = rw t (w .memory ∙ memory o);
       }
-  other-entries false ps qs e l q m a l′ m′ w = subst (λ (z : List Sge). Ran l q (shape false z) m a l′ m′) (e refl) w
+    where
+      bytes : (o : Option ℕ) → ranBytes o l q r ≡ ranBytes o l q r′
+      bytes none = rw (k .status (card l) q, k .puts (card l) q (sendStatus (card l) q r′), k .opcode)
+      bytes (some n) = refl
+
+      memory : (o : Option ℕ) → ranMemory o l q r m ≡ ranMemory o l q r′ m
+      memory none = k .memory (card l) q m
+      memory (some n) = refl
+
+  module _ (x : List ℕ) (s : SendRecord) (p : Posted x s) where
+    abbrev head : SendRecord
+    head = decode sendCodec x 0
+
+    pub ran-record : (l : List ℕ) (q : ℕ) (m : List ℕ) (sges : List Sge) → sges ≡ rows mostSges (sendSge x) → (b : List ℕ) → b ≡ inlineBytes x →
+        (a : Answer) (l′ m′ : List ℕ) → Ran tests l q (requestBy s sges b) m a l′ m′ → Ran tests l q (requestOf x) m a l′ m′
+    unfolding requestOf
+    ran-record l q m sges i b j a l′ m′ w =
+        let k : Alike (requestBy head sges b) (requestOf x) =
+        alike head (isInline head) b (inlineBytes x) (take (head .count) sges) (rows (head .count) (sendSge x)) (λ h. j)
+        (λ h. ap (take (head .count)) i ∙ entries-are x (head .count) (bounds x (p .good) .plain h)) in
+        ran-alike (requestBy s sges b) (requestOf x) (subst (λ (y : SendRecord). Alike (requestBy y sges b) (requestOf x)) (sym (p .head)) k)
+        l q m a l′ m′ w
 
 module _ (x : List ℕ) (s : SendRecord) (p : Posted x s) where
   pub bounded : Bounded s (inlineBytes x)
   bounded = subst (λ (y : SendRecord). Bounded y (inlineBytes x)) (sym (p .head)) (bounds x (p .good))
-
-  pub ran-record : (l : List ℕ) (q : ℕ) (m : List ℕ) (sges : List Sge) → sges ≡ rows mostSges (sendSge x) → (b : List ℕ) → b ≡ inlineBytes x →
-      (a : Answer) (l′ m′ : List ℕ) → Ran l q (requestBy s sges b) m a l′ m′ → Ran l q (requestOf x) m a l′ m′
-  unfolding requestOf
-  ran-record l q m sges i b j a l′ m′ w =
-      let same : isInline s ≡ false → take (s .count) sges ≡ rows (s .count) (sendSge x) =
-      λ k. ap (take (s .count)) i ∙ entries-are x (s .count) (bounded .plain k) in
-      let v : Ran l q (shape s b (isInline s) (rows (s .count) (sendSge x))) m a l′ m′ =
-      other-entries s b (isInline s) (take (s .count) sges) (rows (s .count) (sendSge x)) same l q m a l′ m′ w in
-      subst (λ (y : SendRecord). Ran l q (shape y (inlineBytes x) (isInline y) (rows (y .count) (sendSge x))) m a l′ m′) (p .head)
-      (subst (λ (y : List ℕ). Ran l q (shape s y (isInline s) (rows (s .count) (sendSge x))) m a l′ m′) j v)

@@ -1,4 +1,0 @@
-pub mod Meet
-pub mod Deliver
-pub mod Settle
-pub mod Send

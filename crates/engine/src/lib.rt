@@ -5,10 +5,7 @@ ghost use mathlib.Core.List.{[]};
 ghost use Rattle.rules.specs.Call.{Call};
 ghost use Rattle.rules.specs.Contract.{Exports};
 
-pub mod deliver;
-pub mod meet;
 pub mod send;
-pub mod settle;
 
 // ---- calls from C: each answers with its number in bits 0 to 7 and its status in bits 8 to 15
 

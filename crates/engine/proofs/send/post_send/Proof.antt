@@ -9,8 +9,9 @@ use Rattle.validate.specs.Accept.{accepts}
 use Rattle.validate.proofs.AcceptedLaws.{accepted}
 use Rattle.tables.specs.State.{card}
 use Rattle.tables.proofs.ObjectLaws.{memory-is}
+use Rattle.rules.specs.Send.{deliveryChecks}
 use Rattle.engine.proofs.OwedLaws.{not-accepted, other-memory, bad-record, ran}
-use Rattle.engine.proofs.RecordLaws.{posted, long-enough, bounded, ran-record}
+use Rattle.engine.proofs.RecordLaws.{posted, long-enough, bounded, delivery-opcode, ran-record}
 use borrow.Author.Needs.{needs}
 use Rattle.engine.proofs.send.post_send.Statement.{statement}
 use Rattle.engine.proofs.send.post_send.Tie as tie
@@ -68,8 +69,8 @@ inline-bytes-requires c κs =
     let x : List ℕ = now (r .before .before .before .before .before .before .before .before .before .before .args .sent) in
     long-enough x (posted x _ (sym (c .before .before .s .given .1) ∙ r .read-send .ensures) .good)
 
-send-checked-requires : tie.Need-send-checked-requires
-send-checked-requires c κs =
+direct-requires : tie.Need-direct-requires
+direct-requires c κs =
     let r = c .before .before .before .before .before .before .before in
     let t = r .before .before .before .before .before in
     let b = t .before .before .before .before .before in
@@ -108,7 +109,7 @@ returns-3 c =
     let v : length m ≡ card l .memory = r .before .if2 .left ∙ r .before .before .load-memory .ensures ∙ sym (memory-is l) in
     let p = posted x _ (sym (i .before .before .before .s .given .1) ∙ r .read-send .ensures) in
     ran l (a .qpn) x m y v (p .good) _ _ _
-    (ran-record x _ p l (a .qpn) m _ (i .before .send-sges .ensures) _ (i .inline-bytes .ensures) _ _ _ (k .send-checked .ensures))
+    (ran-record deliveryChecks delivery-opcode x _ p l (a .qpn) m _ (i .before .send-sges .ensures) _ (i .inline-bytes .ensures) _ _ _ (k .direct .ensures))
 
 same-length-5 : tie.Need-same-length-5
 same-length-5 c = search needs
@@ -140,7 +141,7 @@ post-send-spec =
     enum-known-s
     send-sges-requires
     inline-bytes-requires
-    send-checked-requires
+    direct-requires
     enum-known-n
     same-length-3
     same-length-4

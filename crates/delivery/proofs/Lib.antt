@@ -1,0 +1,11 @@
+pub mod CardLaws
+pub mod LimitLaws
+pub mod StandLaws
+pub mod MeetLaws
+pub mod SettleLaws
+pub mod MoveLaws
+pub mod StatusLaws
+pub mod RequestLaws
+pub mod SingleLaws
+pub mod StoreLaws
+pub mod EndLaws

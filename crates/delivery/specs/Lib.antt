@@ -1,0 +1,4 @@
+pub mod Meet
+pub mod Deliver
+pub mod Settle
+pub mod Run
