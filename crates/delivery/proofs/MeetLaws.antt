@@ -14,12 +14,12 @@ use Rattle.wire.proofs.ScanLaws.{and-left, and-right}
 use Rattle.wire.specs.Checks.{Check, _if_, refusal}
 use Rattle.wire.specs.Table.{rowAt}
 use Rattle.tables.specs.Card.{cqLive, Receive, receiveOf}
-use Rattle.validate.specs.Accept.{isState}
+use Rattle.validate.specs.Accept.{accepts, isState}
 use Rattle.validate.proofs.AcceptedLaws.{Accepted, accepted}
 use Rattle.tables.specs.State.{card, queueAt, pairAt, ringAt, receivesAt, posted, destOf, isLive, noCompletion, noRecord}
-use Rattle.tables.specs.Layout.{cqFlagT, cqT, qpFlagT, qpT, waitingT}
+use Rattle.tables.specs.Layout.{stateSize, cqFlagT, cqT, qpFlagT, qpT, waitingT}
 use Rattle.tables.specs.Limits.{cqCount, qpCount, mostPlaces, mostWaiting, mostAccess}
-use Rattle.tables.proofs.ObjectLaws.{cq-below, cq-live, qp-live, qp-row}
+use Rattle.tables.proofs.ObjectLaws.{cq-below, cq-live, qp-below, qp-flag, qp-live, qp-row}
 use Rattle.validate.proofs.QueueLaws.{queue-is}
 use Rattle.validate.proofs.WaitingLaws.{pair-sound, waiting-is}
 use Rattle.tables.specs.declared.QueueHead.{QueueHead}
@@ -215,14 +215,16 @@ module _ (l : List ℕ) (ok : Accepted l) where
                   (ap (λ (n : ℕ). isEmpty (card l .qp n .waiting)) peer-is ∙ waits-is)
                   (ap (λ (n : ℕ). hasPlaces (card l) q n o) peer-is ∙ places-are))
 
+-- the row of a queue pair that is live
+pub sender : (l : List ℕ) → accepts l ≡ true → length l ≡ stateSize → (q : ℕ) → card l .qp q .live ≡ true → (own : QueuePair) → own ≡ rowAt qpT l q → Sender l q own
+sender l a size q lives own at =
+    record { accepted = a; size = size; below = qp-below l q lives; live = eq-eqb (rowAt qpFlagT l q) 1 (qp-flag l q lives); row = at }
+
 -- ---- the same of the rows that the code has loaded
 
 module _ (l : List ℕ) (q o : ℕ) (own : QueuePair) (s : Sender l q own) where
   ok : Accepted l
   ok = accepted l (s .accepted)
-
-  pub sender-live : card l .qp q .live ≡ true
-  sender-live = qp-live l q (s .below) ∙ s .live
 
   pub sender-queue : own .scq < cqCount
   sender-queue = rw (s .row) (send-queue l ok q o (s .below) (s .live))

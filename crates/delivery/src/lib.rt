@@ -3,13 +3,14 @@
 use meet::Ends;
 use meet::Meeting;
 use rules::Answer;
-use tables::QueuePair;
 use tables::SendRecord;
 use tables::Sge;
 use tables::limits::FLUSHED;
+ghost use mathlib.Core.Path.{_≡_};
+ghost use mathlib.Core.Bool.{true};
+ghost use Rattle.tables.specs.State.{card};
 ghost use Rattle.rules.specs.Send.{holdChecks};
 ghost use Rattle.dma.specs.Moves.{Ready};
-ghost use Rattle.delivery.specs.Meet.{Sender};
 ghost use Rattle.delivery.specs.Run.{requestBy, Bounded, Met, Carried, Ran};
 
 pub mod deliver;
@@ -43,27 +44,26 @@ fn carry_out(
     st
 }
 
-// The tests that hold a request of queue pair q, whose row is own, and then the request carried out, or flushed.
+// The tests that hold a request of queue pair q, which is live, and then the request carried out, or flushed.
 pub fn run(
     state: &mut [u8],
     memory: &mut [u8],
     q: usize,
-    own: QueuePair,
     s: SendRecord,
     sges: [Sge; 4],
     inline: &[u8],
 ) -> Answer
-    requires { ⌜ Ready (now state) (now memory) × Sender (now state) q own ⌝ }
-    requires { ⌜ Bounded s (now inline) ⌝ }
+    requires { ⌜ Ready (now state) (now memory) ⌝ }
+    requires { ⌜ (card (now state) .qp q .live ≡ true) × Bounded s (now inline) ⌝ }
     ensures { λ r. ⌜ Ran holdChecks (now (state .entry)) q (requestBy s sges (now (inline .entry))) (now (memory .entry)) r (now (state .exit)) (now (memory .exit)) ⌝ }
 {
-    match meet::hold(state, q, own, s.opcode) {
+    match meet::hold(state, q, s.opcode) {
         Meeting::Pairs(e) => {
             let st = carry_out(state, memory, e, s, sges, inline);
             Answer::Done(st)
         }
-        Meeting::Flushed(p) => {
-            settle::put_work(state, p.scq, q, s.wr, s.opcode, FLUSHED, 0);
+        Meeting::Flushed(own) => {
+            settle::put_work(state, own.scq, q, s.wr, s.opcode, FLUSHED, 0);
             Answer::Done(FLUSHED)
         }
         Meeting::Stopped(a) => a,

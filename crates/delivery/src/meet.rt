@@ -13,14 +13,15 @@ use tables::limits::SEND_IMM;
 use tables::limits::WRITE_IMM;
 use tables::rows;
 ghost use mathlib.Core.Path.{_≡_};
-ghost use mathlib.Core.Bool.{cond};
+ghost use mathlib.Core.Bool.{true, cond};
 ghost use Prim.Native.Nat.{_<_, _≤_, _+_};
 ghost use lib.Dec.{eqb, leb};
 ghost use lib.ListN.{length};
 ghost use Rattle.wire.specs.Table.{rowAt};
+ghost use Rattle.validate.specs.Accept.{accepts};
 ghost use Rattle.tables.specs.Layout.{stateSize, cqT, qpFlagT};
 ghost use Rattle.tables.specs.Limits.{cqCount, qpCount};
-ghost use Rattle.tables.specs.State.{isLive};
+ghost use Rattle.tables.specs.State.{card, isLive};
 ghost use Rattle.rules.specs.Touch.{takes, fills};
 ghost use Rattle.delivery.specs.Meet.{answers, placesBy, peerMeeting, flushMeeting, holding, Sender};
 
@@ -147,11 +148,12 @@ fn meet_error(state: &[u8], q: usize, own: QueuePair) -> Meeting
     Meeting::Flushed(own)
 }
 
-// The tests that hold a request of queue pair q, whose row is own.
-pub fn hold(state: &[u8], q: usize, own: QueuePair, opcode: u8) -> Meeting
-    requires { ⌜ Sender (now state) q own ⌝ }
+// The tests that hold a request of queue pair q, which is live.
+pub fn hold(state: &[u8], q: usize, opcode: u8) -> Meeting
+    requires { ⌜ (accepts (now state) ≡ true) × (length (now state) ≡ stateSize) × (card (now state) .qp q .live ≡ true) ⌝ }
     ensures { λ r. ⌜ r ≡ holding (now (state .entry)) q opcode ⌝ }
 {
+    let own = rows::load_qp(state, q);
     if own.state == ERROR {
         return meet_error(state, q, own);
     }

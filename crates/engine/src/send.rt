@@ -45,7 +45,7 @@ fn direct(
     if (own.state != RTS) & (own.state != ERROR) {
         return Answer::Refused(WRONG_STATE);
     }
-    delivery::run(state, memory, q, own, s, sges, inline)
+    delivery::run(state, memory, q, s, sges, inline)
 }
 
 // Post send: the state's and the memory's tests, the record's, and then the request that it is.

@@ -4,7 +4,6 @@ use mathlib.Core.List.{List}
 use Prim.Native.Nat.{ℕ}
 use Rattle.rules.specs.Touch.{Request}
 use Rattle.delivery.specs.Run.{requestBy}
-use Rattle.delivery.proofs.MeetLaws.{sender-live}
 use Rattle.delivery.proofs.EndLaws.{is-met, ran-on, stopped, flush-asks, ran-flush}
 use borrow.Author.Needs.{needs}
 use Rattle.delivery.proofs.run.Statement.{statement}
@@ -21,24 +20,24 @@ carry-out-requires c κs =
     let b = c .before .before .before .before .before .before .before .before .before .before in
     let a = b .args in
     let l : List ℕ = now (a .state) in (
-      b .pre .0 .0,
+      b .pre .0,
       (
-        b .pre .1,
-        is-met l (a .q) (a .s .opcode) (sender-live l (a .q) (a .s .opcode) (a .own) (b .pre .0 .1)) _
+        b .pre .1 .1,
+        is-met l (a .q) (a .s .opcode) (b .pre .1 .0) _
             (sym (c .before .before .before .e .given .1) ∙ c .before .before .before .before .before .hold .ensures),
       ),
     )
 
-enum-known-p : tie.Need-enum-known-p
-enum-known-p c = search needs
+enum-known-own : tie.Need-enum-known-own
+enum-known-own c = search needs
 
 put-work-requires : tie.Need-put-work-requires
 put-work-requires c κs =
     let b = c .before .before .before .before .before .before .before .before .before in
     let a = b .args in
-    let i = sym (c .before .before .p .given .1) ∙ c .before .before .before .before .hold .ensures in
-    flush-asks (now (a .state)) (now (a .memory)) (a .q) (b .pre .0 .0 .accepted)
-    (sender-live (now (a .state)) (a .q) (a .s .opcode) (a .own) (b .pre .0 .1)) (a .s) (a .sges) (now (a .inline)) (search needs) _ i
+    let i = sym (c .before .before .own .given .1) ∙ c .before .before .before .before .hold .ensures in
+    flush-asks (now (a .state)) (now (a .memory)) (a .q) (b .pre .0 .accepted)
+    (b .pre .1 .0) (a .s) (a .sges) (now (a .inline)) (search needs) _ i
 
 enum-known-a : tie.Need-enum-known-a
 enum-known-a c = search needs
@@ -68,9 +67,9 @@ returns-2 : tie.Need-returns-2
 returns-2 c =
     let b = c .before .before .before .before .before .before .before .before .before .before .before .before in
     let a = b .args in
-    let i = sym (c .before .before .before .before .before .p .given .1) ∙ c .before .before .before .before .before .before .before .hold .ensures in
-    ran-flush (now (a .state)) (now (a .memory)) (a .q) (b .pre .0 .0 .accepted)
-    (sender-live (now (a .state)) (a .q) (a .s .opcode) (a .own) (b .pre .0 .1)) (a .s) (a .sges) (now (a .inline)) (search needs) _ i _
+    let i = sym (c .before .before .before .before .before .own .given .1) ∙ c .before .before .before .before .before .before .before .hold .ensures in
+    ran-flush (now (a .state)) (now (a .memory)) (a .q) (b .pre .0 .accepted)
+    (b .pre .1 .0) (a .s) (a .sges) (now (a .inline)) (search needs) _ i _
     (c .before .before .put-work .ensures)
 
 same-length-4 : tie.Need-same-length-4
@@ -93,7 +92,7 @@ run-spec =
     hold-requires
     enum-known-e
     carry-out-requires
-    enum-known-p
+    enum-known-own
     put-work-requires
     enum-known-a
     same-length

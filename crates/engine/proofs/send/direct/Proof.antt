@@ -5,6 +5,7 @@ use borrow.Author.Tests.{not-true, not-false}
 use Rattle.wire.specs.Table.{rowAt}
 use Rattle.tables.specs.Layout.{qpFlagT}
 use Rattle.tables.specs.State.{isLive}
+use Rattle.tables.proofs.ObjectLaws.{qp-live}
 use Rattle.rules.specs.Touch.{Request}
 use Rattle.delivery.specs.Run.{requestBy}
 use Rattle.engine.proofs.DirectLaws.{no-pair, not-live, not-ready, run-on}
@@ -52,19 +53,8 @@ returns-3 c =
 run-requires : tie.Need-run-requires
 run-requires c κs =
     let e = c .before .before .before .before .before .before .before in
-    let b = e .before .before .before .before .before .before .before in (
-      (
-        b .pre .0,
-        record {
-          accepted = b .pre .0 .accepted;
-          size = b .pre .0 .size;
-          below = e .before .before .before .if1 .left;
-          live = is-live e;
-          row = c .before .before .before .before .before .load-qp .ensures;
-        },
-      ),
-      b .pre .1,
-    )
+    let b = e .before .before .before .before .before .before .before in
+    (b .pre .0, (qp-live (now (b .args .state)) (b .args .qpn) (e .before .before .before .if1 .left) ∙ is-live e, b .pre .1))
 
 same-length-3 : tie.Need-same-length-3
 same-length-3 c = search needs
