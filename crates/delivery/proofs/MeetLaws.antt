@@ -25,35 +25,30 @@ use Rattle.validate.proofs.WaitingLaws.{pair-sound, waiting-is}
 use Rattle.tables.specs.declared.QueueHead.{QueueHead}
 use Rattle.tables.specs.declared.QueuePair.{QueuePair}
 use Rattle.tables.specs.declared.WaitingHead.{WaitingHead}
-use Rattle.rules.specs.Lists.{isEmpty, names, orElse}
+use Rattle.rules.specs.Lists.{isEmpty, isSome, names, orElse}
 use Rattle.rules.specs.Send.{peerOf, isInError, placeChecks, readyChecks, holdChecks, canReceive, ready, room, hasPlaces}
 use Rattle.rules.specs.Touch.{takes}
 use Rattle.rules.specs.declared.Answer.the-variants.{Held}
 use Rattle.rules.specs.declared.Cause.the-variants.{Peer, Place}
-use Rattle.delivery.specs.Meet.{answers, placesBy, peerMeeting, flushMeeting, metBy, holding, endsAt, Sender}
+use Rattle.delivery.specs.Meet.{answers, placesBy, peerMeeting, hasPlace, bare, metBy, holding, isPairs, isFree, endsAt, Sender}
 use Rattle.delivery.specs.declared.meet.Ends.{Ends}
 use Rattle.delivery.specs.declared.meet.Meeting.{Meeting}
-use Rattle.delivery.specs.declared.meet.Meeting.the-variants.{Pairs, Flushed, Stopped}
+use Rattle.delivery.specs.declared.meet.Meeting.the-variants.{Pairs, Stopped}
 
 empty-is : (ws : List Receive) (n : ℕ) → length ws ≡ n → isEmpty ws ≡ eqb n 0
 empty-is [] n e = sym (eq-eqb n 0 (sym e))
 empty-is (w ∷ ws) n e = sym (ne-eqb n 0 (λ z. omega arith))
 
 both-ends : (x y : Bool) (e : Ends) →
-    cond {A = Meeting} x (Stopped (Held Peer)) (cond y (Stopped (Held Place)) (Pairs e)) ≡ metBy (cond x (some 5) (cond y (some 6) none)) false e
+    cond {A = Meeting} x (Stopped (Held Peer)) (cond y (Stopped (Held Place)) (Pairs e)) ≡ metBy (cond x (some 5) (cond y (some 6) none)) e
 both-ends true y e = refl
 both-ends false true e = refl
 both-ends false false e = refl
 
-flush-ends : (y : Bool) (e : Ends) →
-    cond {A = Meeting} (not y) (Stopped (Held Place)) (Flushed (e .own)) ≡ metBy (cond (not y) (some 6) none) true e
-flush-ends true e = refl
-flush-ends false e = refl
-
 -- the peer is ready, and the sender is not in error
 last-two : (ends : Ends) (ps : List Check) (t n c d d′ e e′ : Bool) → n ≡ false → c ≡ true → d ≡ d′ → e ≡ e′ →
-    metBy (refusal (cond n ps (5 if not c ∷ 5 if (t && d) ∷ 6 if not e ∷ []))) n ends
-    ≡ metBy (cond {A = Option ℕ} (t && d′) (some 5) (cond (not e′) (some 6) none)) false ends
+    metBy (refusal (cond n ps (5 if not c ∷ 5 if (t && d) ∷ 6 if not e ∷ []))) ends
+    ≡ metBy (cond {A = Option ℕ} (t && d′) (some 5) (cond (not e′) (some 6) none)) ends
 last-two ends ps t n c d d′ e e′ i z u v = rw (i, z, u, v)
 
 -- destination 8 is no number of a queue pair
@@ -90,14 +85,13 @@ module _ (l : List ℕ) (e : Ends) (o : ℕ) (t : Bool) (is : t ≡ takes o) (h 
     pub ends-meet : p ≡ true → Pairs e ≡ peerMeeting l e o
     ends-meet x = rw (← are, ← is, ← at, waits, x)
 
--- ---- the test of a sender in error
-
-module _ (l : List ℕ) (own : QueuePair) (h : QueueHead) (at : h ≡ rowAt cqT l (own .scq)) (b : Bool) (is : b ≡ leb (h .count + 1) (h .places)) where
-  pub no-flush : b ≡ false → Stopped (Held Place) ≡ flushMeeting l own
-  no-flush x = rw (← at, ← is, x)
-
-  pub flush-meets : b ≡ true → Flushed own ≡ flushMeeting l own
-  flush-meets x = rw (← at, ← is, x)
+    -- the same as one number
+    pub passes-is : p ≡ isPairs (peerMeeting l e o)
+    passes-is = rw (← are, ← is, ← at, waits) (go p)
+      where
+        go : (b : Bool) → b ≡ isPairs (cond {A = Meeting} (not b) (Stopped (Held Place)) (Pairs e))
+        go true = refl
+        go false = refl
 
 -- ---- the tests of both
 
@@ -129,15 +123,13 @@ module _ (l : List ℕ) (ok : Accepted l) where
         unfolding pairAt
         send-queue = cq-below l (own .scq) (pair-sound l ok q b live .sends)
 
-        in-error : own .state ≡ 6 → flushMeeting l own ≡ holding l q o
+        errs-is : isInError (card l .qp q) ≡ eqb (own .state) 6
+        unfolding pairAt
+        errs-is = rw (qp-row l q b live)
+
+        in-error : own .state ≡ 6 → refusal (holdChecks (card l) q (bare o)) ≡ cond (not (hasPlace l own)) (some 6) none
         unfolding holdChecks placeChecks pairAt
-        in-error h =
-            flush-ends (leb (rowAt cqT l (own .scq) .count + 1) (rowAt cqT l (own .scq) .places)) (endsAt l q)
-            ∙ sym (rw (
-              qp-row l q b live,
-              eq-eqb (own .state) 6 h,
-              room-is (own .scq) 1 (pair-sound l ok q b live .sends),
-            ))
+        in-error h = rw (qp-row l q b live, eq-eqb (own .state) 6 h, room-is (own .scq) 1 (pair-sound l ok q b live .sends))
 
         module _ (other : own .state ≡ 6 → ⊥) where
           not-error : eqb (own .state) 6 ≡ false
@@ -226,12 +218,38 @@ module _ (l : List ℕ) (q o : ℕ) (own : QueuePair) (s : Sender l q own) where
   ok : Accepted l
   ok = accepted l (s .accepted)
 
+  pub sender-live : card l .qp q .live ≡ true
+  sender-live = qp-live l q (s .below) ∙ s .live
+
   pub sender-queue : own .scq < cqCount
   sender-queue = rw (s .row) (send-queue l ok q o (s .below) (s .live))
 
-  pub error-met : own .state ≡ 6 → flushMeeting l own ≡ holding l q o
-  error-met h =
-      rw (s .row) (in-error l ok q o (s .below) (s .live) (subst (λ (p : QueuePair). p .state ≡ 6) (s .row) h))
+  pub in-error-is : isInError (card l .qp q) ≡ eqb (own .state) 6
+  in-error-is = errs-is l ok q o (s .below) (s .live) ∙ ap (λ (p : QueuePair). eqb (p .state) 6) (sym (s .row))
+
+  error-held : own .state ≡ 6 → refusal (holdChecks (card l) q (bare o)) ≡ cond (not (hasPlace l own)) (some 6) none
+  error-held h = rw (s .row) (in-error l ok q o (s .below) (s .live) (subst (λ (p : QueuePair). p .state ≡ 6) (s .row) h))
+
+  pub error-stops : own .state ≡ 6 → hasPlace l own ≡ false → refusal (holdChecks (card l) q (bare o)) ≡ some 6
+  error-stops h e = error-held h ∙ rw e
+
+  pub error-passes : own .state ≡ 6 → hasPlace l own ≡ true → refusal (holdChecks (card l) q (bare o)) ≡ none
+  error-passes h e = error-held h ∙ rw e
+
+  pub error-free : own .state ≡ 6 → hasPlace l own ≡ isFree l q o
+  error-free h = rw (error-held h) (go (hasPlace l own))
+    where
+      go : (b : Bool) → b ≡ not (isSome (cond {A = Option ℕ} (not b) (some 6) none))
+      go true = refl
+      go false = refl
+
+  -- what the two rows' tests found, as one number
+  pub free-is : isPairs (holding l q o) ≡ isFree l q o
+  free-is = go (refusal (holdChecks (card l) q (bare o)))
+    where
+      go : (k : Option ℕ) → isPairs (metBy k (endsAt l q)) ≡ not (isSome k)
+      go none = refl
+      go (some n) = refl
 
   module _ (other : own .state ≡ 6 → ⊥) where
     sends : rowAt qpT l q .state ≡ 6 → ⊥

@@ -16,13 +16,14 @@ use Rattle.tables.specs.State.{card, isLive}
 use Rattle.tables.specs.declared.QueueHead.{QueueHead}
 use Rattle.tables.specs.declared.QueuePair.{QueuePair}
 use Rattle.rules.specs.Answer.{answered}
-use Rattle.rules.specs.Send.{holdChecks, canReceive, isInError}
+use Rattle.rules.specs.Lists.{isSome}
+use Rattle.rules.specs.Send.{holdChecks, canReceive}
 use Rattle.rules.specs.Touch.{Request, takes}
 use Rattle.rules.specs.declared.Answer.the-variants.{Held}
 use Rattle.rules.specs.declared.Cause.the-variants.{Peer, Place}
 use Rattle.delivery.specs.declared.meet.Ends.{Ends}
 use Rattle.delivery.specs.declared.meet.Meeting.{Meeting}
-use Rattle.delivery.specs.declared.meet.Meeting.the-variants.{Pairs, Flushed, Stopped}
+use Rattle.delivery.specs.declared.meet.Meeting.the-variants.{Pairs, Stopped}
 
 -- ---- the tests
 
@@ -41,9 +42,9 @@ peerMeeting l e o =
     (cond (not (placesBy (rowAt cqT l (e .own .scq)) (rowAt cqT l (e .far .rcq)) (eqb (e .own .scq) (e .far .rcq)) o))
     (Stopped (Held Place)) (Pairs e))
 
--- 02, M-103: "Without a place it is held with 6", over the row of the sender in error
-abbrev pub flushMeeting : List ℕ → QueuePair → Meeting
-flushMeeting l own = let h = rowAt cqT l (own .scq) in cond (not (leb (h .count + 1) (h .places))) (Stopped (Held Place)) (Flushed own)
+-- 02, M-103: "with one free place in its own send .. CQ", over the row of the sender in error
+abbrev pub hasPlace : List ℕ → QueuePair → Bool
+hasPlace l own = let h = rowAt cqT l (own .scq) in leb (h .count + 1) (h .places)
 
 -- own is the row of the queue pair q, which is live
 pub record Sender (l : List ℕ) (q : ℕ) (own : QueuePair) : Type 0 where
@@ -63,11 +64,18 @@ bare o = record { wr = 0; opcode = o; signaled = false; inline = false; bytes = 
 abbrev pub endsAt : List ℕ → (q : ℕ) → Ends
 endsAt l q = let p = rowAt qpT l q in record { q = q; own = p; d = p .dest; far = rowAt qpT l (p .dest) }
 
--- a request that passed is flushed where its sender is in error
-abbrev pub metBy : Option ℕ → (error : Bool) → Ends → Meeting
-metBy none error e = cond error (Flushed (e .own)) (Pairs e)
-metBy (some n) error e = Stopped (answered 0 (some n))
+abbrev pub metBy : Option ℕ → Ends → Meeting
+metBy none e = Pairs e
+metBy (some n) e = Stopped (answered 0 (some n))
 
--- the tests that hold a request of the opcode o on the queue pair q
+-- the tests that hold a request of the opcode o on the queue pair q, which is not in error
 abbrev pub holding : List ℕ → (q o : ℕ) → Meeting
-holding l q o = metBy (refusal (holdChecks (card l) q (bare o))) (isInError (card l .qp q)) (endsAt l q)
+holding l q o = metBy (refusal (holdChecks (card l) q (bare o))) (endsAt l q)
+
+abbrev pub isPairs : Meeting → Bool
+isPairs (Pairs e) = true
+isPairs (Stopped a) = false
+
+-- nothing holds such a request, whether the queue pair is in error or not
+abbrev pub isFree : List ℕ → (q o : ℕ) → Bool
+isFree l q o = not (isSome (refusal (holdChecks (card l) q (bare o))))

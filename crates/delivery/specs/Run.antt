@@ -3,7 +3,7 @@
 -- stand. Assumes nothing.
 use mathlib.Core.Path.{_≡_}
 use mathlib.Core.Bool.{true, false}
-use mathlib.Core.List.{List}
+use mathlib.Core.List.{List, [], _∷_}
 use mathlib.Core.Option.{Option, none, some}
 use Prim.Native.Nat.{ℕ, _≤_}
 use lib.ListN.{length, take}
@@ -73,3 +73,11 @@ pub record Ran (tests : Card → ℕ → Request → List Check) (l : List ℕ) 
   pub answer : a ≡ answered (sendStatus (card l) q r) (refusal (tests (card l) q r))
   pub bytes : l′ ≡ ranBytes (refusal (tests (card l) q r)) l q r
   pub memory : m′ ≡ ranMemory (refusal (tests (card l) q r)) l q r m
+
+-- a request of the head s on the queue pair q in error answers a and leaves the state l′, whatever its entries and inline bytes are
+abbrev pub Flushed : (l : List ℕ) (q : ℕ) (s : SendRecord) (a : Answer) (l′ : List ℕ) → Type 0
+Flushed l q s a l′ = (sges : List Sge) (b m : List ℕ) → Ran holdChecks l q (requestBy s sges b) m a l′ m
+
+-- a request of the head s with the one entry e has the status st and leaves the state l′ and the memory m′, whatever its inline bytes are
+abbrev pub CarriedOne : (l : List ℕ) (q : ℕ) (s : SendRecord) (e : Sge) (m : List ℕ) (st : ℕ) (l′ m′ : List ℕ) → Type 0
+CarriedOne l q s e m st l′ m′ = (sges : List Sge) (b : List ℕ) → take (s .count) sges ≡ e ∷ [] → Carried l q (requestBy s sges b) m st l′ m′

@@ -1,5 +1,5 @@
-// The tests that hold a request: document 01, steps 1 and 2, of a sender and its peer; 02, M-103, of a sender in error, whose request is
-// flushed. Definitions: specs/Meet.antt.
+// The tests that hold a request: document 01, steps 1 and 2, of a sender and its peer; 02, M-103, the place that a sender in error needs.
+// Definitions: specs/Meet.antt.
 use rules::Answer;
 use rules::Cause;
 use tables::QueueHead;
@@ -23,7 +23,7 @@ ghost use Rattle.tables.specs.Layout.{stateSize, cqT, qpFlagT};
 ghost use Rattle.tables.specs.Limits.{cqCount, qpCount};
 ghost use Rattle.tables.specs.State.{card, isLive};
 ghost use Rattle.rules.specs.Touch.{takes, fills};
-ghost use Rattle.delivery.specs.Meet.{answers, placesBy, peerMeeting, flushMeeting, holding, Sender};
+ghost use Rattle.delivery.specs.Meet.{answers, placesBy, peerMeeting, hasPlace, holding, isPairs, isFree, Sender};
 
 // A sender and its peer: their numbers and rows.
 pub struct Ends {
@@ -33,10 +33,9 @@ pub struct Ends {
     pub far: QueuePair,
 }
 
-// What the tests of the two queue pairs end with: the pairs, the sender in error that has a place, or the answer.
+// What the tests of the two queue pairs end with: the pairs, or the answer.
 pub enum Meeting {
     Pairs(Ends),
-    Flushed(QueuePair),
     Stopped(Answer),
 }
 
@@ -118,8 +117,8 @@ fn meet_peer(state: &[u8], e: Ends, opcode: u8) -> Meeting
     Meeting::Pairs(e)
 }
 
-// The tests of the peer of queue pair q, which is not in error.
-fn meet_far(state: &[u8], q: usize, own: QueuePair, opcode: u8) -> Meeting
+// The tests that hold a request of queue pair q, which is not in error: those of its peer.
+pub fn meet(state: &[u8], q: usize, own: QueuePair, opcode: u8) -> Meeting
     requires { ⌜ Sender (now state) q own × (own .state ≡ 6 → ⊥) ⌝ }
     ensures { λ r. ⌜ r ≡ holding (now (state .entry)) q opcode ⌝ }
 {
@@ -136,26 +135,53 @@ fn meet_far(state: &[u8], q: usize, own: QueuePair, opcode: u8) -> Meeting
     meet_peer(state, e, opcode)
 }
 
-// The test of the queue pair q in error: a place for its completion. No peer is looked at.
-fn meet_error(state: &[u8], q: usize, own: QueuePair) -> Meeting
-    requires { ⌜ Sender (now state) q own × (own .state ≡ 6) ⌝ }
-    ensures { λ r. ⌜ r ≡ flushMeeting (now (state .entry)) own ⌝ }
+// The test of a queue pair in error, whose row is own: a place for its completion. No peer is looked at.
+pub fn has_place(state: &[u8], own: QueuePair) -> bool
+    requires { ⌜ (own .scq < cqCount) × (length (now state) ≡ stateSize) ⌝ }
+    ensures { λ r. ⌜ r ≡ hasPlace (now (state .entry)) own ⌝ }
 {
     let h = rows::load_cq(state, own.scq as usize);
-    if !has_room(h, 1) {
-        return Meeting::Stopped(Answer::Held(Cause::Place));
-    }
-    Meeting::Flushed(own)
+    has_room(h, 1)
 }
 
-// The tests that hold a request of queue pair q, which is live.
-pub fn hold(state: &[u8], q: usize, opcode: u8) -> Meeting
+// Whether a peer that is ready has a receive that waits, where one is taken, and there are places for the completions.
+fn peer_passes(state: &[u8], e: Ends, opcode: u8) -> bool
+    requires { ⌜ (e .own .scq < cqCount) × (e .far .rcq < cqCount) × (e .d < qpCount) × (length (now state) ≡ stateSize) ⌝ }
+    ensures { λ r. ⌜ r ≡ isPairs (peerMeeting (now (state .entry)) e opcode) ⌝ }
+{
+    let h = rows::load_waiting(state, e.d);
+    if takes_receive(opcode) & (h.count == 0) {
+        return false;
+    }
+    has_places(state, e.own.scq, e.far.rcq, opcode)
+}
+
+// Whether nothing holds a request of queue pair q, which is not in error. The tests are those of meet; there the one caller gets the two rows.
+fn peer_free(state: &[u8], q: usize, own: QueuePair, opcode: u8) -> bool
+    requires { ⌜ Sender (now state) q own × (own .state ≡ 6 → ⊥) ⌝ }
+    ensures { λ r. ⌜ r ≡ isFree (now (state .entry)) q opcode ⌝ }
+{
+    let d = own.dest as usize;
+    if QP_COUNT <= d {
+        return false;
+    }
+    let live = is_live(state, d);
+    let far = rows::load_qp(state, d);
+    if !answers_to(live, far, q) {
+        return false;
+    }
+    let e = Ends { q, own, d, far };
+    peer_passes(state, e, opcode)
+}
+
+// Whether nothing holds a request of queue pair q, which is live.
+pub fn is_free(state: &[u8], q: usize, opcode: u8) -> bool
     requires { ⌜ (accepts (now state) ≡ true) × (length (now state) ≡ stateSize) × (card (now state) .qp q .live ≡ true) ⌝ }
-    ensures { λ r. ⌜ r ≡ holding (now (state .entry)) q opcode ⌝ }
+    ensures { λ r. ⌜ r ≡ isFree (now (state .entry)) q opcode ⌝ }
 {
     let own = rows::load_qp(state, q);
     if own.state == ERROR {
-        return meet_error(state, q, own);
+        return has_place(state, own);
     }
-    meet_far(state, q, own, opcode)
+    peer_free(state, q, own, opcode)
 }

@@ -21,7 +21,7 @@ ghost use Rattle.rules.specs.Send.{deliveryChecks};
 ghost use Rattle.dma.specs.Moves.{Ready};
 ghost use Rattle.delivery.specs.Run.{requestBy, Bounded, Ran};
 
-// "QP 2; QP not in RTS 3", or in error, and then the request run on the queue pair.
+// "QP 2; QP not in RTS 3", and then the request run on the queue pair, or flushed where it is in error.
 fn direct(
     state: &mut [u8],
     memory: &mut [u8],
@@ -42,10 +42,13 @@ fn direct(
         return Answer::Refused(NOT_LIVE);
     }
     let own = rows::load_qp(state, q);
-    if (own.state != RTS) & (own.state != ERROR) {
+    if own.state == ERROR {
+        return delivery::flush(state, q, own, s);
+    }
+    if own.state != RTS {
         return Answer::Refused(WRONG_STATE);
     }
-    delivery::run(state, memory, q, s, sges, inline)
+    delivery::run(state, memory, q, own, s, sges, inline)
 }
 
 // Post send: the state's and the memory's tests, the record's, and then the request that it is.

@@ -1,14 +1,10 @@
-use mathlib.Core.Path.{_≡_, sym, _∙_}
-use mathlib.Core.Bool.{true}
+use mathlib.Core.Path.{sym, _∙_}
 use denote.Ref.{now}
 use borrow.Author.Tests.{not-true, not-false}
-use Rattle.wire.specs.Table.{rowAt}
-use Rattle.tables.specs.Layout.{qpFlagT}
-use Rattle.tables.specs.State.{isLive}
-use Rattle.tables.proofs.ObjectLaws.{qp-live}
 use Rattle.rules.specs.Touch.{Request}
+use Rattle.delivery.specs.Meet.{Sender}
 use Rattle.delivery.specs.Run.{requestBy}
-use Rattle.engine.proofs.DirectLaws.{no-pair, not-live, not-ready, run-on}
+use Rattle.engine.proofs.DirectLaws.{no-pair, not-live, not-ready, run-on, flush-on}
 use borrow.Author.Needs.{needs}
 use Rattle.engine.proofs.send.direct.Statement.{statement}
 use Rattle.engine.proofs.send.direct.Tie as tie
@@ -16,9 +12,18 @@ use Rattle.engine.proofs.send.direct.Tie as tie
 abbrev asked : (b : tie.Start) → Request
 asked b = requestBy (b .args .s) (b .args .sges) (now (b .args .inline))
 
--- the queue pair is live
-is-live : (c : tie.Else2) → isLive (rowAt qpFlagT (now (c .before .before .before .before .before .before .before .args .state)) (c .before .before .before .before .before .before .before .args .qpn)) ≡ true
-is-live c = sym (c .before .is-live .ensures) ∙ not-false _ (c .if2 .left)
+-- the row that was loaded is that of a live queue pair
+its : (k : tie.After-load-qp) → let a = k .before .before .before .before .before .before .before .before .before .args in Sender (now (a .state)) (a .qpn) (k .load-qp .result)
+its k =
+    let e = k .before .before in
+    let b = e .before .before .before .before .before .before .before in
+    record {
+      accepted = b .pre .0 .accepted;
+      size = b .pre .0 .size;
+      below = e .before .before .before .if1 .left;
+      live = sym (e .before .is-live .ensures) ∙ not-false _ (e .if2 .left);
+      row = k .load-qp .ensures;
+    }
 
 returns : tie.Need-returns
 returns c =
@@ -40,35 +45,49 @@ returns-2 c =
 load-qp-requires : tie.Need-load-qp-requires
 load-qp-requires c κs = search needs
 
+flush-requires : tie.Need-flush-requires
+flush-requires c κs = (its (c .before .before .before), c .before .if3 .taken)
+
 same-length-2 : tie.Need-same-length-2
 same-length-2 c = search needs
 
 returns-3 : tie.Need-returns-3
 returns-3 c =
-    let e = c .before .before .before .before .before in
-    let b = e .before .before .before .before .before .before .before in
-    not-ready (now (b .args .state)) (b .args .qpn) (asked b) (now (b .args .memory)) (e .before .before .before .if1 .left) (is-live e) _
-    (c .before .before .before .load-qp .ensures) (c .if3 .taken)
-
-run-requires : tie.Need-run-requires
-run-requires c κs =
-    let e = c .before .before .before .before .before .before .before in
-    let b = e .before .before .before .before .before .before .before in
-    (b .pre .0, (qp-live (now (b .args .state)) (b .args .qpn) (e .before .before .before .if1 .left) ∙ is-live e, b .pre .1))
+    let k = c .before .before .before .before .before .before in
+    let b = k .before .before .before .before .before .before .before .before .before in
+    let y = its k in
+    flush-on (now (b .args .state)) (b .args .qpn) (asked b) (now (b .args .memory)) (y .below) (y .live) _ (y .row) (c .before .before .before .before .if3 .taken) _ _ _
+    (c .before .before .flush .ensures (b .args .sges) (now (b .args .inline)) (now (b .args .memory)))
 
 same-length-3 : tie.Need-same-length-3
 same-length-3 c = search needs
 
+returns-4 : tie.Need-returns-4
+returns-4 c =
+    let k = c .before .before .before .before in
+    let b = k .before .before .before .before .before .before .before .before .before in
+    let y = its k in
+    not-ready (now (b .args .state)) (b .args .qpn) (asked b) (now (b .args .memory)) (y .below) (y .live) _ (y .row) (c .before .before .if3 .left) (c .if4 .taken)
+
+run-requires : tie.Need-run-requires
+run-requires c κs =
+    let k = c .before .before .before .before .before .before in
+    let b = k .before .before .before .before .before .before .before .before .before in
+    ((b .pre .0, its k, c .before .before .before .before .if3 .left), b .pre .1)
+
 same-length-4 : tie.Need-same-length-4
 same-length-4 c = search needs
 
-returns-4 : tie.Need-returns-4
-returns-4 c =
-    let k = c .before .before .before .before .before .before .before in
-    let e = k .before .before .before .before .before in
-    let b = e .before .before .before .before .before .before .before in
-    run-on (now (b .args .state)) (b .args .qpn) (asked b) (now (b .args .memory)) (e .before .before .before .if1 .left) (is-live e) _
-    (k .before .before .before .load-qp .ensures) (k .if3 .left) _ _ _ (c .before .before .before .before .run .ensures)
+same-length-5 : tie.Need-same-length-5
+same-length-5 c = search needs
+
+returns-5 : tie.Need-returns-5
+returns-5 c =
+    let k = c .before .before .before .before .before .before .before .before .before .before .before in
+    let b = k .before .before .before .before .before .before .before .before .before in
+    let y = its k in
+    run-on (now (b .args .state)) (b .args .qpn) (asked b) (now (b .args .memory)) (y .below) (y .live) _ (y .row) (c .before .before .before .before .before .before .before .if4 .left) _ _ _
+    (c .before .before .before .before .run .ensures)
 
 pub direct-spec : {M : Type 1} → statement M
 direct-spec =
@@ -79,9 +98,12 @@ direct-spec =
     same-length
     returns-2
     load-qp-requires
+    flush-requires
     same-length-2
     returns-3
-    run-requires
     same-length-3
+    returns-4
+    run-requires
     same-length-4
-    returns-4)
+    same-length-5
+    returns-5)

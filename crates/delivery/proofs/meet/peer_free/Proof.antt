@@ -1,10 +1,11 @@
-use mathlib.Core.Path.{sym, _∙_}
+use mathlib.Core.Path.{sym, ap, _∙_}
 use denote.Ref.{now}
+use Rattle.delivery.specs.Meet.{isPairs}
 use borrow.Author.Tests.{not-true, not-false}
-use Rattle.delivery.proofs.MeetLaws.{no-peer, peer-silent, queues-below, peer-met}
+use Rattle.delivery.proofs.MeetLaws.{no-peer, peer-silent, queues-below, peer-met, free-is}
 use borrow.Author.Needs.{needs}
-use Rattle.delivery.proofs.meet.meet_far.Statement.{statement}
-use Rattle.delivery.proofs.meet.meet_far.Tie as tie
+use Rattle.delivery.proofs.meet.peer_free.Statement.{statement}
+use Rattle.delivery.proofs.meet.peer_free.Tie as tie
 
 cast-d : tie.Need-cast-d
 cast-d c = search needs
@@ -13,7 +14,8 @@ returns : tie.Need-returns
 returns c =
     let b = c .before .before .before in
     let a = b .args in
-    no-peer (now (a .state)) (a .q) (a .opcode) (a .own) (b .pre .0) (b .pre .1) (c .if1 .taken)
+    ap isPairs (no-peer (now (a .state)) (a .q) (a .opcode) (a .own) (b .pre .0) (b .pre .1) (c .if1 .taken))
+    ∙ free-is (now (a .state)) (a .q) (a .opcode) (a .own) (b .pre .0)
 
 is-live-requires : tie.Need-is-live-requires
 is-live-requires c κs = search needs
@@ -28,12 +30,13 @@ returns-2 : tie.Need-returns-2
 returns-2 c =
     let b = c .before .before .before .before .before .before .before in
     let a = b .args in
-    peer-silent (now (a .state)) (a .q) (a .opcode) (a .own) (b .pre .0) (b .pre .1) (c .before .before .before .before .if1 .left) _
+    ap isPairs (peer-silent (now (a .state)) (a .q) (a .opcode) (a .own) (b .pre .0) (b .pre .1) (c .before .before .before .before .if1 .left) _
     (c .before .before .before .is-live .ensures) _ (c .before .before .load-qp .ensures)
-    (sym (c .before .answers-to .ensures) ∙ not-true _ (c .if2 .taken))
+    (sym (c .before .answers-to .ensures) ∙ not-true _ (c .if2 .taken)))
+    ∙ free-is (now (a .state)) (a .q) (a .opcode) (a .own) (b .pre .0)
 
-meet-peer-requires : tie.Need-meet-peer-requires
-meet-peer-requires c κs =
+peer-passes-requires : tie.Need-peer-passes-requires
+peer-passes-requires c κs =
     let b = c .before .before .before .before .before .before .before in
     let a = b .args in
     let h = c .before .before .before .before .if1 .left in
@@ -45,13 +48,14 @@ returns-3 : tie.Need-returns-3
 returns-3 c =
     let b = c .before .before .before .before .before .before .before .before in
     let a = b .args in
-    c .meet-peer .ensures
-    ∙ peer-met (now (a .state)) (a .q) (a .opcode) (a .own) (b .pre .0) (b .pre .1) (c .before .before .before .before .before .if1 .left) _
+    c .peer-passes .ensures
+    ∙ ap isPairs (peer-met (now (a .state)) (a .q) (a .opcode) (a .own) (b .pre .0) (b .pre .1) (c .before .before .before .before .before .if1 .left) _
     (c .before .before .before .before .is-live .ensures) _ (c .before .before .before .load-qp .ensures)
-    (sym (c .before .before .answers-to .ensures) ∙ not-false _ (c .before .if2 .left))
+    (sym (c .before .before .answers-to .ensures) ∙ not-false _ (c .before .if2 .left)))
+    ∙ free-is (now (a .state)) (a .q) (a .opcode) (a .own) (b .pre .0)
 
-pub meet-far-spec : {M : Type 1} → statement M
-meet-far-spec =
+pub peer-free-spec : {M : Type 1} → statement M
+peer-free-spec =
     tie.close
     (tie.spec
     cast-d
@@ -60,5 +64,5 @@ meet-far-spec =
     load-qp-requires
     answers-to-requires
     returns-2
-    meet-peer-requires
+    peer-passes-requires
     returns-3)
