@@ -3,7 +3,7 @@
 ghost use mathlib.Core.List.{[], _∷_};
 ghost use Rattle.rules.specs.Call.{Call};
 ghost use Rattle.judge.specs.Whole.{FromC};
-ghost use Rattle.caller.specs.Served.{seen, turn, Served};
+ghost use Rattle.caller.specs.Exchange.{seen, exchange, Answered};
 
 pub fn reset(state: &mut [u8], memory: u64) -> u32
     ensures { λ r. ⌜ FromC (now (state .entry)) (seen (Call.reset memory) r (now (state .exit)) [] []) ⌝ }
@@ -75,13 +75,13 @@ pub fn run(
     cqn: u32,
     buffer: &mut [u8],
 ) -> Results
-    ensures { λ r. ⌜ Served (now (state .entry)) (turn (Call.reset size) (r .reset) [] [])
-        (turn (Call.control (now (command .entry)) (now (ack .entry))) (r .control) [] (now (ack .exit))
-        ∷ turn (Call.registerPages (now (region .entry)) (now (pages .entry)) (now (keys .entry))) (r .pages) [] (now (keys .exit))
-        ∷ turn (Call.receive receiver (now (posted .entry))) (r .receive) [] []
-        ∷ turn (Call.send sender (now (sent .entry)) (now (memory .entry))) (r .send) (now (memory .exit)) []
-        ∷ turn (Call.flush receiver) (r .flush) [] []
-        ∷ turn (Call.poll cqn (now (buffer .entry))) (r .poll) [] (now (buffer .exit))
+    ensures { λ r. ⌜ Answered (now (state .entry)) (exchange (Call.reset size) (r .reset) [] [])
+        (exchange (Call.control (now (command .entry)) (now (ack .entry))) (r .control) [] (now (ack .exit))
+        ∷ exchange (Call.registerPages (now (region .entry)) (now (pages .entry)) (now (keys .entry))) (r .pages) [] (now (keys .exit))
+        ∷ exchange (Call.receive receiver (now (posted .entry))) (r .receive) [] []
+        ∷ exchange (Call.send sender (now (sent .entry)) (now (memory .entry))) (r .send) (now (memory .exit)) []
+        ∷ exchange (Call.flush receiver) (r .flush) [] []
+        ∷ exchange (Call.poll cqn (now (buffer .entry))) (r .poll) [] (now (buffer .exit))
         ∷ [])
         (now (state .exit)) ⌝ }
 {

@@ -27,7 +27,7 @@ use Rattle.rules.specs.declared.Answer.the-variants.{Done}
 use Rattle.rules.proofs.Tests.{passed-before, passed-after}
 use Rattle.judge.specs.Log.{Log, PairNote, noteCommand, ackData, Note}
 use Rattle.judge.specs.Whole.{Met}
-use Rattle.judge.specs.Demand3.{Seen, heard, stateAfter, Linked}
+use Rattle.judge.specs.Demand3.{Seen, heard, stateAfter, Linked, AfterReset}
 use Rattle.judge.specs.Count.{puts, putInto, staysBy, stays, PutsBy, Puts, receivePuts, Tally, none-yet, countedBy, noted, completed, tallied, tallyAfter, Counted}
 use Rattle.judge.proofs.Acks.{ack-back}
 use Rattle.judge.proofs.Pairs.{error-waiting}
@@ -307,6 +307,6 @@ module _ (Made : (st : List ℕ) → Seen → Type 0) (cardOf : List ℕ → Car
       (rw (m .card, m .answer, m .buffer) (counts-on st l (x .call) t a)) (h .1)
 
   pub counted : Counted Made cardOf
-  unfolding Counted
+  unfolding AfterReset
   counted x b xs links q = counts-list (x .left .state) (b .base) (λ i. none-yet) xs
       (rw (fresh-card Made cardOf accepts met x b .card) (λ q e. absurd (false≢true e))) links q

@@ -26,7 +26,7 @@ use Rattle.rules.specs.Calls.{checks, resetChecks, controlChecks, bufferChecks,
 use Rattle.judge.specs.Log.{Log, fed, ackData}
 use Rattle.judge.specs.Judge.{flushesAtOnce, judge, nearPasses, farPasses, near, far, passes, filled, waiting, standing, told, toldOfBoth, domain, peer, accepted, taken, errored, rights}
 
-abbrev mem : List ℕ
+abbrev pub mem : List ℕ
 mem = 1 ∷ 2 ∷ 3 ∷ 4 ∷ 5 ∷ 6 ∷ 7 ∷ 8 ∷ []
 
 abbrev pub command : (number size : ℕ) → List ℕ
@@ -47,22 +47,23 @@ abbrev pub created : Call
 created = control (encode createQpCodec (command 9 16) 2 (record { pd = 0; kind = 2; signal = 0; scq = 0; rcq = 0 }))
 
 -- one piece of 2 bytes at 101, which is memory byte 1
-abbrev posted : (opcode key : ℕ) → Call
-posted o k =
-    Call.send 0
-    (encode sgeCodec (encode sendCodec (replicate 592 0) 0 (record { wr = 7; opcode = o; flags = 0; imm = 0; address = 4096; key = k; count = 1 })) 576
-    (record { address = 101; length = 2; key = 1 }))
-    mem
+abbrev pub record-of : (opcode key : ℕ) → List ℕ
+record-of o k =
+    encode sgeCodec (encode sendCodec (replicate 592 0) 0 (record { wr = 7; opcode = o; flags = 0; imm = 0; address = 4096; key = k; count = 1 })) 576
+    (record { address = 101; length = 2; key = 1 })
+
+abbrev pub posted : (opcode key : ℕ) → Call
+posted o k = Call.send 0 (record-of o k) mem
 
 -- one piece of 3 bytes at 4097, which is memory byte 5
-abbrev waited : (q : ℕ) → Call
+abbrev pub waited : (q : ℕ) → Call
 waited q =
     Call.receive q
     (encode receiveCodec (replicate 40 0) 0
     (record { wr = 9; count = 1; first = record { address = 4097; length = 3; key = 257 }; second = record { address = 0; length = 0; key = 0 } }))
 
 -- a domain, a completion queue, two regions of 4 bytes with the keys 1 and 257, and two queue pairs that are joined, each with its flags
-abbrev opened : (own far : ℕ) → List Call
+abbrev pub opened : (own far : ℕ) → List Call
 opened a b =
     control (command 4 0) ∷
     control (encode numberCodec (command 2 4) 2 8) ∷
@@ -78,7 +79,7 @@ opened a b =
     []
 
 -- the peer may be written to and read from
-abbrev setup : List Call
+abbrev pub setup : List Call
 setup = opened 0 7
 
 -- the judge's verdict on a work request, and on a receive whether it waits

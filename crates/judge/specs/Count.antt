@@ -18,7 +18,7 @@ use Rattle.rules.specs.Send.{Put, sendPuts, sendStatus}
 use Rattle.rules.specs.Queues.{flushPut, joinPuts}
 use Rattle.rules.specs.Call.{Call, OnPair, given}
 use Rattle.judge.specs.Log.{Log, Note, PairNote, entry, note, begins}
-use Rattle.judge.specs.Demand3.{Seen, Claim, heard, stateAfter, Linked, Begins}
+use Rattle.judge.specs.Demand3.{Seen, Claim, heard, stateAfter, AfterReset}
 
 -- ---- completions put
 
@@ -122,9 +122,9 @@ tallyAfter cardOf t st l (x ∷ xs) =
     tallyAfter cardOf (tallied (cardOf st) l (x .call) (x .left .answer) (x .left .buffer) t) (x .left .state) (heard l x) xs
 
 -- after every list of calls that follows a reset answered 0, for every live queue pair
-unfoldable pub Counted : (Made : (st : List ℕ) → Seen → Type 0) → (cardOf : List ℕ → Card) → Type 0
+abbrev pub Counted : (Made : (st : List ℕ) → Seen → Type 0) → (cardOf : List ℕ → Card) → Type 0
 Counted Made cardOf =
-    (x : Seen) → (b : Begins Made x) → (xs : List Seen) → Linked Made (x .left .state) xs → (q : ℕ) →
-    let s = cardOf (stateAfter (x .left .state) xs) .qp q in
-    let t = tallyAfter cardOf (λ i. none-yet) (x .left .state) (b .base) xs q in
-    s .live ≡ true → t .accepted ≡ t .put + t .dropped + length (s .waiting)
+    AfterReset Made (λ st l xs. (q : ℕ) →
+    let s = cardOf (stateAfter st xs) .qp q in
+    let t = tallyAfter cardOf (λ i. none-yet) st l xs q in
+    s .live ≡ true → t .accepted ≡ t .put + t .dropped + length (s .waiting))
