@@ -27,7 +27,7 @@ use Rattle.rules.specs.Contract.{bytesAfter}
 use Rattle.rules.specs.declared.Answer.the-variants.{Done}
 use Rattle.rules.specs.Calls.{checks, resetChecks, controlChecks, bufferChecks, statusOf, effect, memoryAfter, bufferAfter, step}
 use Rattle.judge.specs.Log.{fed, ackData}
-use Rattle.judge.specs.Judge.{judge, nearPasses, farPasses, near, far, passes, filled, waiting, standing, told, toldOfBoth, domain, peer, accepted, taken, errored, rights}
+use Rattle.judge.specs.Judge.{judge, nearPasses, farPasses, near, far, passes, filled, waiting, standing, told, toldOfBoth, domain, peer, accepted, consumed, errored, rights}
 use Rattle.judge.specs.Demand3.{Begins, AfterReset}
 use Rattle.judge.specs.Whole.{FromC}
 use Rattle.judge.proofs.Whole.{exported}
@@ -40,7 +40,7 @@ abbrev callsOf : List Line → List Call
 callsOf ls = map (λ (x : Line). x .call) ls
 
 computed : lines [] (exchanges (fresh 8) (callsOf run)) ≡ run
-unfolding exchanges lines fieldsAt putFields leAt putLe rows rowsFrom lowest lowestFrom anyBelow commandOf dataSize ackNeed numberCodec registerCodec createQpCodec modifyQpCodec sendCodec sgeCodec receiveCodec completionCodec sendChecks receiveChecks receiveSges receiveOf sendSge inlineBytes inlineLength pagesNeeded pageRecordChecks pageListChecks all stored requestOf receiveIn range sgeBytes sgeTotal total ownBytes farBytes byteOf message delivered permits permitsAll place lookup covers commandChecks commandAck commandEffect pairChecks readyChecks placeChecks holdChecks deliveryChecks runStatus sendStatus sendPuts putAll sendQps sendEffect sendMemory joinChecks joinStatus joinPuts joined received flushChecks flushed pollChecks polled checks resetChecks controlChecks bufferChecks statusOf effect memoryAfter bufferAfter step fed ackData judge nearPasses farPasses near far passes filled waiting standing told toldOfBoth domain peer accepted taken errored rights byteIn
+unfolding exchanges lines fieldsAt putFields leAt putLe rows rowsFrom lowest lowestFrom anyBelow commandOf dataSize ackNeed numberCodec registerCodec createQpCodec modifyQpCodec sendCodec sgeCodec receiveCodec completionCodec sendChecks receiveChecks receiveSges receiveOf sendSge inlineBytes inlineLength pagesNeeded pageRecordChecks pageListChecks all stored requestOf receiveIn range sgeBytes sgeTotal total ownBytes farBytes byteOf message delivered permits permitsAll place lookup covers commandChecks commandAck commandEffect pairChecks readyChecks placeChecks holdChecks deliveryChecks runStatus sendStatus sendPuts putAll sendQps sendEffect sendMemory joinChecks joinStatus joinPuts joined received flushChecks flushed pollChecks polled checks resetChecks controlChecks bufferChecks statusOf effect memoryAfter bufferAfter step fed ackData judge nearPasses farPasses near far passes filled waiting standing told toldOfBoth domain peer accepted consumed errored rights byteIn
 computed = refl
 
 module _ (l : List ℕ) (sized : length l ≡ stateSize) where
@@ -72,7 +72,7 @@ module _ (l : List ℕ) (sized : length l ≡ stateSize) where
         begins = begins;
         linked = links;
         judged = exported .judged (made l (Call.reset 8)) begins (madeAll start (callsOf run)) links;
-        flushed = exported .flushed (made l (Call.reset 8)) begins (madeAll start (callsOf run)) links;
+        receives = exported .receives (made l (Call.reset 8)) begins (madeAll start (callsOf run)) links;
         shows = ap (lines []) calls-are ∙ computed;
       }
 

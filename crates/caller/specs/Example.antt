@@ -136,8 +136,8 @@ fails k s = record { call = k; answer = Done s; memory = memory; verdict = some 
 abbrev pub queued : Call → Line
 queued k = record { call = k; answer = Done 0; memory = []; verdict = some true }
 
-abbrev pub flushed : Call → Line
-flushed k = record { call = k; answer = Done 4; memory = []; verdict = some false }
+abbrev pub flushedAtOnce : Call → Line
+flushedAtOnce k = record { call = k; answer = Done 4; memory = []; verdict = some false }
 
 abbrev pub waits : Call → Line
 waits k = record { call = k; answer = Held Peer; memory = memory; verdict = none }
@@ -222,7 +222,7 @@ dropping =
     queued (receive 200 4) ∷
     done (Call.flush 1) ∷
     done (Call.flush 1) ∷
-    flushed (receive 200 4) ∷
+    flushedAtOnce (receive 200 4) ∷
     again
     ++ (done (move 1 0) ∷ done (allow 1 1 7) ∷ done (aim 1 0) ∷ fails (send 0 0 200 (keyOf 1) unused 1 two) 8 ∷ done poll ∷ [])
 

@@ -67,5 +67,5 @@ pub record Shown (first : Seen) (calls : List Seen) (ls : List Line) : Type 0 wh
   pub begins : Begins FromC first
   pub linked : Linked FromC (first .left .state) calls
   pub judged : Each (OfWork Judged) (first .left .state) (begins .base) calls
-  pub flushed : Each Flushes (first .left .state) (begins .base) calls
+  pub receives : Each Flushes (first .left .state) (begins .base) calls
   pub shows : lines (begins .base) (map exchangeOf calls) ≡ ls

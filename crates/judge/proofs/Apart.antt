@@ -14,7 +14,7 @@ use Rattle.wire.proofs.ScanLaws.{and-left, and-right}
 use Rattle.rules.specs.Lists.{names}
 use Rattle.rules.specs.Touch.{Byte}
 use Rattle.judge.specs.Log.{Log}
-use Rattle.judge.specs.Judge.{Standing, standing, grants, opens, Side, passes, passesBy, placed, placeBy, Work, moves, readSide, writtenSide}
+use Rattle.judge.specs.Judge.{Standing, standing, grants, flagsGrant, Side, passes, passesBy, placed, placeBy, Work, moves, readSide, writtenSide}
 use Rattle.judge.specs.Demand3.{Correct, Bytewise, target, targetByte, writtenLength}
 use Rattle.judge.specs.Apart.{Means, Covered, Reason, Apart}
 use Rattle.judge.proofs.Bytes.{target-passes, source-passes, correct-bytes}
@@ -56,7 +56,7 @@ module _ (l : Log) (s : Side) (b : Byte) (p : ℕ) where
       go (some h) e y z =
           let d : Bool = names (s .party .domain) (h .reg .pd) in
           let t : Bool = grants (h .reg .access) (s .right) in
-          let f : Bool = opens (s .party .rights) (s .right) in
+          let f : Bool = flagsGrant (s .party .rights) (s .right) in
           let v : Bool = leb (h .reg .virt) (b .address) in
           let w : Bool = ltb (b .address) (h .reg .virt + h .reg .length) in
           record {
@@ -67,7 +67,7 @@ module _ (l : Log) (s : Side) (b : Byte) (p : ℕ) where
             means = record {
               low = leb-true (h .reg .virt) (b .address) (and-right (d && t && f) v (and-left (d && t && f && v) w y));
               high = ltb-true (b .address) (h .reg .virt + h .reg .length) (and-right (d && t && f && v) w y);
-              place = z;
+              is = z;
             };
           }
 

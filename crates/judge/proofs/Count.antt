@@ -120,11 +120,11 @@ module _ (c : Card) (t : ℕ → Tally) (a : Counts (c .qp) t) where
   abbrev Command-counts : Command → Type 0
   Command-counts k = (q : ℕ) → Sums (commandEffect c k .qp q) (noted (noteCommand k (numbersOf (commandAck c k))) q (length (c .qp q .waiting)) (t q))
 
-  moved-sums : (s : Qp) (v : Tally) (z : Bool) → v .accepted ≡ v .put + v .dropped + length (s .waiting) →
+  changed-sums : (s : Qp) (v : Tally) (z : Bool) → v .accepted ≡ v .put + v .dropped + length (s .waiting) →
       let v′ = cond z (record { accepted = v .accepted; put = v .put; dropped = v .dropped + length (s .waiting) }) v in
       v′ .accepted ≡ v′ .put + v′ .dropped + length (cond z [] (s .waiting))
-  moved-sums s v true e = omega arith
-  moved-sums s v false e = e
+  changed-sums s v true e = omega arith
+  changed-sums s v false e = e
 
   command : (k : Command) → Command-counts k
   unfolding commandEffect commandAck
@@ -138,7 +138,7 @@ module _ (c : Card) (t : ℕ → Tally) (a : Counts (c .qp) t) where
   command (Command.deregister n) = a
   command (Command.createQp r) = split (freeQpn c) _ (rw same (λ e. refl)) (λ j e. rw e (a j))
   command (Command.modifyQp r) =
-      split (r .qpn) _ (rw same (λ e. moved-sums (c .qp (r .qpn)) (t (r .qpn)) (eqb (r .state) 0) (a (r .qpn) e))) (λ j e. rw e (a j))
+      split (r .qpn) _ (rw same (λ e. changed-sums (c .qp (r .qpn)) (t (r .qpn)) (eqb (r .state) 0) (a (r .qpn) e))) (λ j e. rw e (a j))
   command (Command.destroyQp q) = split q _ (rw same (λ e. absurd (false≢true e))) (λ j e. rw e (a j))
 
 -- ---- a receive leaves

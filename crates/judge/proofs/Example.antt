@@ -24,7 +24,7 @@ use Rattle.rules.specs.Queues.{joinChecks, joinStatus, joinPuts, joined, receiv
 use Rattle.rules.specs.Call.{Call}
 use Rattle.rules.specs.Calls.{checks, resetChecks, controlChecks, bufferChecks, statusOf, effect, memoryAfter, bufferAfter, step}
 use Rattle.judge.specs.Log.{Log, fed, ackData}
-use Rattle.judge.specs.Judge.{flushesAtOnce, judge, nearPasses, farPasses, near, far, passes, filled, waiting, standing, told, toldOfBoth, domain, peer, accepted, taken, errored, rights}
+use Rattle.judge.specs.Judge.{flushesAtOnce, judge, nearPasses, farPasses, near, far, passes, filled, waiting, standing, told, toldOfBoth, domain, peer, accepted, consumed, errored, rights}
 
 abbrev pub mem : List ℕ
 mem = 1 ∷ 2 ∷ 3 ∷ 4 ∷ 5 ∷ 6 ∷ 7 ∷ 8 ∷ []
@@ -120,7 +120,7 @@ pub works : drop 11 (run (fresh 8) [] (setup ++ (posted 0 257 ∷ posted 2 0 ∷
     ∷ (Held Place, (1 ∷ 2 ∷ 3 ∷ 4 ∷ 5 ∷ 6 ∷ 7 ∷ 8 ∷ [], false))
     ∷ (Held Place, ([], false))
     ∷ []
-unfolding run fieldsAt putFields leAt putLe rows rowsFrom lowest lowestFrom anyBelow commandOf dataSize ackNeed numberCodec registerCodec createQpCodec modifyQpCodec sendCodec sgeCodec receiveCodec completionCodec sendChecks receiveChecks receiveSges receiveOf sendSge inlineBytes inlineLength all stored requestOf receiveIn range sgeBytes sgeTotal total ownBytes farBytes byteOf message delivered permits permitsAll place lookup covers commandChecks commandAck commandEffect pairChecks readyChecks placeChecks holdChecks deliveryChecks runStatus sendStatus sendPuts putAll sendQps sendEffect sendMemory joinChecks joinStatus joinPuts joined received flushChecks flushed pollChecks polled checks resetChecks controlChecks bufferChecks statusOf effect memoryAfter bufferAfter step fed ackData judge nearPasses farPasses near far passes filled waiting standing told toldOfBoth domain peer accepted taken errored rights byteIn
+unfolding run fieldsAt putFields leAt putLe rows rowsFrom lowest lowestFrom anyBelow commandOf dataSize ackNeed numberCodec registerCodec createQpCodec modifyQpCodec sendCodec sgeCodec receiveCodec completionCodec sendChecks receiveChecks receiveSges receiveOf sendSge inlineBytes inlineLength all stored requestOf receiveIn range sgeBytes sgeTotal total ownBytes farBytes byteOf message delivered permits permitsAll place lookup covers commandChecks commandAck commandEffect pairChecks readyChecks placeChecks holdChecks deliveryChecks runStatus sendStatus sendPuts putAll sendQps sendEffect sendMemory joinChecks joinStatus joinPuts joined received flushChecks flushed pollChecks polled checks resetChecks controlChecks bufferChecks statusOf effect memoryAfter bufferAfter step fed ackData judge nearPasses farPasses near far passes filled waiting standing told toldOfBoth domain peer accepted consumed errored rights byteIn
 works = refl
 
 -- ---- what a queue pair's access flags open
@@ -132,7 +132,7 @@ shown ks = drop 11 (run (fresh 8) [] ks)
 -- a peer that can be read from and not written to: a read, and a write
 pub readable : shown (opened 0 4 ++ (posted 4 257 ∷ posted 0 257 ∷ []))
     ≡ (Done 0, (1 ∷ 5 ∷ 6 ∷ 4 ∷ 5 ∷ 6 ∷ 7 ∷ 8 ∷ [], true)) ∷ (Done 8, (1 ∷ 2 ∷ 3 ∷ 4 ∷ 5 ∷ 6 ∷ 7 ∷ 8 ∷ [], false)) ∷ []
-unfolding run fieldsAt putFields leAt putLe rows rowsFrom lowest lowestFrom anyBelow commandOf dataSize ackNeed numberCodec registerCodec createQpCodec modifyQpCodec sendCodec sgeCodec receiveCodec completionCodec sendChecks receiveChecks receiveSges receiveOf sendSge inlineBytes inlineLength all stored requestOf receiveIn range sgeBytes sgeTotal total ownBytes farBytes byteOf message delivered permits permitsAll place lookup covers commandChecks commandAck commandEffect deliveryChecks sendStatus sendPuts putAll sendQps sendEffect sendMemory joinChecks joined flushChecks flushed pollChecks polled checks resetChecks controlChecks bufferChecks statusOf effect memoryAfter bufferAfter step fed ackData judge nearPasses farPasses near far passes filled waiting standing told domain rights peer accepted taken pairChecks holdChecks readyChecks runStatus errored toldOfBoth byteIn
+unfolding run fieldsAt putFields leAt putLe rows rowsFrom lowest lowestFrom anyBelow commandOf dataSize ackNeed numberCodec registerCodec createQpCodec modifyQpCodec sendCodec sgeCodec receiveCodec completionCodec sendChecks receiveChecks receiveSges receiveOf sendSge inlineBytes inlineLength all stored requestOf receiveIn range sgeBytes sgeTotal total ownBytes farBytes byteOf message delivered permits permitsAll place lookup covers commandChecks commandAck commandEffect deliveryChecks sendStatus sendPuts putAll sendQps sendEffect sendMemory joinChecks joined flushChecks flushed pollChecks polled checks resetChecks controlChecks bufferChecks statusOf effect memoryAfter bufferAfter step fed ackData judge nearPasses farPasses near far passes filled waiting standing told domain rights peer accepted consumed pairChecks holdChecks readyChecks runStatus errored toldOfBoth byteIn
 readable = refl
 
 -- set anew with bit 2, kept without it, and gone after a move to 0, even one with bit 2; the sender's flags do not count
@@ -142,7 +142,7 @@ pub writable : shown (opened 7 0 ++ (modified 1 5 3 0 2 ∷ posted 0 257 ∷ mod
     ∷ (Done 0, ([], true)) ∷ (Done 0, ([], true)) ∷ (Done 0, ([], true))
     ∷ (Done 8, (1 ∷ 2 ∷ 3 ∷ 4 ∷ 5 ∷ 6 ∷ 7 ∷ 8 ∷ [], false))
     ∷ []
-unfolding run fieldsAt putFields leAt putLe rows rowsFrom lowest lowestFrom anyBelow commandOf dataSize ackNeed numberCodec registerCodec createQpCodec modifyQpCodec sendCodec sgeCodec receiveCodec completionCodec sendChecks receiveChecks receiveSges receiveOf sendSge inlineBytes inlineLength all stored requestOf receiveIn range sgeBytes sgeTotal total ownBytes farBytes byteOf message delivered permits permitsAll place lookup covers commandChecks commandAck commandEffect deliveryChecks sendStatus sendPuts putAll sendQps sendEffect sendMemory joinChecks joined flushChecks flushed pollChecks polled checks resetChecks controlChecks bufferChecks statusOf effect memoryAfter bufferAfter step fed ackData judge nearPasses farPasses near far passes filled waiting standing told domain rights peer accepted taken pairChecks holdChecks readyChecks runStatus errored toldOfBoth byteIn
+unfolding run fieldsAt putFields leAt putLe rows rowsFrom lowest lowestFrom anyBelow commandOf dataSize ackNeed numberCodec registerCodec createQpCodec modifyQpCodec sendCodec sgeCodec receiveCodec completionCodec sendChecks receiveChecks receiveSges receiveOf sendSge inlineBytes inlineLength all stored requestOf receiveIn range sgeBytes sgeTotal total ownBytes farBytes byteOf message delivered permits permitsAll place lookup covers commandChecks commandAck commandEffect deliveryChecks sendStatus sendPuts putAll sendQps sendEffect sendMemory joinChecks joined flushChecks flushed pollChecks polled checks resetChecks controlChecks bufferChecks statusOf effect memoryAfter bufferAfter step fed ackData judge nearPasses farPasses near far passes filled waiting standing told domain rights peer accepted consumed pairChecks holdChecks readyChecks runStatus errored toldOfBoth byteIn
 writable = refl
 
 -- ---- what calls leave in their buffers, byte by byte

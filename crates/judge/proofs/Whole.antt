@@ -35,7 +35,7 @@ pub of-all : (Made : (st : List ℕ) → Seen → Type 0) → ((st : List ℕ) (
 of-all Made met =
     record {
       judged = every-work Made card accepts met Judged judged;
-      flushed = every Made card accepts met Flushes (flushes card accepts);
+      receives = every Made card accepts met Flushes (flushes card accepts);
       apart = every-work Made card accepts met Apart apart;
       resumed = resumed Made card accepts met;
       steady = steady Made card accepts met accepted-length;

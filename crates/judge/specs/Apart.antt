@@ -16,7 +16,7 @@ use Rattle.judge.specs.Demand3.{targetByte, sourceAt, writtenLength}
 pub record Means (h : Standing) (address p : ℕ) : Type 0 where
   pub low : h .reg .virt ≤ address
   pub high : address < h .reg .virt + h .reg .length
-  pub place : byteOf (h .pages) (h .reg) address ≡ p
+  pub is : byteOf (h .pages) (h .reg) address ≡ p
 
 -- the byte b passes for the side s, by a standing registration made in its domain, and means the memory byte p
 pub record Covered (l : Log) (s : Side) (b : Byte) (p : ℕ) : Type 0 where

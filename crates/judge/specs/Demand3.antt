@@ -23,7 +23,7 @@ pub record Correct (l : Log) (w : Work) (s : ℕ) (m m′ : List ℕ) : Type 0 w
   -- it succeeds exactly when the judge passes it
   pub verdict : eqb s 0 ≡ judge l w
   -- it is flushed exactly when the log puts its queue pair in error
-  pub flushed : eqb s 4 ≡ errored l (w .qpn)
+  pub in-error : eqb s 4 ≡ errored l (w .qpn)
   -- on success the message bytes are written in turn, with the values before the call; on failure none is
   pub memory : m′ ≡ judgedMemory l w m
   -- a byte that passes lies in the memory, and its address is below 2^64
@@ -119,15 +119,15 @@ work l x = workBy l (x .call) (x .left)
 abbrev pub WorkClaim : Type 1
 WorkClaim = (l : Log) → Work → (s : ℕ) → (m m′ : List ℕ) → Type 0
 
-abbrev pub Ran : (Work → (s : ℕ) → Type 0) → Option Work → Answer → Type 0
-Ran P none a = Unit {0}
-Ran P (some w) (Done s) = P w s
-Ran P (some w) (Held c) = Unit {0}
-Ran P (some w) (Refused n) = Unit {0}
+abbrev pub WhenDone : (Work → (s : ℕ) → Type 0) → Option Work → Answer → Type 0
+WhenDone P none a = Unit {0}
+WhenDone P (some w) (Done s) = P w s
+WhenDone P (some w) (Held c) = Unit {0}
+WhenDone P (some w) (Refused n) = Unit {0}
 
 -- P of the work request that a call runs, if it is neither refused nor held
 abbrev pub OfWork : WorkClaim → Claim
-OfWork P st l x = Ran (λ w s. P l w s (memoryOf (x .call)) (x .left .memory)) (work l x) (x .left .answer)
+OfWork P st l x = WhenDone (λ w s. P l w s (memoryOf (x .call)) (x .left .memory)) (work l x) (x .left .answer)
 
 -- ---- what is claimed of a post receive
 

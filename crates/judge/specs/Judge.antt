@@ -99,18 +99,18 @@ unfoldable pub accepted : Log → (q : ℕ) → List Receive
 accepted l q = told acceptedBy [] l q
 
 -- "less the oldest, one per flush of it and per post send whose peer it then was (opcode 1 to 3, status 0 or 7) in that time"
-abbrev pub takenBy : PairNote → (own named : Bool) → ℕ → ℕ
-takenBy (PairNote.created r) own named n = cond own 0 n
-takenBy (PairNote.changed r) own named n = cond (own && eqb (r .state) 0) 0 n
-takenBy (PairNote.posted w s) own named n = n
-takenBy PairNote.flushed own named n = cond own (suc n) n
-takenBy (PairNote.sent r s) own named n = cond (named && (leb 1 (r .opcode) && leb (r .opcode) 3 && (eqb s 0 || eqb s 7))) (suc n) n
+abbrev pub consumedBy : PairNote → (own named : Bool) → ℕ → ℕ
+consumedBy (PairNote.created r) own named n = cond own 0 n
+consumedBy (PairNote.changed r) own named n = cond (own && eqb (r .state) 0) 0 n
+consumedBy (PairNote.posted w s) own named n = n
+consumedBy PairNote.flushed own named n = cond own (suc n) n
+consumedBy (PairNote.sent r s) own named n = cond (named && (leb 1 (r .opcode) && leb (r .opcode) 3 && (eqb s 0 || eqb s 7))) (suc n) n
 
-unfoldable pub taken : Log → (q : ℕ) → ℕ
-taken l q = toldOfBoth takenBy 0 l q
+unfoldable pub consumed : Log → (q : ℕ) → ℕ
+consumed l q = toldOfBoth consumedBy 0 l q
 
 unfoldable pub waiting : Log → (q : ℕ) → List Receive
-waiting l q = drop (taken l q) (accepted l q)
+waiting l q = drop (consumed l q) (accepted l q)
 
 -- Whether the log puts it in error: "The receive is consumed, both QPs go to error", a status other than 0 puts its sender there, and a
 -- modify to 6; it is not there when it is created, nor after any other modify.
@@ -145,11 +145,11 @@ grants a remote-write = eqb (a / 2 % 2) 1
 grants a remote-read = eqb (a / 4 % 2) 1
 
 -- 02, M-104: "Each byte of a remote write or read needs the right in the region and in the peer's flags .. local uses only at the region"
-abbrev pub opens : (rights : ℕ) → Right → Bool
-opens f none-needed = true
-opens f local-write = true
-opens f remote-write = grants f remote-write
-opens f remote-read = grants f remote-read
+abbrev pub flagsGrant : (rights : ℕ) → Right → Bool
+flagsGrant f none-needed = true
+flagsGrant f local-write = true
+flagsGrant f remote-write = grants f remote-write
+flagsGrant f remote-read = grants f remote-read
 
 -- whose use it is: a queue pair's, by the domain that it was created in and its access flags
 pub record Party : Type 0 where
@@ -166,7 +166,7 @@ party l (some q) = record { domain = domain l q; rights = rights l q }
 abbrev pub passesBy : Option Standing → Party → Right → (a : ℕ) → Bool
 passesBy none p u a = false
 passesBy (some h) p u a =
-    names (p .domain) (h .reg .pd) && grants (h .reg .access) u && opens (p .rights) u
+    names (p .domain) (h .reg .pd) && grants (h .reg .access) u && flagsGrant (p .rights) u
     && leb (h .reg .virt) a && ltb a (h .reg .virt + h .reg .length)
 
 unfoldable pub passes : Log → Party → Right → Byte → Bool
