@@ -1,5 +1,5 @@
--- What a caller of the exported functions knows, in the words of the judge's theorem: its calls in turn on one state are a list of that
--- theorem, and each work request among them is judged right, byte for byte. Assumes nothing.
+-- What a caller of the exported functions knows, in the words of the judge's theorem: its calls in turn on one state are a
+-- list of that theorem, and each work request among them is judged right, byte for byte. Assumes nothing.
 use mathlib.Core.Path.{_≡_}
 use mathlib.Core.List.{List, map}
 use Prim.Native.Nat.{ℕ}
@@ -36,8 +36,8 @@ pub record After (x : Seen) (begun : Begins FromC x) (es : List Exchange) (l′ 
   -- each work request among them is judged right, and each byte of it
   pub judged : Each (OfWork Judged) (x .left .state) (begun .base) calls
 
--- Exported functions were called on the state l: first the exchange e, a reset, then the exchanges es, which left the state l′. A reset
--- answered 0 begins a log.
+-- Exported functions were called on the state l: first the exchange e, a reset, then the exchanges es, which left the state
+-- l′. A reset answered 0 begins a log.
 pub record Answered (l : List ℕ) (e : Exchange) (es : List Exchange) (l′ : List ℕ) : Type 0 where
   pub first : Seen
   pub is : exchangeOf first ≡ e

@@ -1,5 +1,5 @@
--- Lists of calls with the outcomes that the exported functions' promises name, each call on the state that the last one left; what they
--- show a caller, and what the judge says of them. Assumes nothing.
+-- Lists of calls with the outcomes that the exported functions' promises name, each call on the state that the last one left;
+-- what they show a caller, and what the judge says of them. Assumes nothing.
 use mathlib.Core.Path.{_≡_}
 use mathlib.Core.Bool.{Bool, not}
 use mathlib.Core.List.{List, [], _∷_, map}
@@ -33,8 +33,8 @@ Lists = (l : List ℕ) (ks : List Call) → Linked FromC l (madeAll l ks)
 
 -- ---- what a run shows
 
--- a line of a run: a call, its answer, the memory after it, and the judge's verdict on the work request that it ran, or on the receive that
--- it posted, whether it waits
+-- a line of a run: a call, its answer, the memory after it, and the judge's verdict on the work request that it ran, or on
+-- the receive that it posted, whether it waits
 pub record Line : Type 0 where
   pub call : Call
   pub answer : Answer
@@ -61,8 +61,8 @@ lines l (e ∷ es) =
     record { call = e .call; answer = e .answer; memory = e .memory; verdict = verdictOn l e } ∷
     lines (fed l (e .call) (e .answer) (e .buffer)) es
 
--- The reset `first` and the calls after it are a list of the judge's theorem, each of whose work requests and receives is judged right, and
--- these are its lines.
+-- The reset `first` and the calls after it are a list of the judge's theorem, each of whose work requests and receives is
+-- judged right, and these are its lines.
 pub record Shown (first : Seen) (calls : List Seen) (ls : List Line) : Type 0 where
   pub begins : Begins FromC first
   pub linked : Linked FromC (first .left .state) calls

@@ -81,23 +81,23 @@ module _ (l : Log) (w : Work) (ok : judge l w ≡ true) (small : w .request .opc
 
   -- ---- the sides of the message
 
-  record Whole (s : Side) : Type 0 where
+  record Complete (s : Side) : Type 0 where
     sized : length (s .bytes) ≡ total r
     passed : allPass l s ≡ true
 
-  written-whole : Whole (writtenSide l w)
+  written-whole : Complete (writtenSide l w)
   unfolding writtenSide
   written-whole = go (eqb (r .opcode) 4) refl
     where
-      go : (b : Bool) → eqb (r .opcode) 4 ≡ b → Whole (cond b (near l w) (far l w))
+      go : (b : Bool) → eqb (r .opcode) 4 ≡ b → Complete (cond b (near l w) (far l w))
       go true e = record { sized = near-length (not-inline e); passed = near-passes }
       go false e = record { sized = far-length; passed = far-passes }
 
-  read-whole : r .inline ≡ false → Whole (readSide l w)
+  read-whole : r .inline ≡ false → Complete (readSide l w)
   unfolding readSide
   read-whole h = go (eqb (r .opcode) 4)
     where
-      go : (b : Bool) → Whole (cond b (far l w) (near l w))
+      go : (b : Bool) → Complete (cond b (far l w) (near l w))
       go true = record { sized = far-length; passed = far-passes }
       go false = record { sized = near-length h; passed = near-passes }
 

@@ -1,5 +1,5 @@
--- What demand 3 says to operators who share a card: a memory byte in no region of the written side's domain keeps its value, and a
--- message is read out of regions of the read side's domain only. Assumes nothing.
+-- What demand 3 says to operators who share a card: a memory byte in no region of the written side's domain keeps its value,
+-- and a message is read out of regions of the read side's domain only. Assumes nothing.
 use mathlib.Core.Path.{_≡_}
 use mathlib.Core.Logic.{_≢_}
 use mathlib.Core.Bool.{true}

@@ -1,5 +1,6 @@
--- Document 01: "Since a QP's creation, accepted receives equal its receive completions put, plus those dropped (the ones waiting at
--- each move to 0), plus those waiting." A statement along the list of calls; no table keeps a count. Assumes nothing.
+-- Document 01: "Since a QP's creation, accepted receives equal its receive completions put, plus those dropped (the ones
+-- waiting at each move to 0), plus those waiting." A statement along the list of calls; no table keeps a count. Assumes
+-- nothing.
 use mathlib.Core.Path.{_≡_}
 use mathlib.Core.Bool.{true, cond, _&&_}
 use mathlib.Core.List.{List, [], _∷_, _++_}
@@ -88,8 +89,8 @@ pub record Tally : Type 0 where
 abbrev pub none-yet : Tally
 none-yet = record { accepted = 0; put = 0; dropped = 0 }
 
--- what a note of the queue pair counts, on which w receives waited before the call; 02, M-103: "The count of accepted receives includes those
--- flushed at once", which are put by the same call
+-- what a note of the queue pair counts, on which w receives waited before the call; 02, M-103: "The count of accepted
+-- receives includes those flushed at once", which are put by the same call
 abbrev pub countedBy : PairNote → (w : ℕ) → Tally → Tally
 countedBy (PairNote.created r) w t = none-yet
 countedBy (PairNote.changed r) w t =
@@ -112,7 +113,9 @@ unlessBegun (some base) t = none-yet
 
 -- the tallies after a call, with the card c and the log l before it; b is the answer buffer after it
 unfoldable pub tallied : Card → Log → Call → Answer → (b : List ℕ) → (ℕ → Tally) → ℕ → Tally
-tallied c l k (Done s) b t q = unlessBegun (begins k) (completed (receivePuts q (puts c k)) (noted (note l (entry k s b)) q (length (c .qp q .waiting)) (t q)))
+tallied c l k (Done s) b t q =
+    unlessBegun (begins k)
+    (completed (receivePuts q (puts c k)) (noted (note l (entry k s b)) q (length (c .qp q .waiting)) (t q)))
 tallied c l k (Held e) b t q = t q
 tallied c l k (Refused n) b t q = t q
 

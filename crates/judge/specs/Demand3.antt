@@ -14,7 +14,8 @@ use Rattle.rules.specs.Answer.{number}
 use Rattle.rules.specs.Call.{Call, OnPair, given, memoryOf, Outcome}
 use Rattle.rules.specs.Touch.{Byte}
 use Rattle.judge.specs.Log.{Log, begins, fed}
-use Rattle.judge.specs.Judge.{errored, flushesAtOnce, Party, Right, passes, placed, Work, judge, moves, judgedMemory, writtenSide, Source, sources, valueOf}
+use Rattle.judge.specs.Judge.{errored, flushesAtOnce, Party, Right, passes, placed}
+use Rattle.judge.specs.Judge.{Work, judge, moves, judgedMemory, writtenSide, Source, sources, valueOf}
 
 -- ---- what is claimed of a work request
 
@@ -54,8 +55,8 @@ abbrev pub writtenLength : Log → Work → ℕ
 writtenLength l w = length (writtenSide l w .bytes)
 
 pub record Bytewise (l : Log) (w : Work) (s : ℕ) (m m′ : List ℕ) : Type 0 where
-  -- "On success each byte written takes the value its source had before the call, the later piece winning,"; 02, M-105: "the later byte of the
-  -- message wins, inside one piece too; demand 3 reads so"
+  -- "On success each byte written takes the value its source had before the call, the later piece winning,"; 02, M-105: "the
+  -- later byte of the message wins, inside one piece too; demand 3 reads so"
   pub written : moves l w ≡ true →
       (i : ℕ) → i < writtenLength l w → ((j : ℕ) → i < j → j < writtenLength l w → target l w j ≢ target l w i) →
       getD m′ (target l w i) 0 ≡ source l w m i
@@ -166,8 +167,8 @@ module _ (Made : (st : List ℕ) → Seen → Type 0) where
     pub made : Made before x
     pub done : x .left .answer ≡ Done 0
 
-  -- P of any list of calls after it, with the state and the log that it left. Memory and buffers may be any at each call. A reset answered 0
-  -- within the list begins a new log.
+  -- P of any list of calls after it, with the state and the log that it left. Memory and buffers may be any at each call. A
+  -- reset answered 0 within the list begins a new log.
   unfoldable pub AfterReset : ((st : List ℕ) → Log → List Seen → Type 0) → Type 0
   AfterReset P = (x : Seen) → (b : Begins x) → (xs : List Seen) → Linked (x .left .state) xs → P (x .left .state) (b .base) xs
 

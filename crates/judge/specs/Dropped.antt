@@ -1,5 +1,5 @@
--- A region dropped under a waiting receive, or under a remote key, along the list of calls: whatever calls stand between, the work request
--- that touches it gets what the rules say, and its key never comes back. Assumes nothing.
+-- A region dropped under a waiting receive, or under a remote key, along the list of calls: whatever calls stand between, the
+-- work request that touches it gets what the rules say, and its key never comes back. Assumes nothing.
 use mathlib.Core.Path.{_≡_}
 use mathlib.Core.Bool.{Bool, true, false, _||_}
 use mathlib.Core.List.{List, [], _∷_}
@@ -33,7 +33,8 @@ ended (Note.other ∷ l) k = ended l k
 abbrev pub Gone : Claim
 Gone st l x = (k : ℕ) → ended l k ≡ true → standing l k ≡ none
 
--- the request is not flushed, all tests before that of the peer's bytes pass, and byte i of them is named under a key whose registration does not stand
+-- the request is not flushed, all tests before that of the peer's bytes pass, and byte i of them is named under a key whose
+-- registration does not stand
 pub record Stale (l : Log) (w : Work) (i : ℕ) : Type 0 where
   pub running : errored l (w .qpn) ≡ false
   pub near : nearPasses l w ≡ true
@@ -41,14 +42,15 @@ pub record Stale (l : Log) (w : Work) (i : ℕ) : Type 0 where
   pub within : i < length (far l w .bytes)
   pub gone : standing l (getD (far l w .bytes) i noByte .key) ≡ none
 
--- a work request then gets the status 7, its receiver 3, and the receive goes, or it gets the status 8; no byte is moved. c and c′ are the
--- cards before and after it.
+-- a work request then gets the status 7, its receiver 3, and the receive goes, or it gets the status 8; no byte is moved. c
+-- and c′ are the cards before and after it.
 abbrev pub Loses : (l : Log) → (c c′ : Card) → Work → (s : ℕ) → (m m′ : List ℕ) → Type 0
 Loses l c c′ w s m m′ = (i : ℕ) → Stale l w i → Lost c c′ (w .qpn) (w .request) (Done s) m m′
 
 abbrev pub Fruitless : (cardOf : List ℕ → Card) → Claim
 Fruitless cardOf st l x =
-    WhenDone (λ w s. Loses l (cardOf st) (cardOf (x .left .state)) w s (memoryOf (x .call)) (x .left .memory)) (work l x) (x .left .answer)
+    WhenDone (λ w s. Loses l (cardOf st) (cardOf (x .left .state)) w s (memoryOf (x .call)) (x .left .memory)) (work l x)
+    (x .left .answer)
 
 -- a post send that was refused or held gets the same answer again when a region is dropped in between: it stays held
 unfoldable pub StaysHeld : (Made : (st : List ℕ) → Seen → Type 0) → Type 0

@@ -31,8 +31,8 @@ pub record Whole (Made : (st : List ℕ) → Seen → Type 0) : Type 0 where
   pub judged : Demand3 Made
   -- each receive that is done is flushed or waits, as the log says
   pub receives : Every Made Flushes
-  -- no byte outside the regions of the written side's domain changes, and a message comes out of regions of the read side's domain,
-  -- but for bytes that the request gives
+  -- no byte outside the regions of the written side's domain changes, and a message comes out of regions of the read side's
+  -- domain, but for bytes that the request gives
   pub apart : Every Made (OfWork Apart)
   -- each work request is judged right, and each receive flushed or not, from a state that means a card that a list left, too
   pub resumed : Resumed Made card
