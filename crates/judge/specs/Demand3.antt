@@ -62,7 +62,7 @@ pub record Bytewise (l : Log) (w : Work) (s : ℕ) (m m′ : List ℕ) : Type 0 
       getD m′ (target l w i) 0 ≡ source l w m i
   -- "and no other changes;"
   pub others : moves l w ≡ true → (x : ℕ) → ((i : ℕ) → i < writtenLength l w → target l w i ≢ x) → getD m′ x 0 ≡ getD m x 0
-  -- no byte changes where the message is not moved:
+  -- where the message is not moved none does;
   pub kept : moves l w ≡ false → m′ ≡ m
   -- "on failure none does"
   pub failed : s ≢ 0 → m′ ≡ m
