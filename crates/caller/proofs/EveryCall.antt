@@ -130,9 +130,9 @@ module _ (l : List ℕ) where
 
       go : (b : Bool) → flushesAtOnce (card l) q ≡ b → HasOutcome l (Call.receive q x)
       go true e =
-          let place : room (card l .cq (card l .qp q .rcq)) 1 ≡ true =
+          let free : room (card l .cq (card l .qp q .rcq)) 1 ≡ true =
           not-false _ (and-off (flushesAtOnce (card l) q) (not (room (card l .cq (card l .qp q .rcq)) 1)) (j .1 .1 .0) e) in
-          outcome _ _ _ _ _ _ (receive-flushed l q x r well s e place (flushedBytes l q (r .wr)) refl)
+          outcome _ _ _ _ _ _ (receive-flushed l q x r well s e free (flushedBytes l q (r .wr)) refl)
       go false e = outcome _ _ _ _ _ _ (receive-done l q x r well s (j .1 .0) e (j .1 .1 .1 .0) (postBytes l q r) refl)
 
   flush-ends : (q : ℕ) → Passed (owedChecks card accepts l (Call.flush q)) → HasOutcome l (Call.flush q)

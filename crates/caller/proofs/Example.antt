@@ -27,20 +27,20 @@ use Rattle.rules.specs.Contract.{bytesAfter}
 use Rattle.rules.specs.declared.Answer.the-variants.{Done}
 use Rattle.rules.specs.Calls.{checks, resetChecks, controlChecks, bufferChecks, statusOf, effect, memoryAfter, bufferAfter, step}
 use Rattle.judge.specs.Log.{fed, ackData}
-use Rattle.judge.specs.Judge.{judge, nearPasses, farPasses, near, far, passes, filled, waiting, standing, told, toldOfBoth, domain, peer, accepted, taken, errored, rights}
-use Rattle.judge.specs.Demand3.{Begins, Every}
+use Rattle.judge.specs.Judge.{judge, nearPasses, farPasses, near, far, passes, filled, waiting, standing, told, toldOfBoth, domain, peer, accepted, consumed, errored, rights}
+use Rattle.judge.specs.Demand3.{Begins, AfterReset}
 use Rattle.judge.specs.Whole.{FromC}
 use Rattle.judge.proofs.Whole.{exported}
-use Rattle.caller.specs.Served.{turnOf}
+use Rattle.caller.specs.Exchange.{exchangeOf}
 use Rattle.caller.specs.Made.{made, madeAll, Line, lines}
 use Rattle.caller.specs.Example.{run, Example}
-use Rattle.caller.proofs.MadeLaws.{made-from-c, all-linked, turns, turns-are, reset-answered, reset-means, reset-accepted}
+use Rattle.caller.proofs.MadeLaws.{made-from-c, all-linked, exchanges, exchanges-are, reset-answered, reset-means, reset-accepted}
 
 abbrev callsOf : List Line → List Call
 callsOf ls = map (λ (x : Line). x .call) ls
 
-computed : lines [] (turns (fresh 8) (callsOf run)) ≡ run
-unfolding turns lines fieldsAt putFields leAt putLe rows rowsFrom lowest lowestFrom anyBelow commandOf dataSize ackNeed numberCodec registerCodec createQpCodec modifyQpCodec sendCodec sgeCodec receiveCodec completionCodec sendChecks receiveChecks receiveSges receiveOf sendSge inlineBytes inlineLength pagesNeeded pageRecordChecks pageListChecks all stored requestOf receiveIn range sgeBytes sgeTotal total ownBytes farBytes byteOf message delivered permits permitsAll place lookup covers commandChecks commandAck commandEffect pairChecks readyChecks placeChecks holdChecks deliveryChecks runStatus sendStatus sendPuts putAll sendQps sendEffect sendMemory joinChecks joinStatus joinPuts joined received flushChecks flushed pollChecks polled checks resetChecks controlChecks bufferChecks statusOf effect memoryAfter bufferAfter step fed ackData judge nearPasses farPasses near far passes filled waiting standing told toldOfBoth domain peer accepted taken errored rights byteIn
+computed : lines [] (exchanges (fresh 8) (callsOf run)) ≡ run
+unfolding exchanges lines fieldsAt putFields leAt putLe rows rowsFrom lowest lowestFrom anyBelow commandOf dataSize ackNeed numberCodec registerCodec createQpCodec modifyQpCodec sendCodec sgeCodec receiveCodec completionCodec sendChecks receiveChecks receiveSges receiveOf sendSge inlineBytes inlineLength pagesNeeded pageRecordChecks pageListChecks all stored requestOf receiveIn range sgeBytes sgeTotal total ownBytes farBytes byteOf message delivered permits permitsAll place lookup covers commandChecks commandAck commandEffect pairChecks readyChecks placeChecks holdChecks deliveryChecks runStatus sendStatus sendPuts putAll sendQps sendEffect sendMemory joinChecks joinStatus joinPuts joined received flushChecks flushed pollChecks polled checks resetChecks controlChecks bufferChecks statusOf effect memoryAfter bufferAfter step fed ackData judge nearPasses farPasses near far passes filled waiting standing told toldOfBoth domain peer accepted consumed errored rights byteIn
 computed = refl
 
 module _ (l : List ℕ) (sized : length l ≡ stateSize) where
@@ -58,21 +58,21 @@ module _ (l : List ℕ) (sized : length l ≡ stateSize) where
   unfolding step checks resetChecks effect
   fresh-start = reset-means l sized 8 done
 
-  calls-are : map turnOf (madeAll start (callsOf run)) ≡ turns (fresh 8) (callsOf run)
-  unfolding Every
+  calls-are : map exchangeOf (madeAll start (callsOf run)) ≡ exchanges (fresh 8) (callsOf run)
+  unfolding AfterReset
   calls-are =
-      turns-are start (fresh 8) (callsOf run) [] fresh-start (reset-accepted l sized 8 done)
+      exchanges-are start (fresh 8) (callsOf run) [] fresh-start (reset-accepted l sized 8 done)
       (exported .steady (made l (Call.reset 8)) begins (madeAll start (callsOf run)) (all-linked start (callsOf run)))
 
   pub example : Example l
-  unfolding Every
+  unfolding AfterReset
   example =
       let links = all-linked start (callsOf run) in
       record {
         begins = begins;
         linked = links;
         judged = exported .judged (made l (Call.reset 8)) begins (madeAll start (callsOf run)) links;
-        flushed = exported .flushed (made l (Call.reset 8)) begins (madeAll start (callsOf run)) links;
+        receives = exported .receives (made l (Call.reset 8)) begins (madeAll start (callsOf run)) links;
         shows = ap (lines []) calls-are ∙ computed;
       }
 

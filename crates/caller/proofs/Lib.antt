@@ -1,4 +1,4 @@
-pub mod ServedLaws
+pub mod ExchangeLaws
 pub mod EveryCall
 pub mod MadeLaws
 pub mod Example

@@ -23,7 +23,7 @@ use Rattle.rules.proofs.Answers.{owed-is, code-back}
 use Rattle.judge.specs.Log.{Log}
 use Rattle.judge.specs.Demand3.{heard, Each, Linked, Steady}
 use Rattle.judge.specs.Whole.{FromC}
-use Rattle.caller.specs.Served.{Turn, turnOf}
+use Rattle.caller.specs.Exchange.{Exchange, exchangeOf}
 use Rattle.caller.specs.Made.{made, madeAll, Lists}
 use Rattle.caller.proofs.EveryCall.{exports}
 
@@ -47,34 +47,34 @@ accepted-usable l k e = go (given k .whole)
     go true = e
     go false = eq-eqb (length l) stateSize (accepted l e .sized)
 
--- ---- the turns of calls on the card c
+-- ---- the exchanges of calls on the card c
 
-abbrev turnBy : Call → Result → Turn
-turnBy k r = record { call = k; answer = r .answer; memory = r .memory; buffer = r .buffer }
+abbrev exchangeBy : Call → Result → Exchange
+exchangeBy k r = record { call = k; answer = r .answer; memory = r .memory; buffer = r .buffer }
 
-unfoldable pub turns : Card → List Call → List Turn
-turns c [] = []
-turns c (k ∷ ks) = let r = step c k in turnBy k r ∷ turns (r .card) ks
+unfoldable pub exchanges : Card → List Call → List Exchange
+exchanges c [] = []
+exchanges c (k ∷ ks) = let r = step c k in exchangeBy k r ∷ exchanges (r .card) ks
 
 module _ (l : List ℕ) (c : Card) (means : card l ≡ c) (k : Call) (ok : accepts l ≡ true) where
   step-on : owed card accepts l k ≡ step c k
   step-on = step-is l k (accepted-usable l k ok) ∙ ap (λ (x : Card). step x k) means
 
-  turn-is : turnOf (made l k) ≡ turnBy k (step c k)
-  turn-is =
+  exchange-is : exchangeOf (made l k) ≡ exchangeBy k (step c k)
+  exchange-is =
       let o = owed card accepts l k in
-      ap (λ (a : Answer). record { call = k; answer = a; memory = o .memory; buffer = o .buffer }) (code-back card accepts l k) ∙ ap (turnBy k) step-on
+      ap (λ (a : Answer). record { call = k; answer = a; memory = o .memory; buffer = o .buffer }) (code-back card accepts l k) ∙ ap (exchangeBy k) step-on
 
   next-means : card (bytesAfter l k) ≡ step c k .card
   next-means = exports l k .tables ∙ ap (λ (r : Result). r .card) step-on
 
-pub turns-are : (l : List ℕ) (c : Card) (ks : List Call) (g : Log) → card l ≡ c → accepts l ≡ true → Each (Steady accepts) l g (madeAll l ks)
-    → map turnOf (madeAll l ks) ≡ turns c ks
-unfolding Each madeAll turns
-turns-are l c [] g m ok s = refl
-turns-are l c (k ∷ ks) g m ok s =
-    ap₂ (λ (x : Turn) (xs : List Turn). x ∷ xs) (turn-is l c m k ok)
-    (turns-are (bytesAfter l k) (step c k .card) ks (heard g (made l k)) (next-means l c m k ok) (s .0 .0) (s .1))
+pub exchanges-are : (l : List ℕ) (c : Card) (ks : List Call) (g : Log) → card l ≡ c → accepts l ≡ true → Each (Steady accepts) l g (madeAll l ks)
+    → map exchangeOf (madeAll l ks) ≡ exchanges c ks
+unfolding Each madeAll exchanges
+exchanges-are l c [] g m ok s = refl
+exchanges-are l c (k ∷ ks) g m ok s =
+    ap₂ (λ (x : Exchange) (xs : List Exchange). x ∷ xs) (exchange-is l c m k ok)
+    (exchanges-are (bytesAfter l k) (step c k .card) ks (heard g (made l k)) (next-means l c m k ok) (s .0 .0) (s .1))
 
 -- ---- a reset over n bytes, on any state that has its length
 

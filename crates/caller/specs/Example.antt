@@ -1,8 +1,9 @@
--- A run, by the bytes that its calls are given: two domains; writes, a send, inline bytes; a refused command, a refused reset, a hold, a
--- poll, a flush; work requests with the statuses 0, 1, 3, 4, 7 and 8; a queue pair that can be read from and not written to; a region that is
--- dropped under waiting receives, and a write under its key after that; a send and receives posted in error; a second reset; and, after a third,
--- a region over pages: a refused list, a write over a page border, and a send whose later byte wins where a page is listed twice.
--- proofs/Example.antt shows that it is a list of the judge's theorem. Assumes nothing.
+-- A run, by the bytes that its calls are given: two domains; writes, a send, inline bytes; a refused command, a refused
+-- reset, a hold, a poll, a flush; work requests with the statuses 0, 1, 3, 4, 7 and 8; a queue pair that can be read from and
+-- not written to; a region that is dropped under waiting receives, and a write under its key after that; a send and receives
+-- posted in error; a second reset; and, after a third, a region over pages: a refused list, a write over a page border, and a
+-- send whose later byte wins where a page is listed twice. proofs/Example.antt shows that it is a list of the judge's
+-- theorem. Assumes nothing.
 use mathlib.Core.Bool.{true, false}
 use mathlib.Core.List.{List, [], _∷_, _++_, map}
 use mathlib.Core.Option.{none, some}
@@ -55,9 +56,11 @@ createCq n = command (2 ∷ four n)
 abbrev pub register : (pd start virt : ℕ) → Call
 register d s v = command (7 ∷ (four d ++ four 7 ++ eight s ++ eight 4 ++ eight v))
 
--- a region over pages in domain 0 with all rights: start 4094, so that two bytes of the first page are its own, 8,194 bytes, virt 200
+-- a region over pages in domain 0 with all rights: start 4094, so that two bytes of the first page are its own, 8,194 bytes,
+-- virt 200
 abbrev pub registerPages : (pages : List ℕ) → Call
-registerPages ps = Call.registerPages (6 ∷ 7 ∷ (four 0 ++ four 7 ++ eightOf 254 15 ++ eightOf 2 32 ++ eight 200)) ps (replicate 13 9)
+registerPages ps =
+    Call.registerPages (6 ∷ 7 ∷ (four 0 ++ four 7 ++ eightOf 254 15 ++ eightOf 2 32 ++ eight 200)) ps (replicate 13 9)
 
 abbrev pub deregister : (mrn : ℕ) → Call
 deregister n = command (8 ∷ four n)
@@ -77,7 +80,8 @@ allow q t f = command (10 ∷ (four q ++ four 5 ++ four t ++ four 0 ++ four f))
 abbrev pub aim : (q dest : ℕ) → Call
 aim q d = command (10 ∷ (four q ++ (1 ∷ 128 ∷ 0 ∷ 0 ∷ []) ++ four 2 ++ four d ++ four 0))
 
--- a send record: the opcode, the flags, the remote address and key, the inline bytes or those in their place, the count, the pieces
+-- a send record: the opcode, the flags, the remote address and key, the inline bytes or those in their place, the count, the
+-- pieces
 abbrev pub sendRecord : (opcode flags address : ℕ) → (key inline : List ℕ) → (count : ℕ) → (pieces : List ℕ) → List ℕ
 sendRecord o f a k i n ps =
     eight 7 ++ (o ∷ f ∷ 0 ∷ 0 ∷ []) ++ four 0 ++ eight a ++ k ++ replicate 20 0 ++ i ++ four n ++ replicate 12 0 ++ ps
@@ -136,8 +140,8 @@ fails k s = record { call = k; answer = Done s; memory = memory; verdict = some 
 abbrev pub queued : Call → Line
 queued k = record { call = k; answer = Done 0; memory = []; verdict = some true }
 
-abbrev pub flushed : Call → Line
-flushed k = record { call = k; answer = Done 4; memory = []; verdict = some false }
+abbrev pub flushedAtOnce : Call → Line
+flushedAtOnce k = record { call = k; answer = Done 4; memory = []; verdict = some false }
 
 abbrev pub waits : Call → Line
 waits k = record { call = k; answer = Held Peer; memory = memory; verdict = none }
@@ -186,15 +190,16 @@ delivering =
     done poll ∷
     []
 
--- the key of the sender's own domain names nothing at the peer; the key of the peer's domain is not the sender's; 4,097 bytes are too many
+-- the key of the sender's own domain names nothing at the peer; the key of the peer's domain is not the sender's; 4,097 bytes
+-- are too many
 abbrev pub failing : List Line
 failing =
     fails (send 0 0 100 (keyOf 0) unused 1 two) 8 ∷ again
     ++ (fails (send 0 0 200 (keyOf 1) unused 1 (piece 201 (four 2) (keyOf 1))) 3 ∷ again)
     ++ (fails (send 0 0 200 (keyOf 1) unused 1 (piece 101 (1 ∷ 16 ∷ 0 ∷ 0 ∷ []) (keyOf 0))) 1 ∷ again)
 
--- the peer without access flags: an empty write, and one of two bytes; with the flag of reading: a read, and a write; with that of writing: a
--- write
+-- the peer without access flags: an empty write, and one of two bytes; with the flag of reading: a read, and a write; with
+-- that of writing: a write
 abbrev pub allowing : List Line
 allowing =
     done (move 1 0) ∷
@@ -209,9 +214,9 @@ allowing =
     ++ (done (allow 1 3 2) ∷
     passes (send 0 0 200 (keyOf 1) unused 1 two) (1 ∷ 2 ∷ 3 ∷ 4 ∷ 2 ∷ 3 ∷ 7 ∷ 8 ∷ []) ∷ done poll ∷ done poll ∷ [])
 
--- the peer's region is dropped while two receives wait for its bytes: the first is consumed in vain, and both queue pairs are in error. There a
--- send is flushed, a third receive waits behind the second, both are flushed, and the fourth is flushed at once. Nor is the key one that can be
--- written under.
+-- the peer's region is dropped while two receives wait for its bytes: the first is consumed in vain, and both queue pairs are
+-- in error. There a send is flushed, a third receive waits behind the second, both are flushed, and the fourth is flushed at
+-- once. Nor is the key one that can be written under.
 abbrev pub dropping : List Line
 dropping =
     queued (receive 200 4) ∷
@@ -222,7 +227,7 @@ dropping =
     queued (receive 200 4) ∷
     done (Call.flush 1) ∷
     done (Call.flush 1) ∷
-    flushed (receive 200 4) ∷
+    flushedAtOnce (receive 200 4) ∷
     again
     ++ (done (move 1 0) ∷ done (allow 1 1 7) ∷ done (aim 1 0) ∷ fails (send 0 0 200 (keyOf 1) unused 1 two) 8 ∷ done poll ∷ [])
 

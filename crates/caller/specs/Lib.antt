@@ -1,3 +1,3 @@
-pub mod Served
+pub mod Exchange
 pub mod Made
 pub mod Example

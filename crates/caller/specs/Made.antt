@@ -1,5 +1,5 @@
--- Lists of calls with the outcomes that the exported functions' promises name, each call on the state that the last one left; what they
--- show a caller, and what the judge says of them. Assumes nothing.
+-- Lists of calls with the outcomes that the exported functions' promises name, each call on the state that the last one left;
+-- what they show a caller, and what the judge says of them. Assumes nothing.
 use mathlib.Core.Path.{_≡_}
 use mathlib.Core.Bool.{Bool, not}
 use mathlib.Core.List.{List, [], _∷_, map}
@@ -8,16 +8,16 @@ use Prim.Native.Nat.{ℕ}
 use Rattle.validate.specs.Accept.{accepts}
 use Rattle.tables.specs.State.{card}
 use Rattle.rules.specs.Answer.{codeOf}
-use Rattle.rules.specs.Call.{Call, OnPair, given}
+use Rattle.rules.specs.Call.{Call, leaving}
 use Rattle.rules.specs.Calls.{owed}
 use Rattle.rules.specs.Contract.{bytesAfter}
 use Rattle.rules.specs.declared.Answer.{Answer}
 use Rattle.rules.specs.declared.Answer.the-variants.{Done, Held, Refused}
 use Rattle.judge.specs.Log.{Log, fed}
-use Rattle.judge.specs.Judge.{judge, flushesAtOnce}
-use Rattle.judge.specs.Demand3.{Seen, Begins, Linked, Each, OfWork, Correct, Flushes}
+use Rattle.judge.specs.Judge.{Work, judge, flushesAtOnce}
+use Rattle.judge.specs.Demand3.{Seen, Begins, Linked, Each, OfWork, Judged, Flushes, workBy, postedOn}
 use Rattle.judge.specs.Whole.{FromC}
-use Rattle.caller.specs.Served.{seen, Turn, turnOf}
+use Rattle.caller.specs.Exchange.{seen, Exchange, exchangeOf}
 
 -- the call k on the state l, with the outcome that the promise of the exported function names
 abbrev pub made : (l : List ℕ) → Call → Seen
@@ -33,39 +33,39 @@ Lists = (l : List ℕ) (ks : List Call) → Linked FromC l (madeAll l ks)
 
 -- ---- what a run shows
 
--- a line of a run: a call, its answer, the memory after it, and the judge's verdict on the work request that it ran, or on the receive that
--- it posted, whether it waits
+-- a line of a run: a call, its answer, the memory after it, and the judge's verdict on the work request that it ran, or on
+-- the receive that it posted, whether it waits
 pub record Line : Type 0 where
   pub call : Call
   pub answer : Answer
   pub memory : List ℕ
   pub verdict : Option Bool
 
-abbrev pub verdictIn : Log → OnPair → Answer → Option Bool
-verdictIn l OnPair.nothing a = none
-verdictIn l (OnPair.sends q r) (Done s) = some (judge l (record { qpn = q; request = r }))
-verdictIn l (OnPair.sends q r) (Held c) = none
-verdictIn l (OnPair.sends q r) (Refused n) = none
-verdictIn l (OnPair.receives q w) (Done s) = some (not (flushesAtOnce l q))
-verdictIn l (OnPair.receives q w) (Held c) = none
-verdictIn l (OnPair.receives q w) (Refused n) = none
-verdictIn l (OnPair.flushes q) a = none
+-- by the work request and the queue pair that demand 3 finds in the call
+abbrev pub verdictBy : Log → Option Work → (posted : Option ℕ) → Answer → Option Bool
+verdictBy l (some w) o (Done s) = some (judge l w)
+verdictBy l (some w) o (Held c) = none
+verdictBy l (some w) o (Refused n) = none
+verdictBy l none (some q) (Done s) = some (not (flushesAtOnce l q))
+verdictBy l none (some q) (Held c) = none
+verdictBy l none (some q) (Refused n) = none
+verdictBy l none none a = none
 
-abbrev pub verdictBy : Log → Call → Answer → Option Bool
-verdictBy l k a = verdictIn l (given k .pair) a
+abbrev pub verdictOn : Log → Exchange → Option Bool
+verdictOn l e = verdictBy l (workBy l (e .call) (leaving (e .answer) [] (e .memory) (e .buffer))) (postedOn (e .call)) (e .answer)
 
 -- the lines of calls after the log l
-unfoldable pub lines : Log → List Turn → List Line
+unfoldable pub lines : Log → List Exchange → List Line
 lines l [] = []
-lines l (t ∷ ts) =
-    record { call = t .call; answer = t .answer; memory = t .memory; verdict = verdictBy l (t .call) (t .answer) } ∷
-    lines (fed l (t .call) (t .answer) (t .buffer)) ts
+lines l (e ∷ es) =
+    record { call = e .call; answer = e .answer; memory = e .memory; verdict = verdictOn l e } ∷
+    lines (fed l (e .call) (e .answer) (e .buffer)) es
 
--- The reset `first` and the calls after it are a list of the judge's theorem, each of whose work requests and receives is judged right, and
--- these are its lines.
+-- The reset `first` and the calls after it are a list of the judge's theorem, each of whose work requests and receives is
+-- judged right, and these are its lines.
 pub record Shown (first : Seen) (calls : List Seen) (ls : List Line) : Type 0 where
   pub begins : Begins FromC first
   pub linked : Linked FromC (first .left .state) calls
-  pub judged : Each (OfWork Correct) (first .left .state) (begins .base) calls
-  pub flushed : Each Flushes (first .left .state) (begins .base) calls
-  pub shows : lines (begins .base) (map turnOf calls) ≡ ls
+  pub judged : Each (OfWork Judged) (first .left .state) (begins .base) calls
+  pub receives : Each Flushes (first .left .state) (begins .base) calls
+  pub shows : lines (begins .base) (map exchangeOf calls) ≡ ls

@@ -1,9 +1,10 @@
-// A caller of the seven exported functions. What each promises is what the judge's theorem asks of a call (FromC), on any state, and calls in
-// turn on one state are a list of that theorem. An export that promised less would leave this crate unproved.
+// A caller of the seven exported functions. What each promises is what the judge's theorem asks of a call (FromC), on any
+// state, and calls in turn on one state are a list of that theorem. An export that promised less would leave this crate
+// unproved.
 ghost use mathlib.Core.List.{[], _∷_};
 ghost use Rattle.rules.specs.Call.{Call};
 ghost use Rattle.judge.specs.Whole.{FromC};
-ghost use Rattle.caller.specs.Served.{seen, turn, Served};
+ghost use Rattle.caller.specs.Exchange.{seen, exchange, Answered};
 
 pub fn reset(state: &mut [u8], memory: u64) -> u32
     ensures { λ r. ⌜ FromC (now (state .entry)) (seen (Call.reset memory) r (now (state .exit)) [] []) ⌝ }
@@ -12,19 +13,23 @@ pub fn reset(state: &mut [u8], memory: u64) -> u32
 }
 
 pub fn control(state: &mut [u8], command: &[u8], ack: &mut [u8]) -> u32
-    ensures { λ r. ⌜ FromC (now (state .entry)) (seen (Call.control (now (command .entry)) (now (ack .entry))) r (now (state .exit)) [] (now (ack .exit))) ⌝ }
+    ensures { λ r. ⌜ FromC (now (state .entry))
+        (seen (Call.control (now (command .entry)) (now (ack .entry))) r (now (state .exit)) [] (now (ack .exit))) ⌝ }
 {
     engine::lesungkap_control(state, command, ack)
 }
 
 pub fn register_pages(state: &mut [u8], command: &[u8], pages: &[u64], ack: &mut [u8]) -> u32
-    ensures { λ r. ⌜ FromC (now (state .entry)) (seen (Call.registerPages (now (command .entry)) (now (pages .entry)) (now (ack .entry))) r (now (state .exit)) [] (now (ack .exit))) ⌝ }
+    ensures { λ r. ⌜ FromC (now (state .entry))
+        (seen (Call.registerPages (now (command .entry)) (now (pages .entry)) (now (ack .entry))) r
+        (now (state .exit)) [] (now (ack .exit))) ⌝ }
 {
     engine::lesungkap_register_pages(state, command, pages, ack)
 }
 
 pub fn send(state: &mut [u8], memory: &mut [u8], qpn: u32, sent: &[u8]) -> u32
-    ensures { λ r. ⌜ FromC (now (state .entry)) (seen (Call.send qpn (now (sent .entry)) (now (memory .entry))) r (now (state .exit)) (now (memory .exit)) []) ⌝ }
+    ensures { λ r. ⌜ FromC (now (state .entry))
+        (seen (Call.send qpn (now (sent .entry)) (now (memory .entry))) r (now (state .exit)) (now (memory .exit)) []) ⌝ }
 {
     engine::lesungkap_post_send(state, memory, qpn, sent)
 }
@@ -42,7 +47,8 @@ pub fn flush(state: &mut [u8], qpn: u32) -> u32
 }
 
 pub fn poll(state: &mut [u8], cqn: u32, buffer: &mut [u8]) -> u32
-    ensures { λ r. ⌜ FromC (now (state .entry)) (seen (Call.poll cqn (now (buffer .entry))) r (now (state .exit)) [] (now (buffer .exit))) ⌝ }
+    ensures { λ r. ⌜ FromC (now (state .entry))
+        (seen (Call.poll cqn (now (buffer .entry))) r (now (state .exit)) [] (now (buffer .exit))) ⌝ }
 {
     engine::lesungkap_poll(state, cqn, buffer)
 }
@@ -75,13 +81,14 @@ pub fn run(
     cqn: u32,
     buffer: &mut [u8],
 ) -> Results
-    ensures { λ r. ⌜ Served (now (state .entry)) (turn (Call.reset size) (r .reset) [] [])
-        (turn (Call.control (now (command .entry)) (now (ack .entry))) (r .control) [] (now (ack .exit))
-        ∷ turn (Call.registerPages (now (region .entry)) (now (pages .entry)) (now (keys .entry))) (r .pages) [] (now (keys .exit))
-        ∷ turn (Call.receive receiver (now (posted .entry))) (r .receive) [] []
-        ∷ turn (Call.send sender (now (sent .entry)) (now (memory .entry))) (r .send) (now (memory .exit)) []
-        ∷ turn (Call.flush receiver) (r .flush) [] []
-        ∷ turn (Call.poll cqn (now (buffer .entry))) (r .poll) [] (now (buffer .exit))
+    ensures { λ r. ⌜ Answered (now (state .entry)) (exchange (Call.reset size) (r .reset) [] [])
+        (exchange (Call.control (now (command .entry)) (now (ack .entry))) (r .control) [] (now (ack .exit))
+        ∷ exchange (Call.registerPages (now (region .entry)) (now (pages .entry)) (now (keys .entry))) (r .pages) []
+        (now (keys .exit))
+        ∷ exchange (Call.receive receiver (now (posted .entry))) (r .receive) [] []
+        ∷ exchange (Call.send sender (now (sent .entry)) (now (memory .entry))) (r .send) (now (memory .exit)) []
+        ∷ exchange (Call.flush receiver) (r .flush) [] []
+        ∷ exchange (Call.poll cqn (now (buffer .entry))) (r .poll) [] (now (buffer .exit))
         ∷ [])
         (now (state .exit)) ⌝ }
 {

@@ -33,9 +33,9 @@ use Rattle.rules.proofs.Dropped.{has-slot, has-slot-paged}
 use Rattle.rules.proofs.Tests.{passed-before, passed-after}
 use Rattle.rules.proofs.Variants.{slot-free}
 use Rattle.judge.specs.Log.{Log, PairNote, noteRegistration, noteCommand, fed, ackData, Note}
-use Rattle.judge.specs.Judge.{Standing, standing, told, domain, peer, accepted, taken, toldOfBoth, errored, rights}
+use Rattle.judge.specs.Judge.{Standing, standing, told, domain, peer, accepted, consumed, toldOfBoth, errored, rights}
 use Rattle.judge.specs.Distinct.{handed, Distinct}
-use Rattle.judge.specs.Dropped.{dropped}
+use Rattle.judge.specs.Dropped.{ended}
 use Rattle.judge.proofs.Acks.{keys-back, ack-back}
 use Rattle.judge.proofs.Keys
 use Rattle.judge.proofs.Keys.{Inside, Keys}
@@ -44,12 +44,12 @@ use Rattle.judge.proofs.Pairs.{Pair, Said, said, saidBy}
 use Rattle.wire.specs.Codec.{putFields}
 
 -- the tables agree with what a log says. The parameters are functions, so that where a call changes none of them the old agreement is the new one.
-pub record Agreed (n : ℕ) (mr : ℕ → Mr) (qp : ℕ → Qp) (st : ℕ → Option Standing) (dr hd : ℕ → Bool) (D : Type 0) (sd : ℕ → Said) : Type 0 where
-  pub keys : Keys n mr st dr hd D
+pub record Agreed (n : ℕ) (mr : ℕ → Mr) (qp : ℕ → Qp) (st : ℕ → Option Standing) (en hd : ℕ → Bool) (D : Type 0) (sd : ℕ → Said) : Type 0 where
+  pub keys : Keys n mr st en hd D
   pub pairs : (q : ℕ) → Pair (qp q) (sd q)
 
 abbrev pub Agree : Card → Log → Type 0
-Agree c l = Agreed (c .memory) (c .mr) (c .qp) (standing l) (dropped l) (handed l) (Distinct l) (said l)
+Agree c l = Agreed (c .memory) (c .mr) (c .qp) (standing l) (ended l) (handed l) (Distinct l) (said l)
 
 -- ---- control commands
 
@@ -57,17 +57,17 @@ module _ (c : Card) (l : Log) (a : Agree c l) where
   -- a registration of either kind
   registers : (g : Registration) (ps : List ℕ) → freeMrn c < mrCount → Inside (c .memory) ps g →
       Agree (registered c g ps) (noteRegistration (numbersOf (commandAck c (Command.register g))) g ps ∷ l)
-  unfolding commandAck standing dropped handed Distinct told domain peer accepted taken toldOfBoth errored rights
+  unfolding commandAck standing ended handed Distinct told domain peer accepted consumed toldOfBoth errored rights
   registers g ps i fits =
       record {
         keys =
-            Keys.registers (c .memory) (c .mr) (standing l) (dropped l) (handed l) (Distinct l) (a .keys) (freeMrn c) g ps (slot-free c i .0) (slot-free c i .1)
+            Keys.registers (c .memory) (c .mr) (standing l) (ended l) (handed l) (Distinct l) (a .keys) (freeMrn c) g ps (slot-free c i .0) (slot-free c i .1)
             fits;
         pairs = a .pairs;
       }
 
   command : (k : Command) → Passed (commandChecks c k) → Agree (commandEffect c k) (noteCommand k (numbersOf (commandAck c k)) ∷ l)
-  unfolding commandChecks commandEffect commandAck standing dropped handed Distinct told domain peer accepted taken toldOfBoth errored rights
+  unfolding commandChecks commandEffect commandAck standing ended handed Distinct told domain peer accepted consumed toldOfBoth errored rights
   command Command.queryDevice p = a
   command Command.queryPort p = a
   command (Command.createCq n) p = a
@@ -79,7 +79,7 @@ module _ (c : Card) (l : Log) (a : Agree c l) where
       (Keys.flat-inside (c .memory) g (ltb-false (c .memory) (g .start + g .length) (p .1 .1 .1 .0))
       (ltb-false mostAddress (g .virt + g .length) (p .1 .1 .1 .1 .0)))
   command (Command.deregister n) p =
-      record { keys = Keys.deregisters (c .memory) (c .mr) (standing l) (dropped l) (handed l) (Distinct l) (a .keys) n; pairs = a .pairs }
+      record { keys = Keys.deregisters (c .memory) (c .mr) (standing l) (ended l) (handed l) (Distinct l) (a .keys) n; pairs = a .pairs }
   command (Command.createQp r) p =
       record {
         keys = a .keys;
@@ -88,7 +88,7 @@ module _ (c : Card) (l : Log) (a : Agree c l) where
   command (Command.modifyQp r) p =
       record {
         keys = a .keys;
-        pairs = split (r .qpn) _ (rw same (λ e. Pairs.moves r (names (peer l (r .qpn)) (r .qpn)) (a .pairs (r .qpn) e))) (λ j e. rw e (a .pairs j));
+        pairs = split (r .qpn) _ (rw same (λ e. Pairs.changes r (names (peer l (r .qpn)) (r .qpn)) (a .pairs (r .qpn) e))) (λ j e. rw e (a .pairs j));
       }
   command (Command.destroyQp q) p =
       record { keys = a .keys; pairs = split q _ (rw same (λ e. absurd (false≢true e))) (λ j e. rw e (a .pairs j)) }
@@ -105,13 +105,14 @@ module _ (c : Card) (l : Log) (a : Agree c l) where
       (not-false _ (p .1 .1 .1 .1 .1 .1 .1 .0)) (ltb-false mostAddress (g .virt + g .length) (p .1 .1 .1 .0))))
 
 pub start : (n : ℕ) → Agree (fresh n) []
-unfolding standing dropped handed Distinct told domain peer accepted taken toldOfBoth errored rights
+unfolding standing ended handed Distinct told domain peer accepted consumed toldOfBoth errored rights
 start n =
     record {
       keys = record {
         finds = λ k. refl;
         gone = λ k e. refl;
         given = λ k e. absurd (false≢true e);
+        known = λ k e. absurd (false≢true e);
         spent = λ k e. absurd (false≢true e);
         distinct = tt;
         inside = λ i e. absurd (false≢true e);
@@ -257,18 +258,18 @@ posted-pairs c q w l a = go (flushesAtOnce c q)
 
 posted-agrees : (c : Card) (q : ℕ) (w : Receive) (l : Log) → Agree c l →
     Agree (received c q w) (Note.ofPair q (PairNote.posted w (joinStatus c q)) ∷ l)
-unfolding received joined standing dropped handed Distinct told toldOfBoth domain rights peer accepted taken errored
+unfolding received joined standing ended handed Distinct told toldOfBoth domain rights peer accepted consumed errored
 posted-agrees c q w l a = record { keys = go (flushesAtOnce c q); pairs = posted-pairs c q w l a }
   where
     go : (b : Bool) → let c′ = cond {A = Card} b (withCq c (putAll (joinPuts c q w) (c .cq))) (joined c q w) in
-        Keys (c′ .memory) (c′ .mr) (standing l) (dropped l) (handed l) (Distinct l)
+        Keys (c′ .memory) (c′ .mr) (standing l) (ended l) (handed l) (Distinct l)
     go true = a .keys
     go false = a .keys
 
 -- ---- every accepted call
 
 pub accepted-call : (c : Card) (k : Call) (l : Log) → Passed (checks c k) → Agree c l → Agree (effect c k) (fed l k (Done (statusOf c k)) (bufferAfter c k))
-unfolding checks controlChecks pageRecordChecks flushChecks effect sendEffect flushed polled statusOf bufferAfter fed standing dropped handed Distinct told domain peer accepted taken toldOfBoth errored rights
+unfolding checks controlChecks pageRecordChecks flushChecks effect sendEffect flushed polled statusOf bufferAfter fed standing ended handed Distinct told domain peer accepted consumed toldOfBoth errored rights
 accepted-call c (Call.reset n) l p a = start n
 accepted-call c (Call.control k b) l p a =
     known (commandOf k) (passed-after (controlChecks k b) (maybe [] (commandChecks c) (commandOf k)) p)

@@ -12,12 +12,12 @@ use lib.ListN.{getD}
 use borrow.Author.Tests.{eqb-true, leb-true, ltb-true}
 use Rattle.wire.proofs.ScanLaws.{and-left, and-right}
 use Rattle.rules.specs.Lists.{names}
-use Rattle.rules.specs.Touch.{Byte, total}
+use Rattle.rules.specs.Touch.{Byte}
 use Rattle.judge.specs.Log.{Log}
-use Rattle.judge.specs.Judge.{Standing, standing, grants, opens, Side, passes, passesBy, placed, placeBy, Work, readSide, writtenSide}
-use Rattle.judge.specs.Demand3.{Correct, Bytewise, target, targetByte}
+use Rattle.judge.specs.Judge.{Standing, standing, grants, flagsGrant, Side, passes, passesBy, placed, placeBy, Work, moves, readSide, writtenSide}
+use Rattle.judge.specs.Demand3.{Correct, Bytewise, target, targetByte, writtenLength}
 use Rattle.judge.specs.Apart.{Means, Covered, Reason, Apart}
-use Rattle.judge.proofs.Bytes.{target-passes, source-passes, on-success, correct-bytes}
+use Rattle.judge.proofs.Bytes.{target-passes, source-passes, correct-bytes}
 use Rattle.judge.proofs.Demand3.{Proves, correct}
 
 -- ---- a number below n where f is x, or none
@@ -56,7 +56,7 @@ module _ (l : Log) (s : Side) (b : Byte) (p : ℕ) where
       go (some h) e y z =
           let d : Bool = names (s .party .domain) (h .reg .pd) in
           let t : Bool = grants (h .reg .access) (s .right) in
-          let f : Bool = opens (s .party .rights) (s .right) in
+          let f : Bool = flagsGrant (s .party .rights) (s .right) in
           let v : Bool = leb (h .reg .virt) (b .address) in
           let w : Bool = ltb (b .address) (h .reg .virt + h .reg .length) in
           record {
@@ -67,7 +67,7 @@ module _ (l : Log) (s : Side) (b : Byte) (p : ℕ) where
             means = record {
               low = leb-true (h .reg .virt) (b .address) (and-right (d && t && f) v (and-left (d && t && f && v) w y));
               high = ltb-true (b .address) (h .reg .virt + h .reg .length) (and-right (d && t && f && v) w y);
-              place = z;
+              is = z;
             };
           }
 
@@ -76,42 +76,40 @@ module _ (l : Log) (w : Work) (s : ℕ) (m m′ : List ℕ) (k : Correct l w s m
   bytes : Bytewise l w s m m′
   bytes = correct-bytes l w s m m′ k small plain
 
-  reason : s ≡ 0 → (p i : ℕ) → i < total (w .request) → target l w i ≡ p → Reason l w p
+  reason : moves l w ≡ true → (p i : ℕ) → i < writtenLength l w → target l w i ≡ p → Reason l w p
   unfolding target
   reason z p i h e =
-      let t = target-passes l w (on-success l w s m m′ k small plain z) small plain i h in
+      let t = target-passes l w z small plain i h in
       record { i = i; below = h; covered = covered l (writtenSide l w) (targetByte l w i) p t e }
 
-  kept : s ≢ 0 → (p : ℕ) → getD m′ p 0 ≡ getD m p 0
-  kept z p = ap (λ (x : List ℕ). getD x p 0) (bytes .failed z)
+  kept : moves l w ≡ false → (p : ℕ) → getD m′ p 0 ≡ getD m p 0
+  kept z p = ap (λ (x : List ℕ). getD x p 0) (bytes .kept z)
 
-  changed : (p : ℕ) → getD m′ p 0 ≢ getD m p 0 → Dec (s ≡ 0) → Reason l w p
-  changed p d (yes z) = go (find (target l w) p (total (w .request)))
+  changed : (p : ℕ) → getD m′ p 0 ≢ getD m p 0 → (b : Bool) → moves l w ≡ b → Reason l w p
+  changed p d true z = go (find (target l w) p (writtenLength l w))
     where
-      go : Found (target l w) p (total (w .request)) ⊎ ((i : ℕ) → i < total (w .request) → target l w i ≢ p) → Reason l w p
+      go : Found (target l w) p (writtenLength l w) ⊎ ((i : ℕ) → i < writtenLength l w → target l w i ≢ p) → Reason l w p
       go (inl y) = reason z p (y .i) (y .below) (y .is)
       go (inr g) = absurd (d (bytes .others z p g))
-  changed p d (no z) = absurd (d (kept z p))
+  changed p d false z = absurd (d (kept z p))
 
   spared : (p : ℕ) →
       ((k a : ℕ) (h : Standing) → standing l k ≡ some h → writtenSide l w .party .domain ≡ some (h .reg .pd) → Means h a p → ⊥) →
-      Dec (s ≡ 0) → getD m′ p 0 ≡ getD m p 0
-  spared p f (yes z) =
+      (b : Bool) → moves l w ≡ b → getD m′ p 0 ≡ getD m p 0
+  spared p f true z =
       bytes .others z p
       (λ i b x.
       let y = reason z p i b x in
       let h = y .covered in
       f (targetByte l w (y .i) .key) (targetByte l w (y .i) .address) (h .reg) (h .stands) (h .same) (h .means))
-  spared p f (no z) = kept z p
+  spared p f false z = kept z p
 
   apart-bytes : Apart l w s m m′
   apart-bytes =
       record {
-        changed = λ p d. changed p d (ℕ-discrete s 0);
-        spared = λ p f. spared p f (ℕ-discrete s 0);
-        read =
-            λ z i h b e.
-            covered l (readSide l w) b (placed l b) (source-passes l w (on-success l w s m m′ k small plain z) small plain i h b e) refl;
+        changed = λ p d. changed p d (moves l w) refl;
+        spared = λ p f. spared p f (moves l w) refl;
+        read = λ z i h b e. covered l (readSide l w) b (placed l b) (source-passes l w z small plain i h b e) refl;
       }
 
 pub apart : Proves Apart

@@ -27,7 +27,7 @@ use Rattle.rules.specs.declared.Answer.the-variants.{Done}
 use Rattle.rules.proofs.Tests.{passed-before, passed-after}
 use Rattle.judge.specs.Log.{Log, PairNote, noteCommand, ackData, Note}
 use Rattle.judge.specs.Whole.{Met}
-use Rattle.judge.specs.Demand3.{Seen, heard, stateAfter, Linked}
+use Rattle.judge.specs.Demand3.{Seen, heard, stateAfter, Linked, AfterReset}
 use Rattle.judge.specs.Count.{puts, putInto, staysBy, stays, PutsBy, Puts, receivePuts, Tally, none-yet, countedBy, noted, completed, tallied, tallyAfter, Counted}
 use Rattle.judge.proofs.Acks.{ack-back}
 use Rattle.judge.proofs.Pairs.{error-waiting}
@@ -120,11 +120,11 @@ module _ (c : Card) (t : ℕ → Tally) (a : Counts (c .qp) t) where
   abbrev Command-counts : Command → Type 0
   Command-counts k = (q : ℕ) → Sums (commandEffect c k .qp q) (noted (noteCommand k (numbersOf (commandAck c k))) q (length (c .qp q .waiting)) (t q))
 
-  moved-sums : (s : Qp) (v : Tally) (z : Bool) → v .accepted ≡ v .put + v .dropped + length (s .waiting) →
+  changed-sums : (s : Qp) (v : Tally) (z : Bool) → v .accepted ≡ v .put + v .dropped + length (s .waiting) →
       let v′ = cond z (record { accepted = v .accepted; put = v .put; dropped = v .dropped + length (s .waiting) }) v in
       v′ .accepted ≡ v′ .put + v′ .dropped + length (cond z [] (s .waiting))
-  moved-sums s v true e = omega arith
-  moved-sums s v false e = e
+  changed-sums s v true e = omega arith
+  changed-sums s v false e = e
 
   command : (k : Command) → Command-counts k
   unfolding commandEffect commandAck
@@ -138,7 +138,7 @@ module _ (c : Card) (t : ℕ → Tally) (a : Counts (c .qp) t) where
   command (Command.deregister n) = a
   command (Command.createQp r) = split (freeQpn c) _ (rw same (λ e. refl)) (λ j e. rw e (a j))
   command (Command.modifyQp r) =
-      split (r .qpn) _ (rw same (λ e. moved-sums (c .qp (r .qpn)) (t (r .qpn)) (eqb (r .state) 0) (a (r .qpn) e))) (λ j e. rw e (a j))
+      split (r .qpn) _ (rw same (λ e. changed-sums (c .qp (r .qpn)) (t (r .qpn)) (eqb (r .state) 0) (a (r .qpn) e))) (λ j e. rw e (a j))
   command (Command.destroyQp q) = split q _ (rw same (λ e. absurd (false≢true e))) (λ j e. rw e (a j))
 
 -- ---- a receive leaves
@@ -307,6 +307,6 @@ module _ (Made : (st : List ℕ) → Seen → Type 0) (cardOf : List ℕ → Car
       (rw (m .card, m .answer, m .buffer) (counts-on st l (x .call) t a)) (h .1)
 
   pub counted : Counted Made cardOf
-  unfolding Counted
+  unfolding AfterReset
   counted x b xs links q = counts-list (x .left .state) (b .base) (λ i. none-yet) xs
       (rw (fresh-card Made cardOf accepts met x b .card) (λ q e. absurd (false≢true e))) links q

@@ -17,7 +17,7 @@ use Rattle.judge.specs.Log.{Log}
 use Rattle.judge.specs.Judge.{Right, passes, placed, party, peer, waiting, errored, standing, Work, Source, filled, farRight, near, far, allPass, fitsReceive, nearPasses, farPasses, judge, readSide, writtenSide, sources, valueOf, judgedMemory}
 use Rattle.judge.specs.Demand3.{Correct, WorkClaim}
 use Rattle.judge.specs.Distinct.{handed, Distinct}
-use Rattle.judge.specs.Dropped.{dropped}
+use Rattle.judge.specs.Dropped.{ended}
 use Rattle.judge.proofs.Rights.{needs-right, own-right, far-right, same-fills}
 use Rattle.judge.proofs.Keys
 use Rattle.judge.proofs.Agree.{Agree, Going, Sendable, is-four, not-four}
@@ -70,11 +70,11 @@ module _ (c : Card) (l : Log) (a : Agree c l) where
   same-passes q u h =
       let k = a .pairs q h in
       fun-ext (λ b. rw (k .domain, k .rights)
-      (Keys.same-covers (c .memory) (c .mr) (standing l) (dropped l) (handed l) (Distinct l) (a .keys) (b .key) (partyOf c q) u (b .address)))
+      (Keys.same-covers (c .memory) (c .mr) (standing l) (ended l) (handed l) (Distinct l) (a .keys) (b .key) (partyOf c q) u (b .address)))
 
   pub same-place : placed l ≡ place c
   unfolding placed place
-  same-place = fun-ext (λ b. Keys.same-place (c .memory) (c .mr) (standing l) (dropped l) (handed l) (Distinct l) (a .keys) (b .key) (b .address))
+  same-place = fun-ext (λ b. Keys.same-place (c .memory) (c .mr) (standing l) (ended l) (handed l) (Distinct l) (a .keys) (b .key) (b .address))
 
   module _ (q : ℕ) (r : Request) {m : List ℕ} (p : Sendable c q r m) (g : Going c q r) where
     pub same-peer : peer l q ≡ some (peerOf c q)
@@ -169,7 +169,7 @@ unfolding passes placed
 correct c l a q r m p =
     record {
       verdict = verdict c l a q r p;
-      flushed = flushed-is c l a q r p;
+      in-error = flushed-is c l a q r p;
       memory = same-memory c l a q r p;
-      inside = λ x u b. rw (p .whole) (Keys.all-inside (c .memory) (c .mr) (standing l) (dropped l) (handed l) (Distinct l) (a .keys) (b .key) x u (b .address));
+      inside = λ x u b. rw (p .whole) (Keys.all-inside (c .memory) (c .mr) (standing l) (ended l) (handed l) (Distinct l) (a .keys) (b .key) x u (b .address));
     }

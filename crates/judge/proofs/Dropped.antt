@@ -24,7 +24,7 @@ use Rattle.judge.specs.Log.{Log}
 use Rattle.judge.specs.Judge.{standing, near, far, allPass, nearPasses}
 use Rattle.judge.specs.Demand3.{Seen, Linked}
 use Rattle.judge.specs.Distinct.{handed, Distinct}
-use Rattle.judge.specs.Dropped.{dropped, Stale, Loses, StaysHeld}
+use Rattle.judge.specs.Dropped.{ended, Stale, Loses, StaysHeld}
 use Rattle.judge.specs.Whole.{Met}
 use Rattle.judge.proofs.Keys
 use Rattle.judge.proofs.Agree.{Agree, Going, Sendable}
@@ -55,7 +55,7 @@ module _ (c : Card) (l : Log) (a : Agree c l) (q : ℕ) (r : Request) {m : List 
       }
 
   no-region : lookup (c .mr) (farKey c q r i) ≡ none
-  no-region = Keys.finds-none (c .memory) (c .mr) (standing l) (dropped l) (handed l) (Distinct l) (a .keys) (farKey c q r i) (rw far-bytes at (s .gone))
+  no-region = Keys.finds-none (c .memory) (c .mr) (standing l) (ended l) (handed l) (Distinct l) (a .keys) (farKey c q r i) (rw far-bytes at (s .gone))
 
 pub fruitless : Shows Loses
 fruitless c l a q r m p i s = lost c q r m i (reaches c l a q r p i s) (no-region c l a q r p i s)

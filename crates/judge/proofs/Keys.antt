@@ -15,7 +15,7 @@ use Rattle.tables.specs.Limits.{mostAddress, pageSize}
 use Rattle.tables.specs.Card.{Mr, freeMr}
 use Rattle.tables.specs.State.{pagesNeeded}
 use Rattle.tables.specs.declared.Registration.{Registration}
-use Rattle.rules.specs.Lists.{names}
+use Rattle.rules.specs.Lists.{names, isSome}
 use Rattle.rules.specs.Touch.{byteIn, byteOf}
 use Rattle.rules.specs.declared.Party as rules
 use Rattle.rules.specs.Pages.{entryOk, entriesOk}
@@ -23,7 +23,9 @@ use Rattle.rules.specs.Permit.{keyOf, lookup, covers, placeIn, Use}
 use Rattle.validate.specs.Search.{lastVariant}
 use Rattle.rules.proofs.Ranges.{all-in}
 use Rattle.rules.proofs.Variants.{slot}
-use Rattle.judge.specs.Judge.{Standing, Party, Right, grants, unless, passesBy, placeBy, opens}
+use Rattle.judge.specs.Log.{KeyNote}
+use Rattle.judge.specs.Dropped.{endedBy}
+use Rattle.judge.specs.Judge.{Standing, Party, Right, grants, unless, passesBy, placeBy, flagsGrant}
 use Rattle.judge.proofs.Rights.{needs-right, same-right, same-opens}
 
 -- every address of the region means a byte of a memory of length n, and is below 2^64
@@ -56,12 +58,13 @@ paged-inside n g ps e f b a v w = (listed-inside n ps (g .start + (a - g .virt))
 abbrev pub heldAt : Mr → (i k : ℕ) → Option Standing
 heldAt s i k = cond (s .live && eqb (keyOf i (s .variant)) k) (some (record { mrn = i; reg = s .reg; pages = s .pages })) none
 
--- the table mr agrees with what the log says of each key: its standing registration, whether it is dropped, and whether it was handed out;
+-- the table mr agrees with what the log says of each key: its standing registration, whether one ended, and whether it was handed out;
 -- D says that no key was handed out twice
-pub record Keys (n : ℕ) (mr : ℕ → Mr) (st : ℕ → Option Standing) (dr hd : ℕ → Bool) (D : Type 0) : Type 0 where
+pub record Keys (n : ℕ) (mr : ℕ → Mr) (st : ℕ → Option Standing) (en hd : ℕ → Bool) (D : Type 0) : Type 0 where
   pub finds : (k : ℕ) → heldAt (mr (k / 256)) (k / 256) k ≡ st k
-  pub gone : (k : ℕ) → dr k ≡ true → st k ≡ none
-  pub given : (k : ℕ) → dr k ≡ true → hd k ≡ true
+  pub gone : (k : ℕ) → en k ≡ true → st k ≡ none
+  pub given : (k : ℕ) → en k ≡ true → hd k ≡ true
+  pub known : (k : ℕ) → isSome (st k) ≡ true → hd k ≡ true
   pub spent : (k : ℕ) → hd k ≡ true → k % 256 ≤ mr (k / 256) .variant
   pub distinct : D
   pub inside : (i : ℕ) → mr i .live ≡ true → Inside n (mr i .pages) (mr i .reg)
@@ -95,7 +98,7 @@ unless-other : (i j : ℕ) (g : Registration) (ps : List ℕ) → eqb i j ≡ fa
 unless-other i j g ps e true = rw e
 unless-other i j g ps e false = refl
 
-module _ (n : ℕ) (mr : ℕ → Mr) (st : ℕ → Option Standing) (dr hd : ℕ → Bool) (D : Type 0) (agree : Keys n mr st dr hd D) (i : ℕ) where
+module _ (n : ℕ) (mr : ℕ → Mr) (st : ℕ → Option Standing) (en hd : ℕ → Bool) (D : Type 0) (agree : Keys n mr st en hd D) (i : ℕ) where
   in-slot : (j k : ℕ) → k / 256 ≡ j → heldAt (mr j) j k ≡ st k
   in-slot j k e = subst (λ x. heldAt (mr x) x k ≡ st k) e (agree .finds k)
 
@@ -103,13 +106,14 @@ module _ (n : ℕ) (mr : ℕ → Mr) (st : ℕ → Option Standing) (dr hd : ℕ
   pub registers : (g : Registration) (ps : List ℕ) → mr i .live ≡ false → mr i .variant < lastVariant → Inside n ps g →
       let k₁ = keyOf i (mr i .variant + 1) in
       Keys n (upd mr i (record { live = true; variant = mr i .variant + 1; reg = g; pages = ps }))
-      (λ k. cond (eqb k₁ k || eqb k₁ k) (some (record { mrn = i; reg = g; pages = ps })) (st k)) dr (λ k. eqb k₁ k || eqb k₁ k || hd k)
+      (λ k. cond (eqb k₁ k || eqb k₁ k) (some (record { mrn = i; reg = g; pages = ps })) (st k)) en (λ k. eqb k₁ k || eqb k₁ k || hd k)
       ((((hd k₁ ≡ false) × (hd k₁ ≡ false))) × D)
   registers g ps free left fits =
       record {
         finds = λ k. rw (or-same (eqb k₁ k)) (finds′ k);
         gone = λ k h. rw (or-same (eqb k₁ k)) (still-gone k h (eqb k₁ k) refl);
         given = λ k h. rw (agree .given k h) (or-true (eqb k₁ k || eqb k₁ k));
+        known = λ k. rw (or-same (eqb k₁ k)) (known′ k (eqb k₁ k));
         spent = λ k. rw (or-same (eqb k₁ k)) (spent′ k (eqb k₁ k) refl);
         distinct = ((unheard (hd k₁) refl, unheard (hd k₁) refl), agree .distinct);
         inside = split i _ (rw same (λ e. fits)) (λ j e. rw e (agree .inside j));
@@ -131,7 +135,11 @@ module _ (n : ℕ) (mr : ℕ → Mr) (st : ℕ → Option Standing) (dr hd : ℕ
           let h : k₁ % 256 ≤ mr i .variant = rw (slot i (mr i .variant + 1) small′) at (agree .spent k₁ e) in absurd (omega arith)
       unheard false e = refl
 
-      still-gone : (k : ℕ) → dr k ≡ true → (b : Bool) → eqb k₁ k ≡ b → cond b (some (record { mrn = i; reg = g; pages = ps })) (st k) ≡ none
+      known′ : (k : ℕ) (b : Bool) → isSome (cond b (some (record { mrn = i; reg = g; pages = ps })) (st k)) ≡ true → (b || hd k) ≡ true
+      known′ k true h = refl
+      known′ k false h = agree .known k h
+
+      still-gone : (k : ℕ) → en k ≡ true → (b : Bool) → eqb k₁ k ≡ b → cond b (some (record { mrn = i; reg = g; pages = ps })) (st k) ≡ none
       still-gone k h true e =
           let q : hd k₁ ≡ true = ap hd (eqb-true k₁ k e) ∙ agree .given k h in absurd (false≢true (sym (unheard (hd k₁) refl) ∙ q))
       still-gone k h false e = agree .gone k h
@@ -159,11 +167,12 @@ module _ (n : ℕ) (mr : ℕ → Mr) (st : ℕ → Option Standing) (dr hd : ℕ
           (k / 256) refl
 
   -- a slot is dropped
-  pub deregisters : Keys n (upd mr i (freeMr (mr i .variant))) (λ k. unless i (st k)) (λ k. eqb i (k / 256) && hd k || dr k) hd D
+  pub deregisters : Keys n (upd mr i (freeMr (mr i .variant))) (λ k. unless i (st k)) (λ k. endedBy (KeyNote.deregistered i) (st k) (en k)) hd D
   deregisters =
       record {
-        gone = λ k. now-gone k (eqb i (k / 256)) refl (hd k);
-        given = λ k. was k (eqb i (k / 256)) (hd k) refl;
+        gone = λ k. now-gone (st k) (en k) (agree .gone k);
+        given = λ k. was (st k) (en k) (hd k) (agree .known k) (agree .given k);
+        known = λ k h. agree .known k (still-some (st k) h);
         spent = λ k h. split i (λ j. k / 256 ≡ j → k % 256 ≤ upd mr i (freeMr (mr i .variant)) j .variant)
             (λ p. rw (same i, ← p) (agree .spent k h)) (λ j d p. rw (d, ← p) (agree .spent k h)) (k / 256) refl;
         distinct = agree .distinct;
@@ -175,19 +184,25 @@ module _ (n : ℕ) (mr : ℕ → Mr) (st : ℕ → Option Standing) (dr hd : ℕ
         small = split i _ (rw same (agree .small i)) (λ j e. rw e (agree .small j));
       }
     where
-      now-gone : (k : ℕ) (b : Bool) → eqb i (k / 256) ≡ b → (g : Bool) → (b && g || dr k) ≡ true → unless i (st k) ≡ none
-      now-gone k true e g h =
-          rw (← in-slot i k (sym (eqb-true i (k / 256) e))) (sym (unless-same i (mr i .reg) (mr i .pages) (mr i .live && eqb (keyOf i (mr i .variant)) k)))
-      now-gone k false e g h = rw (agree .gone k h)
+      now-gone : (o : Option Standing) (b : Bool) → (b ≡ true → o ≡ none) → endedBy (KeyNote.deregistered i) o b ≡ true → unless i o ≡ none
+      now-gone none b f h = refl
+      now-gone (some s) b f h = go (eqb i (s .mrn)) h
+        where
+          go : (x : Bool) → (x || b) ≡ true → cond x none (some s) ≡ none
+          go true e = refl
+          go false e = f e
 
-      was : (k : ℕ) (b g : Bool) → hd k ≡ g → (b && g || dr k) ≡ true → hd k ≡ true
-      was k true true e h = e
-      was k true false e h = agree .given k h
-      was k false g e h = agree .given k h
+      was : (o : Option Standing) (b g : Bool) → (isSome o ≡ true → g ≡ true) → (b ≡ true → g ≡ true) → endedBy (KeyNote.deregistered i) o b ≡ true → g ≡ true
+      was none b g f e h = e h
+      was (some s) b g f e h = f refl
+
+      still-some : (o : Option Standing) → isSome (unless i o) ≡ true → isSome o ≡ true
+      still-some none h = h
+      still-some (some s) h = refl
 
 -- ---- what a key permits
 
-module _ (n : ℕ) (mr : ℕ → Mr) (st : ℕ → Option Standing) (dr hd : ℕ → Bool) (D : Type 0) (agree : Keys n mr st dr hd D) where
+module _ (n : ℕ) (mr : ℕ → Mr) (st : ℕ → Option Standing) (en hd : ℕ → Bool) (D : Type 0) (agree : Keys n mr st en hd D) where
   pub same-covers : (k : ℕ) (p : rules.Party) (u : Use) (a : ℕ) →
       passesBy (st k) (record { domain = some (p .pd); rights = p .rights }) (needs-right u) a ≡ covers (lookup mr k) p u a
   unfolding lookup covers
@@ -228,7 +243,7 @@ module _ (n : ℕ) (mr : ℕ → Mr) (st : ℕ → Option Standing) (dr hd : ℕ
 placed-inside : (n : ℕ) (h : Standing) (p : Party) (u : Right) (a : ℕ) → Inside n (h .pages) (h .reg) → passesBy (some h) p u a ≡ true →
     (placeBy (some h) a < n) × (a < 2 ^ 64)
 placed-inside n h p u a f e =
-    let t : Bool = names (p .domain) (h .reg .pd) && grants (h .reg .access) u && opens (p .rights) u in
+    let t : Bool = names (p .domain) (h .reg .pd) && grants (h .reg .access) u && flagsGrant (p .rights) u in
     let v : Bool = leb (h .reg .virt) a in
     let w : Bool = ltb a (h .reg .virt + h .reg .length) in
     f a (leb-true (h .reg .virt) a (and-right t v (and-left (t && v) w e))) (ltb-true a (h .reg .virt + h .reg .length) (and-right (t && v) w e))
@@ -245,6 +260,6 @@ found-inside n s i k p u a f = go (s .live && eqb (keyOf i (s .variant)) k) refl
     go true e = placed-inside n held p u a (f (and-left (s .live) (eqb (keyOf i (s .variant)) k) e))
     go false e = λ h. absurd (false≢true h)
 
-pub all-inside : (n : ℕ) (mr : ℕ → Mr) (st : ℕ → Option Standing) (dr hd : ℕ → Bool) (D : Type 0) → Keys n mr st dr hd D →
+pub all-inside : (n : ℕ) (mr : ℕ → Mr) (st : ℕ → Option Standing) (en hd : ℕ → Bool) (D : Type 0) → Keys n mr st en hd D →
     (k : ℕ) (p : Party) (u : Right) (a : ℕ) → passesBy (st k) p u a ≡ true → (placeBy (st k) a < n) × (a < 2 ^ 64)
-all-inside n mr st dr hd D agree k p u a = rw (← agree .finds k) (found-inside n (mr (k / 256)) (k / 256) k p u a (agree .inside (k / 256)))
+all-inside n mr st en hd D agree k p u a = rw (← agree .finds k) (found-inside n (mr (k / 256)) (k / 256) k p u a (agree .inside (k / 256)))

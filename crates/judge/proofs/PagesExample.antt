@@ -25,7 +25,7 @@ use Rattle.rules.specs.Queues.{joinChecks, joinStatus, joinPuts, joined, receiv
 use Rattle.rules.specs.Call.{Call}
 use Rattle.rules.specs.Calls.{checks, controlChecks, statusOf, effect, memoryAfter, bufferAfter, step}
 use Rattle.judge.specs.Log.{Log, fed, ackData}
-use Rattle.judge.specs.Judge.{judge, judgedMemory, readSide, writtenSide, sources, placed, nearPasses, farPasses, near, far, passes, filled, waiting, standing, told, toldOfBoth, domain, peer, accepted, taken, errored, rights}
+use Rattle.judge.specs.Judge.{judge, judgedMemory, readSide, writtenSide, sources, placed, nearPasses, farPasses, near, far, passes, filled, waiting, standing, told, toldOfBoth, domain, peer, accepted, consumed, errored, rights}
 use Rattle.judge.proofs.Example.{command, control, registered, modified, created, run, buffers}
 
 -- two pages
@@ -53,8 +53,8 @@ waited =
     (encode receiveCodec (replicate 56 0) 0
     (record { wr = 9; count = 2; first = record { address = 4096; length = 1; key = 257 }; second = record { address = 12288; length = 1; key = 257 } }))
 
-abbrev dropped : Call
-dropped = control (encode numberCodec (command 8 4) 2 1)
+abbrev deregistered : Call
+deregistered = control (encode numberCodec (command 8 4) 2 1)
 
 -- a domain, a completion queue, a region of the bytes 2 to 5 with the key 1 and one over pages with the key 257, and two queue pairs that are joined
 abbrev setup : List Call
@@ -82,7 +82,7 @@ shown x = (x .0, (ends (x .1 .0), x .1 .1))
 
 -- a write of four bytes to 8190, 8191, 0 and 1; a read of them; a send of two bytes, of which the later wins; and the write once the region is
 -- dropped
-pub works : map shown (drop 11 (run (fresh 8192) [] (setup ++ (posted 0 4 ∷ posted 4 4 ∷ waited ∷ posted 2 2 ∷ dropped ∷ posted 0 4 ∷ []))))
+pub works : map shown (drop 11 (run (fresh 8192) [] (setup ++ (posted 0 4 ∷ posted 4 4 ∷ waited ∷ posted 2 2 ∷ deregistered ∷ posted 0 4 ∷ []))))
     ≡ (Done 0, (5 ∷ 6 ∷ 3 ∷ 4 ∷ 5 ∷ 6 ∷ 3 ∷ 4 ∷ [], true))
     ∷ (Done 0, (1 ∷ 2 ∷ 0 ∷ 0 ∷ 1 ∷ 2 ∷ 0 ∷ 0 ∷ [], true))
     ∷ (Done 0, ([], true))
@@ -90,7 +90,7 @@ pub works : map shown (drop 11 (run (fresh 8192) [] (setup ++ (posted 0 4 ∷ po
     ∷ (Done 0, ([], true))
     ∷ (Done 8, (1 ∷ 2 ∷ 3 ∷ 4 ∷ 5 ∷ 6 ∷ 0 ∷ 0 ∷ [], false))
     ∷ []
-unfolding run fieldsAt putFields leAt putLe rows rowsFrom lowest lowestFrom anyBelow commandOf dataSize ackNeed numberCodec registerCodec createQpCodec modifyQpCodec sendCodec sgeCodec receiveCodec completionCodec sendChecks receiveChecks receiveSges receiveOf sendSge inlineBytes inlineLength pagesNeeded pageRecordChecks pageListChecks all stored requestOf receiveIn range sgeBytes sgeTotal total ownBytes farBytes byteIn byteOf message delivered permits permitsAll place lookup covers commandChecks commandAck commandEffect pairChecks readyChecks holdChecks deliveryChecks runStatus sendStatus sendPuts putAll sendQps sendEffect sendMemory joinChecks joinStatus joinPuts joined received checks controlChecks statusOf effect memoryAfter bufferAfter step fed ackData judge nearPasses farPasses near far passes filled waiting standing told toldOfBoth domain peer accepted taken errored rights
+unfolding run fieldsAt putFields leAt putLe rows rowsFrom lowest lowestFrom anyBelow commandOf dataSize ackNeed numberCodec registerCodec createQpCodec modifyQpCodec sendCodec sgeCodec receiveCodec completionCodec sendChecks receiveChecks receiveSges receiveOf sendSge inlineBytes inlineLength pagesNeeded pageRecordChecks pageListChecks all stored requestOf receiveIn range sgeBytes sgeTotal total ownBytes farBytes byteIn byteOf message delivered permits permitsAll place lookup covers commandChecks commandAck commandEffect pairChecks readyChecks holdChecks deliveryChecks runStatus sendStatus sendPuts putAll sendQps sendEffect sendMemory joinChecks joinStatus joinPuts joined received checks controlChecks statusOf effect memoryAfter bufferAfter step fed ackData judge nearPasses farPasses near far passes filled waiting standing told toldOfBoth domain peer accepted consumed errored rights
 works = refl
 
 -- ---- what the judge makes of the log
@@ -103,13 +103,13 @@ heard c l (k ∷ ks) = let r = step c k in heard (r .card) (fed l k (r .answer) 
 -- the bytes that it takes the first two addresses of the region over pages for, those on both sides of the second border, and the last
 pub means : map (λ (a : ℕ). placed (heard (fresh 8192) [] (take 4 setup)) (record { address = a; key = 257 })) (4096 ∷ 4097 ∷ 4098 ∷ 8193 ∷ 8194 ∷ 12289 ∷ [])
     ≡ 8190 ∷ 8191 ∷ 0 ∷ 4095 ∷ 4096 ∷ 8191 ∷ []
-unfolding heard placed fieldsAt putFields leAt putLe rows rowsFrom lowest lowestFrom anyBelow commandOf dataSize ackNeed numberCodec registerCodec createQpCodec modifyQpCodec sendCodec sgeCodec receiveCodec completionCodec sendChecks receiveChecks receiveSges receiveOf sendSge inlineBytes inlineLength pagesNeeded pageRecordChecks pageListChecks all stored requestOf receiveIn range sgeBytes sgeTotal total ownBytes farBytes byteIn byteOf message delivered permits permitsAll place lookup covers commandChecks commandAck commandEffect pairChecks readyChecks holdChecks deliveryChecks runStatus sendStatus sendPuts putAll sendQps sendEffect sendMemory joinChecks joinStatus joinPuts joined received checks controlChecks statusOf effect memoryAfter bufferAfter step fed ackData judge nearPasses farPasses near far passes filled waiting standing told toldOfBoth domain peer accepted taken errored rights
+unfolding heard placed fieldsAt putFields leAt putLe rows rowsFrom lowest lowestFrom anyBelow commandOf dataSize ackNeed numberCodec registerCodec createQpCodec modifyQpCodec sendCodec sgeCodec receiveCodec completionCodec sendChecks receiveChecks receiveSges receiveOf sendSge inlineBytes inlineLength pagesNeeded pageRecordChecks pageListChecks all stored requestOf receiveIn range sgeBytes sgeTotal total ownBytes farBytes byteIn byteOf message delivered permits permitsAll place lookup covers commandChecks commandAck commandEffect pairChecks readyChecks holdChecks deliveryChecks runStatus sendStatus sendPuts putAll sendQps sendEffect sendMemory joinChecks joinStatus joinPuts joined received checks controlChecks statusOf effect memoryAfter bufferAfter step fed ackData judge nearPasses farPasses near far passes filled waiting standing told toldOfBoth domain peer accepted consumed errored rights
 means = refl
 
 -- the memory that it expects of the write and of the read
 pub expects : map (λ (o : ℕ). ends (judgedMemory (heard (fresh 8192) [] setup) (record { qpn = 0; request = requestOf (asked o 4) }) mem)) (0 ∷ 4 ∷ [])
     ≡ (5 ∷ 6 ∷ 3 ∷ 4 ∷ 5 ∷ 6 ∷ 3 ∷ 4 ∷ []) ∷ (1 ∷ 2 ∷ 0 ∷ 0 ∷ 1 ∷ 2 ∷ 0 ∷ 0 ∷ []) ∷ []
-unfolding heard placed judgedMemory readSide writtenSide sources fieldsAt putFields leAt putLe rows rowsFrom lowest lowestFrom anyBelow commandOf dataSize ackNeed numberCodec registerCodec createQpCodec modifyQpCodec sendCodec sgeCodec receiveCodec completionCodec sendChecks receiveChecks receiveSges receiveOf sendSge inlineBytes inlineLength pagesNeeded pageRecordChecks pageListChecks all stored requestOf receiveIn range sgeBytes sgeTotal total ownBytes farBytes byteIn byteOf message delivered permits permitsAll place lookup covers commandChecks commandAck commandEffect pairChecks readyChecks holdChecks deliveryChecks runStatus sendStatus sendPuts putAll sendQps sendEffect sendMemory joinChecks joinStatus joinPuts joined received checks controlChecks statusOf effect memoryAfter bufferAfter step fed ackData judge nearPasses farPasses near far passes filled waiting standing told toldOfBoth domain peer accepted taken errored rights
+unfolding heard placed judgedMemory readSide writtenSide sources fieldsAt putFields leAt putLe rows rowsFrom lowest lowestFrom anyBelow commandOf dataSize ackNeed numberCodec registerCodec createQpCodec modifyQpCodec sendCodec sgeCodec receiveCodec completionCodec sendChecks receiveChecks receiveSges receiveOf sendSge inlineBytes inlineLength pagesNeeded pageRecordChecks pageListChecks all stored requestOf receiveIn range sgeBytes sgeTotal total ownBytes farBytes byteIn byteOf message delivered permits permitsAll place lookup covers commandChecks commandAck commandEffect pairChecks readyChecks holdChecks deliveryChecks runStatus sendStatus sendPuts putAll sendQps sendEffect sendMemory joinChecks joinStatus joinPuts joined received checks controlChecks statusOf effect memoryAfter bufferAfter step fed ackData judge nearPasses farPasses near far passes filled waiting standing told toldOfBoth domain peer accepted consumed errored rights
 expects = refl
 
 -- ---- acks

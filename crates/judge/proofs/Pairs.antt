@@ -18,7 +18,7 @@ use Rattle.rules.specs.Send.{errorIf, consumeIf, consumes, fails, isInError}
 use Rattle.rules.specs.Permit.{Use}
 use Rattle.rules.specs.Control.{rightsAfter}
 use Rattle.judge.specs.Log.{Log, PairNote}
-use Rattle.judge.specs.Judge.{domain, domainBy, rights, rightsBy, peer, peerBy, accepted, acceptedBy, taken, takenBy, errored, erroredBy}
+use Rattle.judge.specs.Judge.{domain, domainBy, rights, rightsBy, peer, peerBy, accepted, acceptedBy, consumed, consumedBy, errored, erroredBy}
 use Rattle.judge.proofs.Rights.{same-right}
 
 pub and-false : (b : Bool) → b && false ≡ false
@@ -35,11 +35,11 @@ pub record Said : Type 0 where
   pub rights : ℕ
   pub peer : Option ℕ
   pub accepted : List Receive
-  pub taken : ℕ
+  pub consumed : ℕ
   pub errored : Bool
 
 abbrev pub said : Log → ℕ → Said
-said l q = record { domain = domain l q; rights = rights l q; peer = peer l q; accepted = accepted l q; taken = taken l q; errored = errored l q }
+said l q = record { domain = domain l q; rights = rights l q; peer = peer l q; accepted = accepted l q; consumed = consumed l q; errored = errored l q }
 
 -- the same after one note more, its own or one of a queue pair whose peer it then was
 abbrev pub saidBy : PairNote → (own named : Bool) → Said → Said
@@ -49,7 +49,7 @@ saidBy n own named v =
       rights = when own (rightsBy n) (v .rights);
       peer = when own (peerBy n) (v .peer);
       accepted = when own (acceptedBy n) (v .accepted);
-      taken = takenBy n own named (v .taken);
+      consumed = consumedBy n own named (v .consumed);
       errored = erroredBy n own named (v .errored);
     }
 
@@ -58,8 +58,8 @@ pub record Knows (pd f : ℕ) (dest : Option ℕ) (ws : List Receive) (error : B
   pub domain : v .domain ≡ some pd
   pub rights : v .rights ≡ f
   pub peer : isSome dest ≡ true → v .peer ≡ dest
-  pub waits : ws ≡ drop (v .taken) (v .accepted)
-  pub within : v .taken ≤ length (v .accepted)
+  pub waits : ws ≡ drop (v .consumed) (v .accepted)
+  pub bounded : v .consumed ≤ length (v .accepted)
   pub errs : error ≡ v .errored
 
 abbrev pub Pair : Qp → Said → Type 0
@@ -67,7 +67,7 @@ Pair s v = s .live ≡ true → Knows (s .pd) (s .rights) (s .dest) (s .waiting)
 
 -- a queue pair is created
 pub begins : (r : CreateQp) (named : Bool) (v : Said) → Knows (r .pd) 0 none [] false (saidBy (PairNote.created r) true named v)
-begins r named v = record { domain = refl; rights = refl; peer = λ h. absurd (false≢true h); waits = refl; within = omega arith; errs = refl }
+begins r named v = record { domain = refl; rights = refl; peer = λ h. absurd (false≢true h); waits = refl; bounded = omega arith; errs = refl }
 
 -- a receive joins
 pub joins : {p f : ℕ} {d : Option ℕ} {ws : List Receive} {b : Bool} {v : Said} (w : Receive) (named : Bool) → Knows p f d ws b v →
@@ -77,8 +77,8 @@ joins {v} w named k =
       domain = k .domain;
       rights = k .rights;
       peer = k .peer;
-      waits = rw (drop-append-le (v .taken) (v .accepted) (w ∷ []) (k .within)) (ap (λ x. x ++ (w ∷ [])) (k .waits));
-      within = omega (arith, length-append (v .accepted) (w ∷ []), k .within);
+      waits = rw (drop-append-le (v .consumed) (v .accepted) (w ∷ []) (k .bounded)) (ap (λ x. x ++ (w ∷ [])) (k .waits));
+      bounded = omega (arith, length-append (v .accepted) (w ∷ []), k .bounded);
       errs = k .errs;
     }
 
@@ -95,7 +95,7 @@ drop-some (suc n) [] e = absurd (false≢true (sym e))
 drop-some (suc n) (x ∷ xs) e = omega (arith, drop-some n xs e)
 
 abbrev pub took : Bool → Said → Said
-took b v = record { domain = v .domain; rights = v .rights; peer = v .peer; accepted = v .accepted; taken = cond b (suc (v .taken)) (v .taken); errored = v .errored }
+took b v = record { domain = v .domain; rights = v .rights; peer = v .peer; accepted = v .accepted; consumed = cond b (suc (v .consumed)) (v .consumed); errored = v .errored }
 
 pub said-flush : (own named : Bool) (v : Said) → took own v ≡ saidBy PairNote.flushed own named v
 said-flush true named v = refl
@@ -103,7 +103,7 @@ said-flush false named v = refl
 
 -- it goes to error
 abbrev pub erred : Bool → Said → Said
-erred b v = record { domain = v .domain; rights = v .rights; peer = v .peer; accepted = v .accepted; taken = v .taken; errored = b || v .errored }
+erred b v = record { domain = v .domain; rights = v .rights; peer = v .peer; accepted = v .accepted; consumed = v .consumed; errored = b || v .errored }
 
 fails-run : (s : ℕ) → eqb s 4 ≡ false → fails s ≡ not (eqb s 0)
 fails-run s e = rw e (and-true (not (eqb s 0)))
@@ -117,7 +117,7 @@ said-sent r s e false named v = refl
 pub said-flushed : (r : Request) (own named : Bool) (v : Said) → (own ≡ true → v .errored ≡ true) → v ≡ saidBy (PairNote.sent r 4) own named v
 said-flushed r true named v h =
     rw (and-false (takes (r .opcode)), and-false named)
-    (ap (λ (b : Bool). record { domain = v .domain; rights = v .rights; peer = v .peer; accepted = v .accepted; taken = v .taken; errored = b }) (h refl))
+    (ap (λ (b : Bool). record { domain = v .domain; rights = v .rights; peer = v .peer; accepted = v .accepted; consumed = v .consumed; errored = b }) (h refl))
 said-flushed r false named v h = rw (and-false (takes (r .opcode)), and-false named)
 
 -- the oldest receive leaves
@@ -127,22 +127,22 @@ leaves {v} h k =
       domain = k .domain;
       rights = k .rights;
       peer = k .peer;
-      waits = ap tail (k .waits) ∙ sym (drop-more (v .taken) (v .accepted));
-      within = drop-some (v .taken) (v .accepted) (rw (← k .waits) h);
+      waits = ap tail (k .waits) ∙ sym (drop-more (v .consumed) (v .accepted));
+      bounded = drop-some (v .consumed) (v .accepted) (rw (← k .waits) h);
       errs = k .errs;
     }
 
 -- a move, over the tests that its state is 0 and that it is 2
-pub moves : {p f : ℕ} {o : Option ℕ} {ws : List Receive} {b : Bool} {v : Said} (r : ModifyQp) (named : Bool) → Knows p f o ws b v →
+pub changes : {p f : ℕ} {o : Option ℕ} {ws : List Receive} {b : Bool} {v : Said} (r : ModifyQp) (named : Bool) → Knows p f o ws b v →
     Knows p (rightsAfter f r) (cond (eqb (r .state) 0) none (cond (eqb (r .state) 2) (some (r .dest)) o)) (cond (eqb (r .state) 0) [] ws)
     (eqb (r .state) 6) (saidBy (PairNote.changed r) true named v)
-moves {o} {ws} {v} r named k =
+changes {o} {ws} {v} r named k =
     record {
       domain = k .domain;
       rights = rw (same-right Use.remoteRead (r .mask), k .rights);
       peer = peer (eqb (r .state) 0) (eqb (r .state) 2);
       waits = waits (eqb (r .state) 0);
-      within = within (eqb (r .state) 0);
+      bounded = bounded (eqb (r .state) 0);
       errs = refl;
     }
   where
@@ -152,18 +152,18 @@ moves {o} {ws} {v} r named k =
     peer false true h = refl
     peer false false h = k .peer h
 
-    waits : (z : Bool) → cond z [] ws ≡ drop (cond z 0 (v .taken)) (cond z [] (v .accepted))
+    waits : (z : Bool) → cond z [] ws ≡ drop (cond z 0 (v .consumed)) (cond z [] (v .accepted))
     waits true = refl
     waits false = k .waits
 
-    within : (z : Bool) → cond z 0 (v .taken) ≤ length (cond z [] (v .accepted))
-    within true = omega arith
-    within false = k .within
+    bounded : (z : Bool) → cond z 0 (v .consumed) ≤ length (cond z [] (v .accepted))
+    bounded true = omega arith
+    bounded false = k .bounded
 
 -- the three steps of a send
 module _ (qp : ℕ → Qp) (v : ℕ → Said) (agree : (j : ℕ) → Pair (qp j) (v j)) (q : ℕ) where
   fails-one : {p f : ℕ} {d : Option ℕ} {ws : List Receive} {b : Bool} {v : Said} → Knows p f d ws b v → Knows p f d ws true (erred true v)
-  fails-one k = record { domain = k .domain; rights = k .rights; peer = k .peer; waits = k .waits; within = k .within; errs = refl }
+  fails-one k = record { domain = k .domain; rights = k .rights; peer = k .peer; waits = k .waits; bounded = k .bounded; errs = refl }
 
   pub errors : (b : Bool) (j : ℕ) → Pair (errorIf b q qp j) (erred (eqb q j && b) (v j))
   errors false j = rw (and-false (eqb q j)) (agree j)

@@ -7,7 +7,8 @@ use Prim.Native.Nat.{ℕ}
 use Rattle.tables.specs.declared.Registration.{Registration}
 use Rattle.judge.specs.Log.{Note, KeyNote}
 use Rattle.judge.specs.Distinct.{handed, Distinct}
-use Rattle.judge.specs.Dropped.{dropped}
+use Rattle.judge.specs.Judge.{standing}
+use Rattle.judge.specs.Dropped.{ended}
 
 module _ (g : Registration) (pages : List ℕ) where
   -- slot 1
@@ -23,7 +24,7 @@ module _ (g : Registration) (pages : List ℕ) where
   handed-keys = refl
 
   -- key 257 while it stands; another slot dropped; its slot dropped before it was handed out; its slot dropped; the slot's next region
-  pub dropped-key : map (λ l. dropped l 257)
+  pub ended-key : map (λ l. ended l 257)
       ((gives 257 258 ∷ []) ∷
       (drops 2 ∷ gives 257 258 ∷ []) ∷
       (gives 257 258 ∷ drops 1 ∷ []) ∷
@@ -31,8 +32,8 @@ module _ (g : Registration) (pages : List ℕ) where
       (gives 259 260 ∷ drops 1 ∷ gives 257 258 ∷ []) ∷
       [])
       ≡ false ∷ false ∷ false ∷ true ∷ true ∷ []
-  unfolding handed dropped
-  dropped-key = refl
+  unfolding ended standing
+  ended-key = refl
 
   pub once : Distinct (gives 259 260 ∷ drops 1 ∷ gives 257 258 ∷ [])
   unfolding handed Distinct

@@ -12,7 +12,7 @@ use Rattle.rules.specs.Permit.{Use, granted}
 use Rattle.rules.specs.Permit as rules
 use Rattle.rules.specs.Touch.{fills}
 use Rattle.rules.specs.Send.{ownUse, farUse}
-use Rattle.judge.specs.Judge.{Right, grants, opens, ownRight, farRight}
+use Rattle.judge.specs.Judge.{Right, grants, flagsGrant, ownRight, farRight}
 
 -- the right that a use needs
 abbrev pub needs-right : Use → Right
@@ -48,7 +48,7 @@ same-right Use.remoteWrite a = sym (one-bit (bitAnd a 2) (a / 2 % 2) 1 (omega ar
 same-right Use.remoteRead a = sym (one-bit (bitAnd a 4) (a / 4 % 2) 3 (omega arith) (and-4 a))
 
 -- and its reading of a queue pair's flags is theirs
-pub same-opens : (u : Use) (f : ℕ) → opens f (needs-right u) ≡ rules.opens u f
+pub same-opens : (u : Use) (f : ℕ) → flagsGrant f (needs-right u) ≡ rules.opens u f
 same-opens Use.localRead f = refl
 same-opens Use.localWrite f = refl
 same-opens Use.remoteWrite f = same-right Use.remoteWrite f

@@ -28,9 +28,10 @@ use Rattle.rules.proofs.Answers.{owed-is, step-below, answered-not-done}
 use Rattle.judge.specs.Log.{Log, begins, fed}
 use Rattle.judge.specs.Judge.{Work, waiting}
 use Rattle.judge.specs.Whole.{Met}
-use Rattle.judge.specs.Demand3.{Correct, postedOn, FlushedBy, Flushes, Seen, heard, Claim, Each, logAfter, stateAfter, workBy, work, WorkClaim, Ran, OfWork, Linked, Begins, Every, Resumed, Steady}
+use Rattle.judge.specs.Demand3.{Judged, postedOn, FlushedBy, Flushes, Seen, heard, Claim, Each, logAfter, stateAfter, workBy, work, WorkClaim, WhenDone, OfWork, Linked, Begins, AfterReset, Every, Resumed, Steady}
 use Rattle.judge.proofs.Agree.{Agree, start, Sendable, sendable, accepted-call}
-use Rattle.judge.proofs.Demand3.{works, Proves, correct}
+use Rattle.judge.proofs.Demand3.{works, Proves}
+use Rattle.judge.proofs.Bytes.{judged}
 
 -- ---- what one call leaves, by its tests: Q of a call that is refused or held, and of one that is done
 
@@ -82,11 +83,11 @@ Shows P =
 
 module _ (P : CardClaim) (shows : Shows P) (l : Log) where
   abbrev Right : Card → Call → Result → Type 0
-  Right c k r = Agree c l → (o : Outcome) → Ran (λ w s. P l c (r .card) w s (memoryOf k) (r .memory)) (workBy l k o) (r .answer)
+  Right c k r = Agree c l → (o : Outcome) → WhenDone (λ w s. P l c (r .card) w s (memoryOf k) (r .memory)) (workBy l k o) (r .answer)
 
-  ran-none : (f : Work → ℕ → Type 0) (w : Option Work) (n : ℕ) → Ran f w (answered 0 (some n))
+  ran-none : (f : Work → ℕ → Type 0) (w : Option Work) (n : ℕ) → WhenDone f w (answered 0 (some n))
   ran-none f none n = tt
-  ran-none f (some w) n = of-refused (Ran f (some w)) (λ x. tt) (λ x. tt) n
+  ran-none f (some w) n = of-refused (WhenDone f (some w)) (λ x. tt) (λ x. tt) n
 
   right-done : (c : Card) (k : Call) → Passed (checks c k) → Right c k (settled none c k)
   unfolding statusOf memoryAfter effect
@@ -108,11 +109,11 @@ module _ (cardOf : List ℕ → Card) (accepts : List ℕ → Bool) where
       rw (h .card, h .answer, h .buffer) (of-owed (Agrees l) (agrees-refused l) (λ c k p a. accepted-call c k l p a) cardOf accepts st (x .call) a)
 
   pub of-cards : (P : CardClaim) → Shows P → (st : List ℕ) (l : Log) (x : Seen) → Agree (cardOf st) l → Met cardOf accepts st x →
-      Ran (λ w s. P l (cardOf st) (cardOf (x .left .state)) w s (memoryOf (x .call)) (x .left .memory)) (work l x) (x .left .answer)
+      WhenDone (λ w s. P l (cardOf st) (cardOf (x .left .state)) w s (memoryOf (x .call)) (x .left .memory)) (work l x) (x .left .answer)
   of-cards P shows st l x a h = go (x .call) (x .left) h
     where
       go : (k : Call) (o : Outcome) → Meets cardOf accepts st k o →
-          Ran (λ w s. P l (cardOf st) (cardOf (o .state)) w s (memoryOf k) (o .memory)) (workBy l k o) (o .answer)
+          WhenDone (λ w s. P l (cardOf st) (cardOf (o .state)) w s (memoryOf k) (o .memory)) (workBy l k o) (o .answer)
       go k o h =
           let r : Result = owed cardOf accepts st k in
           rw (h .answer, h .card, h .memory)
@@ -224,17 +225,17 @@ module _ (Made : (st : List ℕ) → Seen → Type 0) (cardOf : List ℕ → Car
 
   -- a claim of the calls of a list, and of its work requests
   pub every : (P : Claim) → ((st : List ℕ) (l : Log) (x : Seen) → Agree (cardOf st) l → Met cardOf accepts st x → P st l x) → Every Made P
-  unfolding Every
+  unfolding AfterReset
   every P claim x b xs links = each P claim (x .left .state) (b .base) xs (begun x b) links
 
   pub every-work : (P : WorkClaim) → Proves P → Every Made (OfWork P)
   every-work P claim = every (OfWork P) (of-work cardOf accepts P claim)
 
   pub resumed : Resumed Made cardOf
-  unfolding Resumed
+  unfolding AfterReset
   resumed x b xs links st is ys more =
-      each (λ s l y. OfWork Correct s l y × Flushes s l y)
-      (λ s l y a h. (of-work cardOf accepts Correct correct s l y a h, flushes cardOf accepts s l y a h)) st (logAfter (b .base) xs) ys
+      each (λ s l y. OfWork Judged s l y × Flushes s l y)
+      (λ s l y a h. (of-work cardOf accepts Judged judged s l y a h, flushes cardOf accepts s l y a h)) st (logAfter (b .base) xs) ys
       (rw is (agrees-after (x .left .state) (b .base) xs (begun x b) links)) more
 
   -- no call of such a list is answered 15
@@ -248,5 +249,5 @@ module _ (Made : (st : List ℕ) → Seen → Type 0) (cardOf : List ℕ → Car
         ((a, not-15 cardOf accepts sized st x m e), all-steady (x .left .state) (heard l x) xs a (h .1))
 
     pub steady : Every Made (Steady accepts)
-    unfolding Every
+    unfolding AfterReset
     steady x b xs links = all-steady (x .left .state) (b .base) xs (met (b .before) x (b .made) .sound (ap isDone (b .done))) links

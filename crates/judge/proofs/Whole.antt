@@ -15,16 +15,15 @@ use Rattle.rules.specs.Call.{leaving}
 use Rattle.rules.specs.Calls.{owed, Meets}
 use Rattle.rules.proofs.Answers.{code-back}
 use Rattle.rules.proofs.Exported.{met}
-use Rattle.judge.specs.Demand3.{Seen, heard, Correct, Bytewise, Flushes}
+use Rattle.judge.specs.Demand3.{Seen, heard, Judged, Flushes}
 use Rattle.judge.specs.Apart.{Apart}
 use Rattle.judge.specs.Count.{Puts}
 use Rattle.judge.specs.Distinct.{Distinct}
 use Rattle.judge.specs.Dropped.{Gone, Loses, Fruitless}
 use Rattle.judge.specs.Whole.{Met, Whole, FromC}
-use Rattle.judge.proofs.Demand3.{correct}
 use Rattle.judge.proofs.Run.{still-agrees, of-cards, every, every-work, resumed, steady, flushes}
 use Rattle.judge.proofs.Dropped.{fruitless, stays-held}
-use Rattle.judge.proofs.Bytes.{bytewise}
+use Rattle.judge.proofs.Bytes.{judged}
 use Rattle.judge.proofs.Apart.{apart}
 use Rattle.judge.proofs.Count.{call-puts-by, counted}
 
@@ -35,9 +34,8 @@ accepted-length l e = eq-eqb (length l) stateSize (accepted l e .sized)
 pub of-all : (Made : (st : List ℕ) → Seen → Type 0) → ((st : List ℕ) (x : Seen) → Made st x → Met card accepts st x) → Whole Made
 of-all Made met =
     record {
-      judged = every-work Made card accepts met Correct correct;
-      flushed = every Made card accepts met Flushes (flushes card accepts);
-      bytes = every-work Made card accepts met Bytewise bytewise;
+      judged = every-work Made card accepts met Judged judged;
+      receives = every Made card accepts met Flushes (flushes card accepts);
       apart = every-work Made card accepts met Apart apart;
       resumed = resumed Made card accepts met;
       steady = steady Made card accepts met accepted-length;

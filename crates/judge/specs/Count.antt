@@ -1,5 +1,6 @@
--- Document 01: "Since a QP's creation, accepted receives equal its receive completions put, plus those dropped (the ones waiting at
--- each move to 0), plus those waiting." A statement along the list of calls; no table keeps a count. Assumes nothing.
+-- Document 01: "Since a QP's creation, accepted receives equal its receive completions put, plus those dropped (the ones
+-- waiting at each move to 0), plus those waiting." A statement along the list of calls; no table keeps a count. Assumes
+-- nothing.
 use mathlib.Core.Path.{_≡_}
 use mathlib.Core.Bool.{true, cond, _&&_}
 use mathlib.Core.List.{List, [], _∷_, _++_}
@@ -18,7 +19,7 @@ use Rattle.rules.specs.Send.{Put, sendPuts, sendStatus}
 use Rattle.rules.specs.Queues.{flushPut, joinPuts}
 use Rattle.rules.specs.Call.{Call, OnPair, given}
 use Rattle.judge.specs.Log.{Log, Note, PairNote, entry, note, begins}
-use Rattle.judge.specs.Demand3.{Seen, Claim, heard, stateAfter, Linked, Begins}
+use Rattle.judge.specs.Demand3.{Seen, Claim, heard, stateAfter, AfterReset}
 
 -- ---- completions put
 
@@ -88,8 +89,8 @@ pub record Tally : Type 0 where
 abbrev pub none-yet : Tally
 none-yet = record { accepted = 0; put = 0; dropped = 0 }
 
--- what a note of the queue pair counts, on which w receives waited before the call; 02, M-103: "The count of accepted receives includes those
--- flushed at once", which are put by the same call
+-- what a note of the queue pair counts, on which w receives waited before the call; 02, M-103: "The count of accepted
+-- receives includes those flushed at once", which are put by the same call
 abbrev pub countedBy : PairNote → (w : ℕ) → Tally → Tally
 countedBy (PairNote.created r) w t = none-yet
 countedBy (PairNote.changed r) w t =
@@ -112,7 +113,9 @@ unlessBegun (some base) t = none-yet
 
 -- the tallies after a call, with the card c and the log l before it; b is the answer buffer after it
 unfoldable pub tallied : Card → Log → Call → Answer → (b : List ℕ) → (ℕ → Tally) → ℕ → Tally
-tallied c l k (Done s) b t q = unlessBegun (begins k) (completed (receivePuts q (puts c k)) (noted (note l (entry k s b)) q (length (c .qp q .waiting)) (t q)))
+tallied c l k (Done s) b t q =
+    unlessBegun (begins k)
+    (completed (receivePuts q (puts c k)) (noted (note l (entry k s b)) q (length (c .qp q .waiting)) (t q)))
 tallied c l k (Held e) b t q = t q
 tallied c l k (Refused n) b t q = t q
 
@@ -122,9 +125,9 @@ tallyAfter cardOf t st l (x ∷ xs) =
     tallyAfter cardOf (tallied (cardOf st) l (x .call) (x .left .answer) (x .left .buffer) t) (x .left .state) (heard l x) xs
 
 -- after every list of calls that follows a reset answered 0, for every live queue pair
-unfoldable pub Counted : (Made : (st : List ℕ) → Seen → Type 0) → (cardOf : List ℕ → Card) → Type 0
+abbrev pub Counted : (Made : (st : List ℕ) → Seen → Type 0) → (cardOf : List ℕ → Card) → Type 0
 Counted Made cardOf =
-    (x : Seen) → (b : Begins Made x) → (xs : List Seen) → Linked Made (x .left .state) xs → (q : ℕ) →
-    let s = cardOf (stateAfter (x .left .state) xs) .qp q in
-    let t = tallyAfter cardOf (λ i. none-yet) (x .left .state) (b .base) xs q in
-    s .live ≡ true → t .accepted ≡ t .put + t .dropped + length (s .waiting)
+    AfterReset Made (λ st l xs. (q : ℕ) →
+    let s = cardOf (stateAfter st xs) .qp q in
+    let t = tallyAfter cardOf (λ i. none-yet) st l xs q in
+    s .live ≡ true → t .accepted ≡ t .put + t .dropped + length (s .waiting))

@@ -12,9 +12,10 @@ use Rattle.rules.specs.declared.Answer.{Answer}
 use Rattle.rules.specs.declared.Answer.the-variants.{Done, Held, Refused}
 use Rattle.rules.specs.Answer.{number}
 use Rattle.rules.specs.Call.{Call, OnPair, given, memoryOf, Outcome}
-use Rattle.rules.specs.Touch.{Byte, total}
+use Rattle.rules.specs.Touch.{Byte}
 use Rattle.judge.specs.Log.{Log, begins, fed}
-use Rattle.judge.specs.Judge.{errored, flushesAtOnce, Party, Right, passes, placed, Work, judge, judgedMemory, writtenSide, Source, sources, valueOf}
+use Rattle.judge.specs.Judge.{errored, flushesAtOnce, Party, Right, passes, placed}
+use Rattle.judge.specs.Judge.{Work, judge, moves, judgedMemory, writtenSide, Source, sources, valueOf}
 
 -- ---- what is claimed of a work request
 
@@ -23,7 +24,7 @@ pub record Correct (l : Log) (w : Work) (s : ℕ) (m m′ : List ℕ) : Type 0 w
   -- it succeeds exactly when the judge passes it
   pub verdict : eqb s 0 ≡ judge l w
   -- it is flushed exactly when the log puts its queue pair in error
-  pub flushed : eqb s 4 ≡ errored l (w .qpn)
+  pub in-error : eqb s 4 ≡ errored l (w .qpn)
   -- on success the message bytes are written in turn, with the values before the call; on failure none is
   pub memory : m′ ≡ judgedMemory l w m
   -- a byte that passes lies in the memory, and its address is below 2^64
@@ -49,16 +50,28 @@ sourceAt l w i = getD (sources l w) i (Source.byte noByte)
 unfoldable pub source : Log → Work → (m : List ℕ) → (i : ℕ) → ℕ
 source l w m i = valueOf l m (sourceAt l w i)
 
+-- how many bytes are written
+abbrev pub writtenLength : Log → Work → ℕ
+writtenLength l w = length (writtenSide l w .bytes)
+
 pub record Bytewise (l : Log) (w : Work) (s : ℕ) (m m′ : List ℕ) : Type 0 where
-  -- "On success each byte written takes the value its source had before the call, the later piece winning,"; 02, M-105: "the later byte of the
-  -- message wins, inside one piece too; demand 3 reads so"
-  pub written : s ≡ 0 → (i : ℕ) → i < total (w .request) → ((j : ℕ) → i < j → j < total (w .request) → target l w j ≢ target l w i) →
+  -- "On success each byte written takes the value its source had before the call, the later piece winning,"; 02, M-105: "the
+  -- later byte of the message wins, inside one piece too; demand 3 reads so"
+  pub written : moves l w ≡ true →
+      (i : ℕ) → i < writtenLength l w → ((j : ℕ) → i < j → j < writtenLength l w → target l w j ≢ target l w i) →
       getD m′ (target l w i) 0 ≡ source l w m i
   -- "and no other changes;"
-  pub others : s ≡ 0 → (x : ℕ) → ((i : ℕ) → i < total (w .request) → target l w i ≢ x) → getD m′ x 0 ≡ getD m x 0
+  pub others : moves l w ≡ true → (x : ℕ) → ((i : ℕ) → i < writtenLength l w → target l w i ≢ x) → getD m′ x 0 ≡ getD m x 0
+  -- where the message is not moved none does;
+  pub kept : moves l w ≡ false → m′ ≡ m
   -- "on failure none does"
   pub failed : s ≢ 0 → m′ ≡ m
   pub sized : length m′ ≡ length m
+
+-- what demand 3 claims of a work request: all of it at once, and each byte
+pub record Judged (l : Log) (w : Work) (s : ℕ) (m m′ : List ℕ) : Type 0 where
+  pub correct : Correct l w s m m′
+  pub bytewise : Bytewise l w s m m′
 
 -- ---- lists of calls
 
@@ -107,15 +120,15 @@ work l x = workBy l (x .call) (x .left)
 abbrev pub WorkClaim : Type 1
 WorkClaim = (l : Log) → Work → (s : ℕ) → (m m′ : List ℕ) → Type 0
 
-abbrev pub Ran : (Work → (s : ℕ) → Type 0) → Option Work → Answer → Type 0
-Ran P none a = Unit {0}
-Ran P (some w) (Done s) = P w s
-Ran P (some w) (Held c) = Unit {0}
-Ran P (some w) (Refused n) = Unit {0}
+abbrev pub WhenDone : (Work → (s : ℕ) → Type 0) → Option Work → Answer → Type 0
+WhenDone P none a = Unit {0}
+WhenDone P (some w) (Done s) = P w s
+WhenDone P (some w) (Held c) = Unit {0}
+WhenDone P (some w) (Refused n) = Unit {0}
 
 -- P of the work request that a call runs, if it is neither refused nor held
 abbrev pub OfWork : WorkClaim → Claim
-OfWork P st l x = Ran (λ w s. P l w s (memoryOf (x .call)) (x .left .memory)) (work l x) (x .left .answer)
+OfWork P st l x = WhenDone (λ w s. P l w s (memoryOf (x .call)) (x .left .memory)) (work l x) (x .left .answer)
 
 -- ---- what is claimed of a post receive
 
@@ -154,21 +167,25 @@ module _ (Made : (st : List ℕ) → Seen → Type 0) where
     pub made : Made before x
     pub done : x .left .answer ≡ Done 0
 
-  -- P of each call of any list after it. Memory and buffers may be any at each call. A reset answered 0 within the list begins a new
-  -- log.
-  unfoldable pub Every : Claim → Type 0
-  Every P = (x : Seen) → (b : Begins x) → (xs : List Seen) → Linked (x .left .state) xs → Each P (x .left .state) (b .base) xs
+  -- P of any list of calls after it, with the state and the log that it left. Memory and buffers may be any at each call. A
+  -- reset answered 0 within the list begins a new log.
+  unfoldable pub AfterReset : ((st : List ℕ) → Log → List Seen → Type 0) → Type 0
+  AfterReset P = (x : Seen) → (b : Begins x) → (xs : List Seen) → Linked (x .left .state) xs → P (x .left .state) (b .base) xs
 
-  -- Demand 3: each work request that is neither refused nor held is judged right
+  -- P of each call of the list
+  abbrev pub Every : Claim → Type 0
+  Every P = AfterReset (Each P)
+
+  -- Demand 3: each work request that is neither refused nor held is judged right, and each byte of it
   abbrev pub Demand3 : Type 0
-  Demand3 = Every (OfWork Correct)
+  Demand3 = Every (OfWork Judged)
 
   -- a state that means the card that a list left goes on with the list's log; `cardOf` is the card that the lent state means
-  unfoldable pub Resumed : (cardOf : List ℕ → Card) → Type 0
+  abbrev pub Resumed : (cardOf : List ℕ → Card) → Type 0
   Resumed cardOf =
-      (x : Seen) → (b : Begins x) → (xs : List Seen) → Linked (x .left .state) xs →
-      (st : List ℕ) → cardOf st ≡ cardOf (stateAfter (x .left .state) xs) → (ys : List Seen) → Linked st ys →
-      Each (λ s l y. OfWork Correct s l y × Flushes s l y) st (logAfter (b .base) xs) ys
+      AfterReset (λ st l xs.
+      (st′ : List ℕ) → cardOf st′ ≡ cardOf (stateAfter st xs) → (ys : List Seen) → Linked st′ ys →
+      Each (λ s l′ y. OfWork Judged s l′ y × Flushes s l′ y) st′ (logAfter l xs) ys)
 
 -- a state of the list is accepted, and no call of it is answered 15; `accepts` is the test of answer 15
 abbrev pub Steady : (accepts : List ℕ → Bool) → Claim

@@ -1,10 +1,10 @@
--- A region dropped under a waiting receive, or under a remote key, along the list of calls: whatever calls stand between, the work request
--- that touches it gets what the rules say, and its key never comes back. Assumes nothing.
+-- A region dropped under a waiting receive, or under a remote key, along the list of calls: whatever calls stand between, the
+-- work request that touches it gets what the rules say, and its key never comes back. Assumes nothing.
 use mathlib.Core.Path.{_≡_}
-use mathlib.Core.Bool.{Bool, true, false, _&&_, _||_}
+use mathlib.Core.Bool.{Bool, true, false, _||_}
 use mathlib.Core.List.{List, [], _∷_}
-use mathlib.Core.Option.{none, some}
-use Prim.Native.Nat.{ℕ, _/_, _<_}
+use mathlib.Core.Option.{Option, none, some}
+use Prim.Native.Nat.{ℕ, _<_}
 use lib.Dec.{eqb}
 use lib.ListN.{length, getD}
 use Rattle.tables.specs.Card.{Card}
@@ -14,26 +14,27 @@ use Rattle.rules.specs.Call.{Call, memoryOf}
 use Rattle.rules.specs.declared.Answer.the-variants.{Done}
 use Rattle.rules.specs.Dropped.{Lost}
 use Rattle.judge.specs.Log.{Log, Note, KeyNote}
-use Rattle.judge.specs.Distinct.{handed}
-use Rattle.judge.specs.Judge.{standing, Work, far, fitsReceive, nearPasses, errored}
-use Rattle.judge.specs.Demand3.{noByte, Seen, Claim, work, Ran, Linked}
+use Rattle.judge.specs.Judge.{Standing, standing, Work, far, fitsReceive, nearPasses, errored}
+use Rattle.judge.specs.Demand3.{noByte, Seen, Claim, work, WhenDone, Linked}
 
--- the key k was handed out, and then its slot, which is k / 256, was dropped
-abbrev pub droppedBy : KeyNote → (k : ℕ) → (given : Bool) → Bool → Bool
-droppedBy (KeyNote.registered m lkey rkey g ps) k given b = b
-droppedBy (KeyNote.deregistered m) k given b = eqb m (k / 256) && given || b
+-- a registration of the key k stood, and then a deregister named its mrn
+abbrev pub endedBy : KeyNote → Option Standing → Bool → Bool
+endedBy (KeyNote.registered m lkey rkey g ps) o b = b
+endedBy (KeyNote.deregistered m) none b = b
+endedBy (KeyNote.deregistered m) (some h) b = eqb m (h .mrn) || b
 
-unfoldable pub dropped : Log → (k : ℕ) → Bool
-dropped [] k = false
-dropped (Note.ofKey n ∷ l) k = droppedBy n k (handed l k) (dropped l k)
-dropped (Note.ofPair q n ∷ l) k = dropped l k
-dropped (Note.other ∷ l) k = dropped l k
+unfoldable pub ended : Log → (k : ℕ) → Bool
+ended [] k = false
+ended (Note.ofKey n ∷ l) k = endedBy n (standing l k) (ended l k)
+ended (Note.ofPair q n ∷ l) k = ended l k
+ended (Note.other ∷ l) k = ended l k
 
 -- at each call of the list, such a key's registration does not stand: however old the key is, it stays so to the next reset
 abbrev pub Gone : Claim
-Gone st l x = (k : ℕ) → dropped l k ≡ true → standing l k ≡ none
+Gone st l x = (k : ℕ) → ended l k ≡ true → standing l k ≡ none
 
--- the request is not flushed, all tests before that of the peer's bytes pass, and byte i of them is named under a key whose registration does not stand
+-- the request is not flushed, all tests before that of the peer's bytes pass, and byte i of them is named under a key whose
+-- registration does not stand
 pub record Stale (l : Log) (w : Work) (i : ℕ) : Type 0 where
   pub running : errored l (w .qpn) ≡ false
   pub near : nearPasses l w ≡ true
@@ -41,14 +42,15 @@ pub record Stale (l : Log) (w : Work) (i : ℕ) : Type 0 where
   pub within : i < length (far l w .bytes)
   pub gone : standing l (getD (far l w .bytes) i noByte .key) ≡ none
 
--- a work request then gets the status 7, its receiver 3, and the receive goes, or it gets the status 8; no byte is moved. c and c′ are the
--- cards before and after it.
+-- a work request then gets the status 7, its receiver 3, and the receive goes, or it gets the status 8; no byte is moved. c
+-- and c′ are the cards before and after it.
 abbrev pub Loses : (l : Log) → (c c′ : Card) → Work → (s : ℕ) → (m m′ : List ℕ) → Type 0
 Loses l c c′ w s m m′ = (i : ℕ) → Stale l w i → Lost c c′ (w .qpn) (w .request) (Done s) m m′
 
 abbrev pub Fruitless : (cardOf : List ℕ → Card) → Claim
 Fruitless cardOf st l x =
-    Ran (λ w s. Loses l (cardOf st) (cardOf (x .left .state)) w s (memoryOf (x .call)) (x .left .memory)) (work l x) (x .left .answer)
+    WhenDone (λ w s. Loses l (cardOf st) (cardOf (x .left .state)) w s (memoryOf (x .call)) (x .left .memory)) (work l x)
+    (x .left .answer)
 
 -- a post send that was refused or held gets the same answer again when a region is dropped in between: it stays held
 unfoldable pub StaysHeld : (Made : (st : List ℕ) → Seen → Type 0) → Type 0

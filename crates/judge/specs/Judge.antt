@@ -27,7 +27,8 @@ unless m none = none
 unless m (some h) = cond (eqb m (h .mrn)) none (some h)
 
 abbrev pub standingBy : KeyNote → (k : ℕ) → Option Standing → Option Standing
-standingBy (KeyNote.registered m lkey rkey g ps) k o = cond (eqb lkey k || eqb rkey k) (some (record { mrn = m; reg = g; pages = ps })) o
+standingBy (KeyNote.registered m lkey rkey g ps) k o =
+    cond (eqb lkey k || eqb rkey k) (some (record { mrn = m; reg = g; pages = ps })) o
 standingBy (KeyNote.deregistered m) k o = unless m o
 
 -- the registration of the key k, if it stands
@@ -68,8 +69,8 @@ peerBy (PairNote.sent r s) o = o
 unfoldable pub peer : Log → (q : ℕ) → Option ℕ
 peer l q = told peerBy none l q
 
--- 02, M-104: "Demand 3 takes the flags from the log": 0 at its creation and after a move to 0, else those of its latest modify with mask bit 2
--- since then
+-- 02, M-104: "Demand 3 takes the flags from the log": 0 at its creation and after a move to 0, else those of its latest
+-- modify with mask bit 2 since then
 abbrev pub rightsBy : PairNote → ℕ → ℕ
 rightsBy (PairNote.created r) f = 0
 rightsBy (PairNote.changed r) f = cond (eqb (r .state) 0) 0 (cond (eqb (r .mask / 4 % 2) 1) (r .flags) f)
@@ -80,7 +81,8 @@ rightsBy (PairNote.sent r s) f = f
 unfoldable pub rights : Log → (q : ℕ) → ℕ
 rights l q = told rightsBy 0 l q
 
--- what its own notes and those of the queue pairs whose peer it then was tell: own says that a note is its own, named that it is one of the others
+-- what its own notes and those of the queue pairs whose peer it then was tell: own says that a note is its own, named that it
+-- is one of the others
 unfoldable pub toldOfBoth : {A : Type 0} → (f : PairNote → (own named : Bool) → A → A) → (a : A) → Log → (q : ℕ) → A
 toldOfBoth f a [] q = a
 toldOfBoth f a (Note.ofKey n ∷ l) q = toldOfBoth f a l q
@@ -99,21 +101,22 @@ unfoldable pub accepted : Log → (q : ℕ) → List Receive
 accepted l q = told acceptedBy [] l q
 
 -- "less the oldest, one per flush of it and per post send whose peer it then was (opcode 1 to 3, status 0 or 7) in that time"
-abbrev pub takenBy : PairNote → (own named : Bool) → ℕ → ℕ
-takenBy (PairNote.created r) own named n = cond own 0 n
-takenBy (PairNote.changed r) own named n = cond (own && eqb (r .state) 0) 0 n
-takenBy (PairNote.posted w s) own named n = n
-takenBy PairNote.flushed own named n = cond own (suc n) n
-takenBy (PairNote.sent r s) own named n = cond (named && (leb 1 (r .opcode) && leb (r .opcode) 3 && (eqb s 0 || eqb s 7))) (suc n) n
+abbrev pub consumedBy : PairNote → (own named : Bool) → ℕ → ℕ
+consumedBy (PairNote.created r) own named n = cond own 0 n
+consumedBy (PairNote.changed r) own named n = cond (own && eqb (r .state) 0) 0 n
+consumedBy (PairNote.posted w s) own named n = n
+consumedBy PairNote.flushed own named n = cond own (suc n) n
+consumedBy (PairNote.sent r s) own named n =
+    cond (named && (leb 1 (r .opcode) && leb (r .opcode) 3 && (eqb s 0 || eqb s 7))) (suc n) n
 
-unfoldable pub taken : Log → (q : ℕ) → ℕ
-taken l q = toldOfBoth takenBy 0 l q
+unfoldable pub consumed : Log → (q : ℕ) → ℕ
+consumed l q = toldOfBoth consumedBy 0 l q
 
 unfoldable pub waiting : Log → (q : ℕ) → List Receive
-waiting l q = drop (taken l q) (accepted l q)
+waiting l q = drop (consumed l q) (accepted l q)
 
--- Whether the log puts it in error: "The receive is consumed, both QPs go to error", a status other than 0 puts its sender there, and a
--- modify to 6; it is not there when it is created, nor after any other modify.
+-- Whether the log puts it in error: "The receive is consumed, both QPs go to error", a status other than 0 puts its sender
+-- there, and a modify to 6; it is not there when it is created, nor after any other modify.
 abbrev pub erroredBy : PairNote → (own named : Bool) → Bool → Bool
 erroredBy (PairNote.created r) own named b = not own && b
 erroredBy (PairNote.changed r) own named b = cond own (eqb (r .state) 6) b
@@ -144,12 +147,13 @@ grants a local-write = eqb (a % 2) 1
 grants a remote-write = eqb (a / 2 % 2) 1
 grants a remote-read = eqb (a / 4 % 2) 1
 
--- 02, M-104: "Each byte of a remote write or read needs the right in the region and in the peer's flags .. local uses only at the region"
-abbrev pub opens : (rights : ℕ) → Right → Bool
-opens f none-needed = true
-opens f local-write = true
-opens f remote-write = grants f remote-write
-opens f remote-read = grants f remote-read
+-- 02, M-104: "Each byte of a remote write or read needs the right in the region and in the peer's flags .. local uses only at
+-- the region"
+abbrev pub flagsGrant : (rights : ℕ) → Right → Bool
+flagsGrant f none-needed = true
+flagsGrant f local-write = true
+flagsGrant f remote-write = grants f remote-write
+flagsGrant f remote-read = grants f remote-read
 
 -- whose use it is: a queue pair's, by the domain that it was created in and its access flags
 pub record Party : Type 0 where
@@ -161,12 +165,12 @@ abbrev pub party : Log → Option ℕ → Party
 party l none = record { domain = none; rights = 0 }
 party l (some q) = record { domain = domain l q; rights = rights l q }
 
--- "A byte passes if its key's registration stands, names the QP's domain, grants the use and has virt ≤ address < virt + length", and the
--- party's flags open the use
+-- "A byte passes if its key's registration stands, names the QP's domain, grants the use and has virt ≤ address < virt +
+-- length", and the party's flags open the use
 abbrev pub passesBy : Option Standing → Party → Right → (a : ℕ) → Bool
 passesBy none p u a = false
 passesBy (some h) p u a =
-    names (p .domain) (h .reg .pd) && grants (h .reg .access) u && opens (p .rights) u
+    names (p .domain) (h .reg .pd) && grants (h .reg .access) u && flagsGrant (p .rights) u
     && leb (h .reg .virt) a && ltb a (h .reg .virt + h .reg .length)
 
 unfoldable pub passes : Log → Party → Right → Byte → Bool
@@ -177,7 +181,8 @@ abbrev pub placeBy : Option Standing → (a : ℕ) → ℕ
 placeBy none a = 0
 placeBy (some h) a = byteOf (h .pages) (h .reg) a
 
--- "It is then memory byte start + (address − virt)."; 02, M-105: "Start is the offset into the first page", by the one definition of both kinds
+-- "It is then memory byte start + (address − virt)."; 02, M-105: "Start is the offset into the first page", by the one
+-- definition of both kinds
 unfoldable pub placed : Log → Byte → ℕ
 placed l b = placeBy (standing l (b .key)) (b .address)
 
@@ -187,8 +192,8 @@ pub record Work : Type 0 where
   pub qpn : ℕ
   pub request : Request
 
--- "the judge finds the peer and, for opcodes 2 and 3, the peer's oldest waiting receive"; where none waits, one with no entry, and a
--- request that needs one is held
+-- "the judge finds the peer and, for opcodes 2 and 3, the peer's oldest waiting receive"; where none waits, one with no
+-- entry, and a request that needs one is held
 abbrev pub oldestOn : Log → (peer : Option ℕ) → Receive
 oldestOn l none = noReceive
 oldestOn l (some d) = getD (waiting l d) 0 noReceive
@@ -215,7 +220,11 @@ farRight o = cond (eqb o 4) remote-read (cond (leb o 1) remote-write local-write
 
 unfoldable pub far : Log → Work → Side
 far l w =
-    record { party = party l (peer l (w .qpn)); right = farRight (w .request .opcode); bytes = farBytes (w .request) (filled l w) }
+    record {
+      party = party l (peer l (w .qpn));
+      right = farRight (w .request .opcode);
+      bytes = farBytes (w .request) (filled l w);
+    }
 
 abbrev pub allPass : Log → Side → Bool
 allPass l s = all (passes l (s .party) (s .right)) (s .bytes)
@@ -231,8 +240,8 @@ nearPasses l w = leb (total (w .request)) mostMessage && allPass l (near l w)
 unfoldable pub farPasses : Log → Work → Bool
 farPasses l w = fitsReceive l w && allPass l (far l w)
 
--- The verdict, in 00's words: the request "succeeds exactly when its length fits the message limit and any receive it fills, and the judge
--- passes every byte it touches"; 02, M-103: it "counts a flushed request as failing, with no byte judged".
+-- The verdict, in 00's words: the request "succeeds exactly when its length fits the message limit and any receive it fills,
+-- and the judge passes every byte it touches"; 02, M-103: it "counts a flushed request as failing, with no byte judged".
 unfoldable pub judge : Log → Work → Bool
 judge l w = not (errored l (w .qpn)) && (nearPasses l w && farPasses l w)
 
@@ -263,7 +272,7 @@ abbrev pub valueOf : Log → (m : List ℕ) → Source → ℕ
 valueOf l m (literal v) = v
 valueOf l m (byte b) = getD m (placed l b) 0
 
--- the memory after the request: "Success writes message bytes 0, 1, .. in turn .. with the values before the call"; 02, M-105: "the later byte
--- of the message wins, inside one piece too; demand 3 reads so"
+-- the memory after the request: "Success writes message bytes 0, 1, .. in turn .. with the values before the call"; 02,
+-- M-105: "the later byte of the message wins, inside one piece too; demand 3 reads so"
 unfoldable pub judgedMemory : Log → Work → (m : List ℕ) → List ℕ
 judgedMemory l w m = cond (moves l w) (stored m (map (placed l) (writtenSide l w .bytes)) (map (valueOf l m) (sources l w))) m

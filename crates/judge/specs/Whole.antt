@@ -9,7 +9,7 @@ use Rattle.tables.specs.State.{card}
 use Rattle.rules.specs.Answer.{answerIn}
 use Rattle.rules.specs.Calls.{Meets}
 use Rattle.rules.specs.Contract.{Exports}
-use Rattle.judge.specs.Demand3.{Seen, heard, Bytewise, OfWork, Every, Demand3, Resumed, Steady, Flushes}
+use Rattle.judge.specs.Demand3.{Seen, heard, OfWork, Every, Demand3, Resumed, Steady, Flushes}
 use Rattle.judge.specs.Apart.{Apart}
 use Rattle.judge.specs.Count.{Puts, Counted}
 use Rattle.judge.specs.Distinct.{Distinct}
@@ -27,14 +27,12 @@ pub record FromC (st : List ℕ) (x : Seen) : Type 0 where
 
 -- What holds of every list of such calls after a reset answered 0: Made is Met card accepts, or FromC.
 pub record Whole (Made : (st : List ℕ) → Seen → Type 0) : Type 0 where
-  -- each work request is judged right
+  -- each work request is judged right, and each byte of it
   pub judged : Demand3 Made
   -- each receive that is done is flushed or waits, as the log says
-  pub flushed : Every Made Flushes
-  -- one byte at a time
-  pub bytes : Every Made (OfWork Bytewise)
-  -- no byte outside the regions of the written side's domain changes, and a message comes out of regions of the read side's domain,
-  -- but for bytes that the request gives
+  pub receives : Every Made Flushes
+  -- no byte outside the regions of the written side's domain changes, and a message comes out of regions of the read side's
+  -- domain, but for bytes that the request gives
   pub apart : Every Made (OfWork Apart)
   -- each work request is judged right, and each receive flushed or not, from a state that means a card that a list left, too
   pub resumed : Resumed Made card

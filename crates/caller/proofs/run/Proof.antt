@@ -3,7 +3,7 @@ use mathlib.Core.Path.{refl, _∙_}
 use mathlib.Core.List.{[], _∷_}
 use borrow.Author.Needs.{needs}
 use Rattle.judge.specs.Demand3.{Linked, stateAfter}
-use Rattle.caller.proofs.ServedLaws.{served}
+use Rattle.caller.proofs.ExchangeLaws.{answered}
 use Rattle.caller.proofs.run.Statement.{statement}
 use Rattle.caller.proofs.run.Tie as tie
 
@@ -62,7 +62,7 @@ returns c =
     let third = fourth .before .before .before .before .before .before in
     let second = third .before .before .before .before .before .before .before in
     let first = second .before .before .before .before .before in
-    served _ _ (first .reset .ensures) [] refl (_ ∷ _ ∷ _ ∷ _ ∷ _ ∷ _ ∷ []) (
+    answered _ _ (first .reset .ensures) [] refl (_ ∷ _ ∷ _ ∷ _ ∷ _ ∷ _ ∷ []) (
       second .control .ensures,
       (third .register-pages .ensures, (fourth .receive .ensures, (fifth .send .ensures, (sixth .flush .ensures, (seventh .poll .ensures, tt))))),
     )
