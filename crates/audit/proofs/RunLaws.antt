@@ -15,7 +15,7 @@ use Rattle.tape.specs.Pieces.{heldIn, Lies, Reads, Input, next, past}
 use Rattle.tape.specs.Audit.{against, verdict, auditBy, Finding, Finds}
 use Rattle.tape.proofs.PieceLaws.{content, Lawful, next-content, past-content}
 use Rattle.tape.proofs.FoundLaws.{Within, found-within}
-use Rattle.tape.proofs.AuditLaws.{verdictFrom, turn-keeps}
+use Rattle.tape.proofs.AuditLaws.{verdictFrom, round-keeps}
 use Rattle.audit.specs.declared.Next.{Next}
 use Rattle.audit.specs.declared.Place.{Place}
 use Rattle.audit.specs.declared.Verdict.{Verdict}
@@ -99,7 +99,7 @@ module _ (l m x y : List ℕ) (p : Place) (c a : List ℕ) (oc : Of c (p .calls)
       → auditBy verdictFrom (p .number) f (finding .state) (finding .memory) calls answers ≡ against (p .number) (played l m c) a
   found f e =
       ap (λ (f : Found). auditBy verdictFrom (p .number) f (finding .state) (finding .memory) calls answers) (sym e)
-      ∙ turn-keeps (p .number) l m calls answers (of-lawful oc) (of-lawful oa)
+      ∙ round-keeps (p .number) l m calls answers (of-lawful oc) (of-lawful oa)
       ∙ ap₂ (λ (c a : List ℕ). against (p .number) (played l m c) a) (of-content oc) (of-content oa)
 
   within : (f : Found) → finding .found ≡ f → Within f (calls .held) (answers .held)

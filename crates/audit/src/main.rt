@@ -77,7 +77,7 @@ fn pass(place: Place, used: usize, seen: usize) -> Place
     }
 }
 
-fn turn(
+fn round(
     state: &mut [u8],
     memory: &mut [u8],
     calls: &mut [u8],
@@ -112,7 +112,7 @@ fn turn(
     }
 }
 
-// A proved loop has to end, and nothing says that a tape does: the turns are counted down from a number that no run uses up.
+// A proved loop has to end, and nothing says that a tape does: the rounds are counted down from a number that no run uses up.
 fn run(
     state: &mut [u8],
     memory: &mut [u8],
@@ -132,13 +132,13 @@ fn run(
         answers: none,
         number: 0,
     };
-    let mut turns = u64::MAX;
-    while turns > 0 {
-        match turn(state, memory, calls, answers, files, place) {
+    let mut rounds = u64::MAX;
+    while rounds > 0 {
+        match round(state, memory, calls, answers, files, place) {
             Next::On(next) => place = next,
             Next::Done(verdict) => return verdict,
         }
-        turns -= 1;
+        rounds -= 1;
     }
     Verdict::Differs(place.number)
 }

@@ -3,7 +3,7 @@
 use libc::STDERR_FILENO;
 use libc::STDIN_FILENO;
 use libc::STDOUT_FILENO;
-use tape::Turn;
+use tape::Exchange;
 use tape::input::Held;
 ghost use mathlib.Core.List.{List};
 ghost use Prim.Native.Nat.{ℕ, _≤_};
@@ -38,18 +38,18 @@ fn answer(state: &mut [u8], memory: &mut [u8], held: &[u8], ended: bool) -> Done
     ensures { λ r. ⌜ Uses r (now (held .entry)) ⌝ }
 {
     let mut out = [0u8; tape::MOST_ANSWER];
-    match tape::steps::turn(state, memory, held, ended, &mut out) {
-        Turn::Answered { used, written } => write(&out[..written], used),
-        Turn::Fault => {
+    match tape::steps::exchange(state, memory, held, ended, &mut out) {
+        Exchange::Answered { used, written } => write(&out[..written], used),
+        Exchange::Fault => {
             io::write_all(STDOUT_FILENO, &out[..6]);
             Done::Stop
         }
-        Turn::End => Done::Stop,
-        Turn::More => Done::More,
+        Exchange::End => Done::Stop,
+        Exchange::More => Done::More,
     }
 }
 
-fn turn(state: &mut [u8], memory: &mut [u8], window: &mut [u8], held: Held) -> Next
+fn round(state: &mut [u8], memory: &mut [u8], window: &mut [u8], held: Held) -> Next
     requires { ⌜ Lies held (now window) ⌝ }
     ensures { λ r. ⌜ Goes r (now (window .exit)) ⌝ }
 {
@@ -67,20 +67,20 @@ fn turn(state: &mut [u8], memory: &mut [u8], window: &mut [u8], held: Held) -> N
     }
 }
 
-// A proved loop has to end, and nothing says that a tape does: the turns are counted down from a number that no run uses up.
+// A proved loop has to end, and nothing says that a tape does: the rounds are counted down from a number that no run uses up.
 fn run(state: &mut [u8], memory: &mut [u8], window: &mut [u8]) {
     let mut held = Held {
         from: 0,
         to: 0,
         ended: false,
     };
-    let mut turns = u64::MAX;
-    while turns > 0 {
-        match turn(state, memory, window, held) {
+    let mut rounds = u64::MAX;
+    while rounds > 0 {
+        match round(state, memory, window, held) {
             Next::On(next) => held = next,
             Next::Stop => return,
         }
-        turns -= 1;
+        rounds -= 1;
     }
 }
 

@@ -27,7 +27,8 @@ ghost use Rattle.rules.specs.Answer.{isDone};
 ghost use Rattle.rules.specs.Call.{Call};
 ghost use Rattle.rules.specs.Control.{commandAck};
 ghost use Rattle.rules.specs.Lists.{maybe};
-ghost use Rattle.tape.specs.Tape.{isMark, isKind, isLength, headerOf, ackWritten, answerHead, answerRecord, placed, badRecord, completionSize, callOf, memoryLeft, Answers, tapeAck, tapeMemory};
+ghost use Rattle.tape.specs.Tape.{isMark, isKind, isLength, headerOf, ackWritten, answerHead, answerRecord, badRecord, completionSize, callOf, memoryLeft, tapeAck};
+ghost use Rattle.tape.specs.Inside.{placed, Answers};
 
 const HEADER: usize = 6;
 
@@ -64,16 +65,16 @@ pub enum Step {
     More,
 }
 
-// What a turn did: it answered a record, of `used` bytes of the input, by `written` bytes; it answered a fault by six, and the tape ends
-// there; it found the clean end; or more bytes are wanted.
-pub enum Turn {
+// An exchange, a record of the tape and its answer: it answered a record, of `used` bytes of the input, by `written` bytes; it answered a
+// fault by six, and the tape ends there; it found the clean end; or more bytes are wanted.
+pub enum Exchange {
     Answered { used: usize, written: usize },
     Fault,
     End,
     More,
 }
 
-// What a turn of an audit finds: more bytes of the calls or of the answers are wanted; an answer as it is due, of so many bytes of each
+// What a round of an audit finds: more bytes of the calls or of the answers are wanted; an answer as it is due, of so many bytes of each
 // tape; the tapes agree; or they differ, at the record due or so many records later.
 pub enum Found {
     Calls,

@@ -1,12 +1,12 @@
-// The card of a tape: its reset, and its memory's length as an argument says it.
+// The card of a tape: its reset, and its memory's length as the command line asks for it.
 use rules::Answer;
 ghost use mathlib.Core.Path.{_≡_};
 ghost use mathlib.Core.Bool.{cond};
 ghost use Prim.Native.Nat.{_≤_};
 ghost use lib.ListN.{length};
 ghost use Rattle.tables.specs.Reset.{resetBytes};
-ghost use Rattle.tape.specs.Length.{mostLength, isDigit, lengthOf};
-ghost use Rattle.tape.specs.Tape.{resets};
+ghost use Rattle.tape.specs.Length.{mostLength, isDigit, lengthOf, Asks};
+ghost use Rattle.tape.specs.Inside.{resets};
 
 // The longest memory that a program takes.
 const MOST_LENGTH: u64 = 1048576;
@@ -50,8 +50,9 @@ pub fn memory_length(text: &[u8]) -> u64
     value
 }
 
-// The memory's length that argument i, the last, asks for, 4,096 where there is none; 0 where it asks for none that the programs take.
+// The memory's length that word i, the last, asks for, 4,096 where there is none; 0 where it asks for none that the programs take.
 pub fn length_asked(i: usize) -> u64
+    ensures { λ r. ⌜ Asks i r ⌝ }
     ensures { λ r. ⌜ r ≤ mostLength ⌝ }
 {
     let count = os::arg_count();

@@ -8,18 +8,18 @@ use Rattle.audit.proofs.run.Statement.{statement}
 use Rattle.audit.proofs.run.Tie as tie
 
 abbrev Inv-loop : tie.InvT-loop
-Inv-loop state₀ memory₀ calls₀ answers₀ files place₀ turns₀ state memory calls answers place turns =
+Inv-loop state₀ memory₀ calls₀ answers₀ files place₀ rounds₀ state memory calls answers place rounds =
     (length state ≡ length state₀) × (length memory ≡ length memory₀) × (length calls ≡ length calls₀) × (length answers ≡ length answers₀)
-    × Stands place calls answers × (place .number + turns ≤ 18446744073709551615)
+    × Stands place calls answers × (place .number + rounds ≤ 18446744073709551615)
 
 abbrev μ-loop : tie.MeasureT-loop
-μ-loop state₀ memory₀ calls₀ answers₀ files place₀ turns₀ state memory calls answers place turns = turns
+μ-loop state₀ memory₀ calls₀ answers₀ files place₀ rounds₀ state memory calls answers place rounds = rounds
 
 loop-holds : tie.Need-loop-holds Inv-loop μ-loop
 loop-holds c = search needs
 
-turn-requires : tie.Need-turn-requires Inv-loop μ-loop
-turn-requires c κs = search needs
+round-requires : tie.Need-round-requires Inv-loop μ-loop
+round-requires c κs = search needs
 
 enum-known-next : tie.Need-enum-known-next Inv-loop μ-loop
 enum-known-next c = search needs
@@ -42,8 +42,8 @@ same-length-4 c = search needs
 returns : tie.Need-returns Inv-loop μ-loop
 returns c = search needs
 
-sub-turns : tie.Need-sub-turns Inv-loop μ-loop
-sub-turns c = search needs
+sub-rounds : tie.Need-sub-rounds Inv-loop μ-loop
+sub-rounds c = search needs
 
 loop-less : tie.Need-loop-less Inv-loop μ-loop
 loop-less c = search needs
@@ -52,7 +52,7 @@ loop-again : tie.Need-loop-again Inv-loop μ-loop
 loop-again c =
     let d = c .before .before .before .before .before .before .before .before .before .before .before in
     let i = d .before .before .before .before .before .before .loop .inv .5 in
-    let g = rw (c .before .next .given .1) at (d .turn .ensures .1) in
+    let g = rw (c .before .next .given .1) at (d .round .ensures .1) in
     (search needs, search needs, search needs, search needs, g .0, let n = g .1 in omega arith)
 
 same-length-5 : tie.Need-same-length-5 Inv-loop μ-loop
@@ -77,7 +77,7 @@ run-spec =
     Inv-loop
     μ-loop
     loop-holds
-    turn-requires
+    round-requires
     enum-known-next
     enum-known-verdict
     same-length
@@ -85,7 +85,7 @@ run-spec =
     same-length-3
     same-length-4
     returns
-    sub-turns
+    sub-rounds
     loop-less
     loop-again
     same-length-5

@@ -2,8 +2,8 @@ use native.Mathlib.Omega.{arith}
 use denote.Ref.{now}
 use Rattle.audit.proofs.PlaceLaws.{does-calls, does-answers, used-same, does-same, does-agrees, later-most, does-differs}
 use borrow.Author.Needs.{needs}
-use Rattle.audit.proofs.turn.Statement.{statement}
-use Rattle.audit.proofs.turn.Tie as tie
+use Rattle.audit.proofs.round.Statement.{statement}
+use Rattle.audit.proofs.round.Tie as tie
 
 find-requires : tie.Need-find-requires
 find-requires c κs = search needs
@@ -150,8 +150,8 @@ returns-5 c =
     does-differs (now (a .state)) (now (a .memory)) (now (a .calls)) (now (a .answers)) (a .place) (e .pre .0)
     (d .find .ensures .0) (c .before .later .given .1)
 
-pub turn-spec : {M : Type 1} → statement M
-turn-spec =
+pub round-spec : {M : Type 1} → statement M
+round-spec =
     tie.close
     (tie.spec
     find-requires
