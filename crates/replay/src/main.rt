@@ -8,17 +8,17 @@ use tape::input::Held;
 ghost use mathlib.Core.List.{List};
 ghost use Prim.Native.Nat.{ℕ, _≤_};
 ghost use lib.ListN.{length as ListN·length};
-ghost use Rattle.tape.specs.Pieces.{Lies};
-ghost use Rattle.replay.specs.Next.{Uses, Goes};
+ghost use Rattle.tape.specs.Inside.{Lies};
+ghost use Rattle.replay.specs.Inside.{Uses, Goes};
 
-// What a turn did: it used so many of the bytes held, wants more, or ends the tape.
+// What a round did: it used so many of the bytes held, wants more, or ends the tape.
 enum Done {
     Used(usize),
     More,
     Stop,
 }
 
-// What is held after a turn, or that the tape ends.
+// What is held after a round, or that the tape ends.
 enum Next {
     On(Held),
     Stop,
@@ -62,7 +62,11 @@ fn round(state: &mut [u8], memory: &mut [u8], window: &mut [u8], held: Held) -> 
             to,
             ended,
         }),
-        Done::More => Next::On(tape::input::more(STDIN_FILENO, window, held)),
+        Done::More => {
+            let read = tape::input::more(STDIN_FILENO, window, held);
+            let after = read.held; // a read that fails is the input's end
+            Next::On(after)
+        }
         Done::Stop => Next::Stop,
     }
 }

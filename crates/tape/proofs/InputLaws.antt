@@ -1,7 +1,7 @@
 -- Bytes held in a window: moved to its start, with a piece read behind them. Assumes nothing.
-use mathlib.Core.Path.{_≡_, refl, sym, ap, _∙_}
+use mathlib.Core.Path.{_≡_, refl, sym, ap, subst, _∙_}
 use mathlib.Core.List.{List, [], _∷_, _++_}
-use mathlib.Core.Bool.{Bool}
+use mathlib.Core.Bool.{Bool, true, false, true≢false}
 use Prim.Native.Nat.{ℕ, _+_, _-_, _≤_, _<_}
 use native.Mathlib.Numerals.{add-one}
 use native.Mathlib.Omega.{arith}
@@ -14,7 +14,7 @@ use Rattle.io.specs.Counts.{clamped}
 use Rattle.libc.specs.Io.{Moved as Io·Moved}
 use Rattle.tape.specs.declared.input.Held.{Held}
 use Rattle.tape.specs.declared.input.Read.{Read}
-use Rattle.tape.specs.System.{Event, Happened}
+use Rattle.tape.specs.System.{Event, Happened, Fails}
 use Rattle.tape.specs.Inside.{heldIn, Lies, Room, given, isFailure, Gives, Reads}
 use lib.Seq.{length-take-le, take-add, take-suc, take-suc-set, drop-set-lt, drop-drop, getD-drop}
 
@@ -67,6 +67,21 @@ gives-by file answer same buffer n most room happened moved le e flag = record {
   bytes = counts answer n most room moved le (e ∙ ap (λ (z : ℤ). clamped z room) same);
   failure = sym flag ∙ ap (λ (z : ℤ). ltZ z (pos 0)) same ∙ below-zero answer;
 }
+
+module _ {file : ℤ} {buffer : List ℕ} {n : ℕ} {failed : Bool} (g : Gives file buffer n failed) where
+  pub gives-bytes : failed ≡ false → Happened (Event.read file (pos n) buffer)
+  gives-bytes good = by (g .answer) (g .happened) (g .bytes) (sym good ∙ g .failure)
+    where
+      by : (answer : ℤ) → Happened (Event.read file answer buffer) → n ≡ given answer → false ≡ isFailure answer → Happened (Event.read file (pos n) buffer)
+      by (pos k) h e f = subst (λ (k : ℕ). Happened (Event.read file (pos k) buffer)) (sym e) h
+      by (negsuc k) h e f = absurd (true≢false (sym f))
+
+  pub gives-failure : failed ≡ true → Fails file
+  gives-failure bad = by (g .answer) (g .happened) (sym bad ∙ g .failure)
+    where
+      by : (answer : ℤ) → Happened (Event.read file answer buffer) → true ≡ isFailure answer → Fails file
+      by (pos k) h f = absurd (true≢false f)
+      by (negsuc k) h f = (k, buffer, h)
 
 module _ (file : ℤ) (h : Held) (w : List ℕ) where
   -- no bytes of a window that has not those asked for

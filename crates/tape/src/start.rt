@@ -4,7 +4,7 @@ ghost use mathlib.Core.Path.{_≡_};
 ghost use mathlib.Core.Bool.{cond};
 ghost use Prim.Native.Nat.{_≤_};
 ghost use lib.ListN.{length};
-ghost use Rattle.tables.specs.Reset.{resetBytes};
+ghost use Rattle.tables.specs.Reset.{zeros, resetBytes};
 ghost use Rattle.tape.specs.Length.{mostLength, isDigit, lengthOf, Asks};
 ghost use Rattle.tape.specs.Inside.{resets};
 
@@ -70,6 +70,7 @@ pub fn length_asked(i: usize) -> u64
 // The longest memory that a program takes, all zeros.
 pub fn memory() -> [u8; 1048576]
     ensures { λ r. ⌜ 1048576 ≡ length r ⌝ }
+    ensures { λ r. ⌜ r ≡ zeros 1048576 ⌝ }
 {
     [0; 1048576]
 }

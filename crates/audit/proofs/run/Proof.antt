@@ -2,18 +2,18 @@ use mathlib.Core.Path.{_≡_}
 use Prim.Native.Nat.{_+_, _≤_}
 use native.Mathlib.Omega.{arith}
 use lib.ListN.{length}
-use Rattle.audit.specs.Place.{Stands}
+use Rattle.audit.specs.Inside.{Stands}
 use borrow.Author.Needs.{needs}
 use Rattle.audit.proofs.run.Statement.{statement}
 use Rattle.audit.proofs.run.Tie as tie
 
 abbrev Inv-loop : tie.InvT-loop
-Inv-loop state₀ memory₀ calls₀ answers₀ files place₀ rounds₀ state memory calls answers place rounds =
+Inv-loop state₀ memory₀ calls₀ answers₀ files position₀ rounds₀ state memory calls answers position rounds =
     (length state ≡ length state₀) × (length memory ≡ length memory₀) × (length calls ≡ length calls₀) × (length answers ≡ length answers₀)
-    × Stands place calls answers × (place .number + rounds ≤ 18446744073709551615)
+    × Stands position calls answers × (position .number + rounds ≤ 18446744073709551615)
 
 abbrev μ-loop : tie.MeasureT-loop
-μ-loop state₀ memory₀ calls₀ answers₀ files place₀ rounds₀ state memory calls answers place rounds = rounds
+μ-loop state₀ memory₀ calls₀ answers₀ files position₀ rounds₀ state memory calls answers position rounds = rounds
 
 loop-holds : tie.Need-loop-holds Inv-loop μ-loop
 loop-holds c = search needs
