@@ -2,7 +2,7 @@
 use mathlib.Core.Path.{_≡_, refl, sym, ap, ap₂, subst, _∙_}
 use mathlib.Core.Bool.{Bool, true, false, cond, true≢false}
 use mathlib.Core.List.{List, [], _∷_, _++_, flatten, append-nil, append-assoc}
-use Prim.Native.Nat.{ℕ, suc, _+_, _-_, _≤_, _<_, min}
+use Prim.Native.Nat.{ℕ, zero, suc, _+_, _-_, _≤_, _<_, min}
 use native.Mathlib.Numerals.{add-one}
 use native.Mathlib.Omega.{arith}
 use lib.Dec.{eqb}
@@ -30,6 +30,12 @@ use Rattle.audit.specs.declared.Report.{Report}
 use Rattle.audit.specs.Report.{Tapes, Judges, Silent, Reports}
 use Rattle.audit.specs.Inside.{shown, behind, passed, onCalls, onAnswers, Follows, Stands, Round}
 use Rattle.audit.proofs.RoundLaws.{among}
+
+-- the first bytes of a memory of zeros
+pub take-zeros : (k n : ℕ) → k ≤ n → take k (zeros n) ≡ zeros k
+take-zeros zero n le = refl
+take-zeros (suc k) zero le = absurd (omega arith)
+take-zeros (suc k) (suc n) le = ap (λ (l : List ℕ). 0 ∷ l) (take-zeros k n (omega arith))
 
 -- ---- one tape: the bytes passed, then those held
 
@@ -111,7 +117,7 @@ begins-more : (t h : List ℕ) (n : ℕ) {e : Bool} {h′ : List ℕ} → drop n
 begins-more t h n {e} {h′} s b = (
   b .0,
   ap (λ (x : List ℕ). take n h ++ x) (b .1 ∙ ap (λ (x : List ℕ). x ++ b .0) (sym s))
-  ∙ sym (append-assoc (take n h) (drop n h) (b .0)) ∙ ap (λ (x : List ℕ). x ++ b .0) (take-append-drop n h),
+      ∙ sym (append-assoc (take n h) (drop n h) (b .0)) ∙ ap (λ (x : List ℕ). x ++ b .0) (take-append-drop n h),
   b .2,
 )
 
@@ -131,7 +137,7 @@ piece-all (b ∷ r) = append-nil (b ∷ r)
 abbrev input : (held : List ℕ) → (ended : Bool) → (rest : List ℕ) → Input
 input h e r = record { held = h; ended = e; pieces = piece r }
 
-module _ {t h : List ℕ} {e : Bool} (b : Begins t h e) where
+module _ {t : List ℕ} (h : List ℕ) {e : Bool} (b : Begins t h e) where
   begins-content : content (input h e (b .0)) ≡ t
   begins-content = ap (λ (x : List ℕ). h ++ x) (piece-all (b .0)) ∙ sym (b .1)
 
@@ -162,8 +168,8 @@ module _ (l m x y : List ℕ) (p : Position) where
         → verdictBy (p .number) f (finding .state) (finding .memory) calls answers ≡ against (p .number) (played l m c) a
     found f e =
         ap (λ (f : Found). verdictBy (p .number) f (finding .state) (finding .memory) calls answers) (sym e)
-        ∙ round-keeps (p .number) l m calls answers (begins-lawful bc) (begins-lawful ba)
-        ∙ ap₂ (λ (c a : List ℕ). against (p .number) (played l m c) a) (begins-content bc) (begins-content ba)
+        ∙ round-keeps (p .number) l m calls answers (begins-lawful (heldIn (p .calls) x) bc) (begins-lawful (heldIn (p .answers) y) ba)
+        ∙ ap₂ (λ (c a : List ℕ). against (p .number) (played l m c) a) (begins-content (heldIn (p .calls) x) bc) (begins-content (heldIn (p .answers) y) ba)
 
     -- the inputs after it are of the tapes c′ and a′
     left : (n : ℕ) (l′ m′ : List ℕ) → l′ ≡ finding .state → m′ ≡ finding .memory → (i j : Input) (c′ a′ : List ℕ) → content i ≡ c′ → content j ≡ a′
@@ -204,13 +210,13 @@ stand-start files memory l m x y sl sm = record {
 }
 
 -- a read that failed ends the rounds, and no other
-read-on : (b : Bool) {q q₀ : Position} → Next.On q ≡ cond b (Next.Done Report.Nothing) (Next.On q₀) → (b ≡ false) × (q ≡ q₀)
-read-on true e = absurd (let z : _≡_ {A = ℕ} 0 1 = cc in omega arith)
-read-on false e = (refl, cc)
+read-on : (b : Bool) {q : Position} (q₀ : Position) → Next.On q ≡ cond b (Next.Done Report.Nothing) (Next.On q₀) → (b ≡ false) × (q ≡ q₀)
+read-on true q₀ e = absurd (let z : _≡_ {A = ℕ} 0 1 = cc in omega arith)
+read-on false q₀ e = (refl, cc)
 
-read-done : (b : Bool) {v : Report} {q₀ : Position} → Next.Done v ≡ cond b (Next.Done Report.Nothing) (Next.On q₀) → (b ≡ true) × (v ≡ Report.Nothing)
-read-done true e = (refl, cc)
-read-done false e = absurd (let z : _≡_ {A = ℕ} 0 1 = cc in omega arith)
+read-done : (b : Bool) {v : Report} (q₀ : Position) → Next.Done v ≡ cond b (Next.Done Report.Nothing) (Next.On q₀) → (b ≡ true) × (v ≡ Report.Nothing)
+read-done true q₀ e = (refl, cc)
+read-done false q₀ e = absurd (let z : _≡_ {A = ℕ} 0 1 = cc in omega arith)
 
 module _ {files : Files} {memory : ℕ} {l m x y : List ℕ} {p : Position} {rounds : ℕ} (s : Stand files memory l m x y p rounds) where
   abbrev heldCalls : List ℕ
@@ -238,7 +244,7 @@ module _ {files : Files} {memory : ℕ} {l m x y : List ℕ} {p : Position} {rou
               begins-fewer c heldCalls (take (r .count) (r .buffer)) still (bc .0, bc .1 ∙ ap (λ (h : List ℕ). h ++ bc .0) held, bc .2) in
               s .keeps c a b ba ∙ sym (found l m x y p b ba Found.Calls e)
               ∙ left l m x y p b ba (p .number) l′ m′ sl sm (next (calls l m x y p b ba)) (answers l m x y p b ba) c a
-              (next-content (calls l m x y p b ba) ∙ begins-content b) (begins-content ba);
+              (next-content (calls l m x y p b ba) ∙ begins-content heldCalls b) (begins-content heldAnswers ba);
           spent =
               let before : cost (s .callsPassed) heldCalls (p .calls .ended) ≡ cost (s .callsPassed) heldCalls false =
               ap (cost (s .callsPassed) heldCalls) still in
@@ -265,7 +271,7 @@ module _ {files : Files} {memory : ℕ} {l m x y : List ℕ} {p : Position} {rou
               begins-fewer a heldAnswers (take (r .count) (r .buffer)) still (ba .0, ba .1 ∙ ap (λ (h : List ℕ). h ++ ba .0) held, ba .2) in
               s .keeps c a bc b ∙ sym (found l m x y p bc b Found.Answers e)
               ∙ left l m x y p bc b (p .number) l′ m′ sl sm (calls l m x y p bc b) (next (answers l m x y p bc b)) c a
-              (begins-content bc) (next-content (answers l m x y p bc b) ∙ begins-content b);
+              (begins-content heldCalls bc) (next-content (answers l m x y p bc b) ∙ begins-content heldAnswers b);
           spent =
               let before : cost (s .answersPassed) heldAnswers (p .answers .ended) ≡ cost (s .answersPassed) heldAnswers false =
               ap (cost (s .answersPassed) heldAnswers) still in
@@ -293,8 +299,8 @@ module _ {files : Files} {memory : ℕ} {l m x y : List ℕ} {p : Position} {rou
               ap₂ (verdict memory) (append-assoc (s .callsPassed) (take u heldCalls) c) (append-assoc (s .answersPassed) (take w heldAnswers) a)
               ∙ s .keeps (take u heldCalls ++ c) (take w heldAnswers ++ a) b b′ ∙ sym (found l m x y p b b′ (Found.Same u w) e)
               ∙ left l m x y p b b′ (suc (p .number)) l′ m′ sl sm (past u (calls l m x y p b b′)) (past w (answers l m x y p b b′)) c a
-              (sym (past-content (calls l m x y p b b′) u (i .0)) ∙ ap (drop u) (begins-content b) ∙ drop-front c heldCalls u (i .0))
-              (sym (past-content (answers l m x y p b b′) w (i .1)) ∙ ap (drop w) (begins-content b′) ∙ drop-front a heldAnswers w (i .1))
+              (sym (past-content (calls l m x y p b b′) u (i .0)) ∙ ap (drop u) (begins-content heldCalls b) ∙ drop-front c heldCalls u (i .0))
+              (sym (past-content (answers l m x y p b b′) w (i .1)) ∙ ap (drop w) (begins-content heldAnswers b′) ∙ drop-front a heldAnswers w (i .1))
               ∙ ap (λ (n : ℕ). against n (played l′ m′ c) a) (sym (add-one (p .number)));
           spent =
               let ec : cost (s .callsPassed ++ take u heldCalls) (heldIn (behind (p .calls) u) x) (p .calls .ended) ≡ cost (s .callsPassed ++ take u heldCalls) (drop u heldCalls) (p .calls .ended) =
@@ -309,11 +315,11 @@ module _ {files : Files} {memory : ℕ} {l m x y : List ℕ} {p : Position} {rou
 
     on-by : (x′ y′ : List ℕ) (f : Found) → shown l m x y p .found ≡ f → Follows files f p x y (Next.On q) x′ y′ → Stand files memory l′ m′ x′ y′ q k
     on-by x′ y′ Found.Calls e w =
-        let o = read-on (w .0 .failed) (w .1) in
+        let o = read-on (w .0 .failed) (onCalls p (w .0 .held)) (w .1) in
         subst (λ (q : Position). Stand files memory l′ m′ x′ y′ q k) (sym (o .1))
         (subst (λ (y′ : List ℕ). Stand files memory l′ m′ x′ y′ (onCalls p (w .0 .held)) k) (sym (w .4)) (read-calls e (w .0) (w .2) (w .3) (o .0)))
     on-by x′ y′ Found.Answers e w =
-        let o = read-on (w .0 .failed) (w .1) in
+        let o = read-on (w .0 .failed) (onAnswers p (w .0 .held)) (w .1) in
         subst (λ (q : Position). Stand files memory l′ m′ x′ y′ q k) (sym (o .1))
         (subst (λ (x′ : List ℕ). Stand files memory l′ m′ x′ y′ (onAnswers p (w .0 .held)) k) (sym (w .4)) (read-answers e (w .0) (w .2) (w .3) (o .0)))
     on-by x′ y′ (Found.Same u n) e w =
@@ -355,10 +361,10 @@ module _ {files : Files} {memory : ℕ} {l m x y : List ℕ} {p : Position} {rou
   done-by : (v : Report) (x′ y′ : List ℕ) (f : Found) → shown l m x y p .found ≡ f → Follows files f p x y (Next.Done v) x′ y′
       → Reports (files .calls) (files .answers) memory v
   done-by v x′ y′ Found.Calls e w =
-      let o = read-done (w .0 .failed) (w .1) in
+      let o = read-done (w .0 .failed) (onCalls p (w .0 .held)) (w .1) in
       subst (Reports (files .calls) (files .answers) memory) (sym (o .1)) (Silent.noCalls (gives-failure (w .3 .gives (s .calls .lies)) (o .0)))
   done-by v x′ y′ Found.Answers e w =
-      let o = read-done (w .0 .failed) (w .1) in
+      let o = read-done (w .0 .failed) (onAnswers p (w .0 .held)) (w .1) in
       subst (Reports (files .calls) (files .answers) memory) (sym (o .1)) (Silent.noAnswers (gives-failure (w .3 .gives (s .answers .lies)) (o .0)))
   done-by v x′ y′ (Found.Same u n) e w =
       absurd (let t : Next.Done v ≡ Next.On (passed p u n) = w .0 in let z : _≡_ {A = ℕ} 0 1 = cc in omega arith)

@@ -39,7 +39,13 @@ enum Next {
     Done(Report),
 }
 
-fn find(state: &mut [u8], memory: &mut [u8], calls: &[u8], answers: &[u8], position: Position) -> Found
+fn find(
+    state: &mut [u8],
+    memory: &mut [u8],
+    calls: &[u8],
+    answers: &[u8],
+    position: Position,
+) -> Found
     requires { ⌜ Stands position (now calls) (now answers) ⌝ }
     ensures { λ r. ⌜ Finds (shown (now (state .entry)) (now (memory .entry)) (now (calls .entry)) (now (answers .entry)) position) r (now (state .exit)) (now (memory .exit)) ⌝ }
     ensures { λ r. ⌜ Used r position ⌝ }
@@ -199,7 +205,7 @@ fn audit(state: &mut [u8], memory: &mut [u8], length: usize, files: Files) -> Re
 }
 
 // The report by the command line. A file that can't be opened can't be read either.
-fn report() -> Report
+fn reported() -> Report
     ensures { λ r. ⌜ Right r ⌝ }
 {
     let calls = tape::input::open(1);
@@ -232,5 +238,5 @@ fn print(report: Report) {
 }
 
 fn main() {
-    print(report());
+    print(reported());
 }

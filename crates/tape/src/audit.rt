@@ -1,8 +1,8 @@
 // The audit of a tape of calls and a tape of answers, round by round, from the bytes of each that are held. What it finds:
 // specs/Inside.antt.
+use crate::Exchange;
 use crate::Found;
 use crate::MOST_ANSWER;
-use crate::Exchange;
 use crate::steps::exchange;
 ghost use mathlib.Core.Path.{_≡_};
 ghost use mathlib.Core.Bool.{true, cond};

@@ -1,8 +1,8 @@
 // The tape step by step, from the bytes of the input that are held. What a step is: specs/Tape.antt; an exchange: specs/Pieces.antt.
+use crate::Exchange;
 use crate::Header;
 use crate::MOST_ANSWER;
 use crate::Step;
-use crate::Exchange;
 use crate::answer_record;
 use crate::bad_record;
 use crate::read_header;

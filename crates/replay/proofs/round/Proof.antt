@@ -28,8 +28,8 @@ answer-requires c κs = search needs
 enum-known-n : tie.Need-enum-known-n
 enum-known-n c = search needs
 
-add-t19 : tie.Need-add-t19
-add-t19 c = let u = used (c .before) in omega arith
+add-t21 : tie.Need-add-t21
+add-t21 c = let u = used (c .before) in omega arith
 
 enum-told : tie.Need-enum-told
 enum-told c = search needs
@@ -85,7 +85,7 @@ round-spec =
     part-answer-end
     answer-requires
     enum-known-n
-    add-t19
+    add-t21
     enum-told
     more-requires
     enum-told-2

@@ -28,9 +28,11 @@ gave c flag =
     let a = c .before .before .before .before .before .before .before .before in
     let r = c .before .before .before .before .before .read in (
       let h = simp (length-take, length-drop) at (c .count .ensures .0 .0) in omega arith,
-      (take-put (a .args .kept) (length (now (a .args .window)) - a .args .kept) (now (a .args .window)) (r .last .1 .0) (a .pre),
-      gives-by (a .args .fd) (r .result) (toZ-ofZ {w = w64} {z = r .result} (record { sfits = r .ok })) _ (c .count .result) _ _ (happened (Event.read _ _ _)) (r .ensures)
-      (simp (length-take, length-drop) (omega arith)) (c .count .ensures .1) flag),
+      (
+        take-put (a .args .kept) (length (now (a .args .window)) - a .args .kept) (now (a .args .window)) (r .last .1 .0) (a .pre),
+        gives-by (a .args .fd) (r .result) (toZ-ofZ {w = w64} {z = r .result} (record { sfits = r .ok })) _ (c .count .result) _ _ (happened (Event.read _ _ _)) (r .ensures)
+            (simp (length-take, length-drop) (omega arith)) (c .count .ensures .1) flag,
+      ),
     )
 
 sub-read : tie.Need-sub-read
