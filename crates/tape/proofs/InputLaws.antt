@@ -15,7 +15,7 @@ use Rattle.libc.specs.Io.{Moved as Io·Moved}
 use Rattle.tape.specs.declared.input.Held.{Held}
 use Rattle.tape.specs.declared.input.Read.{Read}
 use Rattle.tape.specs.System.{Event, Happened, Fails}
-use Rattle.tape.specs.Inside.{heldIn, Lies, Room, given, isFailure, Gives, Reads}
+use Rattle.tape.specs.Inside.{heldIn, Lies, Room, bytesBy, isFailure, Gives, Reads}
 use lib.Seq.{length-take-le, take-add, take-suc, take-suc-set, drop-set-lt, drop-drop, getD-drop}
 
 -- i bytes of the window w₀ are moved to its start, from the place `from` on
@@ -50,7 +50,7 @@ moved-more from w₀ i w h m =
 -- ---- a read
 
 -- as many bytes as it answered, or none where it failed
-counts : (answer : ℤ) (n most room : ℕ) → Io·Moved most answer → most ≤ room → n ≡ clamped answer room → n ≡ given answer
+counts : (answer : ℤ) (n most room : ℕ) → Io·Moved most answer → most ≤ room → n ≡ clamped answer room → n ≡ bytesBy answer
 counts (pos k) n most room m le e = omega arith
 counts (negsuc k) n most room m le e = e
 
@@ -72,7 +72,7 @@ module _ {file : ℤ} {buffer : List ℕ} {n : ℕ} {failed : Bool} (g : Gives f
   pub gives-bytes : failed ≡ false → Happened (Event.read file (pos n) buffer)
   gives-bytes good = by (g .answer) (g .happened) (g .bytes) (sym good ∙ g .failure)
     where
-      by : (answer : ℤ) → Happened (Event.read file answer buffer) → n ≡ given answer → false ≡ isFailure answer → Happened (Event.read file (pos n) buffer)
+      by : (answer : ℤ) → Happened (Event.read file answer buffer) → n ≡ bytesBy answer → false ≡ isFailure answer → Happened (Event.read file (pos n) buffer)
       by (pos k) h e f = subst (λ (k : ℕ). Happened (Event.read file (pos k) buffer)) (sym e) h
       by (negsuc k) h e f = absurd (true≢false (sym f))
 

@@ -56,9 +56,9 @@ abbrev pub Room : Held → (window : List ℕ) → Type 0
 Room h w = length (heldIn h w) < length w
 
 -- the bytes that a read gave which answered so
-abbrev pub given : (answer : ℤ) → ℕ
-given (pos n) = n
-given (negsuc k) = 0
+abbrev pub bytesBy : (answer : ℤ) → ℕ
+bytesBy (pos n) = n
+bytesBy (negsuc k) = 0
 
 abbrev pub isFailure : (answer : ℤ) → Bool
 isFailure (pos n) = false
@@ -68,7 +68,7 @@ isFailure (negsuc k) = true
 pub record Gives (file : ℤ) (buffer : List ℕ) (count : ℕ) (failed : Bool) : Type 0 where
   pub answer : ℤ
   pub happened : Happened (Event.read file answer buffer)
-  pub bytes : count ≡ given answer
+  pub bytes : count ≡ bytesBy answer
   pub failure : failed ≡ isFailure answer
 
 -- One read of the file into the window w, of which h is held: those bytes stay held, what it gave is behind them, and where that is nothing the
