@@ -20,13 +20,13 @@ pub data Event : Type 0 where
   read : (file answer : ℤ) → (buffer : List ℕ) → Event
 
 -- The call was made and did that. No contract of the C library says so, and this is shut: a proof has it of the function that made the call alone.
--- So what is proved from it holds for any meaning that those functions keep; tests/audit/run looks at where `happened` is cited.
+-- So what is proved from it holds for any meaning that those functions keep; tests/audit/run looks at where `by-call` is cited.
 pub Happened : Event → Type 0
 Happened e = Unit {0}
 
-pub happened : (e : Event) → Happened e
+pub by-call : (e : Event) → Happened e
 unfolding Happened
-happened e = tt
+by-call e = tt
 
 -- ---- a tape, by the reads of its file
 

@@ -1,7 +1,7 @@
 -- The word and the descriptor are what the two calls gave.
 use denote.Ref.{now}
 use lib.ListN.{take}
-use Rattle.tape.specs.System.{Event, happened}
+use Rattle.tape.specs.System.{Event, by-call}
 use borrow.Author.Needs.{needs}
 use Rattle.tape.proofs.input.open.Statement.{statement}
 use Rattle.tape.proofs.input.open.Tie as tie
@@ -25,7 +25,7 @@ open-read-requires : tie.Need-open-read-requires
 open-read-requires c κs = search needs
 
 returns : tie.Need-returns
-returns c = (take (c .before .before .before .arg .result) (c .before .before .before .arg .last .1 .0), happened (Event.word _ _ _), happened (Event.opened _ _))
+returns c = (take (c .before .before .before .arg .result) (c .before .before .before .arg .last .1 .0), by-call (Event.word _ _ _), by-call (Event.opened _ _))
 
 pub open-spec : {M : Type 1} → statement M
 open-spec =

@@ -11,7 +11,7 @@ use mir.Syntax.{w64}
 use mir.Val.{toZ, ofZ}
 use mir.Facts.{toZ-ofZ}
 use borrow.Rule.Slice.PartMut.{putMid, take-put}
-use Rattle.tape.specs.System.{Event, happened}
+use Rattle.tape.specs.System.{Event, by-call}
 use Rattle.tape.specs.Inside.{Gives}
 use Rattle.tape.proofs.InputLaws.{gives-by}
 use borrow.Author.Needs.{needs}
@@ -30,7 +30,7 @@ gave c flag =
       let h = simp (length-take, length-drop) at (c .count .ensures .0 .0) in omega arith,
       (
         take-put (a .args .kept) (length (now (a .args .window)) - a .args .kept) (now (a .args .window)) (r .last .1 .0) (a .pre),
-        gives-by (a .args .fd) (r .result) (toZ-ofZ {w = w64} {z = r .result} (record { sfits = r .ok })) _ (c .count .result) _ _ (happened (Event.read _ _ _)) (r .ensures)
+        gives-by (a .args .fd) (r .result) (toZ-ofZ {w = w64} {z = r .result} (record { sfits = r .ok })) _ (c .count .result) _ _ (by-call (Event.read _ _ _)) (r .ensures)
             (simp (length-take, length-drop) (omega arith)) (c .count .ensures .1) flag,
       ),
     )
