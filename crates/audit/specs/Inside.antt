@@ -1,4 +1,5 @@
--- Inner contracts: where the program stands on both tapes, and what a round of it does. No statement of the other files rests on this one. Assumes nothing.
+-- Inner contracts: where the program stands on both tapes, and what a round of it does. No statement of the other files rests
+-- on this one. Assumes nothing.
 use mathlib.Core.Path.{_≡_}
 use mathlib.Core.Bool.{cond}
 use mathlib.Core.List.{List}
@@ -46,9 +47,10 @@ withCalls d p = cond (d .failed) (Next.Done Report.Nothing) (Next.On (onCalls p 
 abbrev pub withAnswers : Read → Position → Next
 withAnswers d p = cond (d .failed) (Next.Done Report.Nothing) (Next.On (onAnswers p (d .held)))
 
--- A round that found f goes from the position p, the windows x and y, to r, x′ and y′: it reads the tape of which bytes are wanted, with
--- room, passes a record that is as it is due, or has the verdict.
-abbrev pub Follows : Files → (f : Found) → (p : Position) → (x y : List ℕ) → (r : Next) → (x′ y′ : List ℕ) → Type 0
+-- A round that found f goes from the position p, the windows x and y, to r, x′ and y′: it reads the tape of which bytes are
+-- wanted, with room, passes a record that is as it is due, or has the verdict.
+abbrev pub Follows : Files → (f : Found) → (p : Position) → (x y : List ℕ) → (r : Next) → (x′ y′ : List ℕ)
+    → Type 0
 Follows files Found.Calls p x y r x′ y′ =
     (d : Read) × (r ≡ withCalls d p) × Room (p .calls) x × Reads (files .calls) (p .calls) x d x′ × (y′ ≡ y)
 Follows files Found.Answers p x y r x′ y′ =

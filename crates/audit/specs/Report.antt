@@ -21,12 +21,12 @@ pub record Tapes (calls answers : ℤ) : Type 0 where
   pub fromCalls : BytesOf calls callBytes callsEnded
   pub fromAnswers : BytesOf answers answerBytes answersEnded
 
--- "agrees exactly when the answer tape is the one the rules give, however both are cut into pieces": v is the verdict on the whole tapes,
--- whatever stands behind the bytes that were read
+-- "agrees exactly when the answer tape is the one the rules give, however both are cut into pieces": v is the verdict on the
+-- whole tapes, whatever stands behind the bytes that were read
 abbrev pub Judges : (memory : ℕ) → Verdict → {calls answers : ℤ} → Tapes calls answers → Type 0
 Judges memory v t =
-    (calls answers : List ℕ) → Begins calls (t .callBytes) (t .callsEnded) → Begins answers (t .answerBytes) (t .answersEnded)
-    → verdict memory calls answers ≡ v
+    (calls answers : List ℕ) → Begins calls (t .callBytes) (t .callsEnded)
+    → Begins answers (t .answerBytes) (t .answersEnded) → verdict memory calls answers ≡ v
 
 -- ---- the report
 
@@ -35,7 +35,8 @@ pub data Silent (calls answers : ℤ) (memory : ℕ) : Type 0 where
   lengthless : memory ≡ 0 → Silent calls answers memory
   noCalls : Fails calls → Silent calls answers memory
   noAnswers : Fails answers → Silent calls answers memory
-  endless : (t : Tapes calls answers) → 9223372036854775807 ≤ length (t .callBytes) + length (t .answerBytes) → Silent calls answers memory
+  endless : (t : Tapes calls answers) → 9223372036854775807 ≤ length (t .callBytes) + length (t .answerBytes)
+      → Silent calls answers memory
 
 abbrev pub Reports : (calls answers : ℤ) → (memory : ℕ) → Report → Type 0
 Reports c a memory Report.Agrees = (t : Tapes c a) × Judges memory Verdict.agrees t

@@ -1,6 +1,6 @@
-// Audits a replay: reads a tape of calls and a tape of answers from the files that its first two words name, and prints `agrees` or the number
-// of the first record where the answers are not those that the rules give (docs/TAPE.md). The library tape has the verdict; here bytes
-// are read and records counted. What the program reports: specs/Report.antt.
+// Audits a replay: reads a tape of calls and a tape of answers from the files that its first two words name, and prints
+// `agrees` or the number of the first record where the answers are not those that the rules give (docs/TAPE.md). The library
+// tape has the verdict; here bytes are read and records counted. What the program reports: specs/Report.antt.
 use libc::STDOUT_FILENO;
 use tape::Found;
 use tape::input::Held;
@@ -47,7 +47,9 @@ fn find(
     position: Position,
 ) -> Found
     requires { ⌜ Stands position (now calls) (now answers) ⌝ }
-    ensures { λ r. ⌜ Finds (shown (now (state .entry)) (now (memory .entry)) (now (calls .entry)) (now (answers .entry)) position) r (now (state .exit)) (now (memory .exit)) ⌝ }
+    ensures { λ r. ⌜ Finds
+        (shown (now (state .entry)) (now (memory .entry)) (now (calls .entry)) (now (answers .entry)) position) r
+        (now (state .exit)) (now (memory .exit)) ⌝ }
     ensures { λ r. ⌜ Used r position ⌝ }
 {
     let c = position.calls;
@@ -136,8 +138,11 @@ fn round(
     files: Files,
     position: Position,
 ) -> Next
-    requires { ⌜ Stands position (now calls) (now answers) × Wide (now calls) (now answers) × (position .number ≤ 18446744073709551614) ⌝ }
-    ensures { λ r. ⌜ Round files (now (state .entry)) (now (memory .entry)) (now (calls .entry)) (now (answers .entry)) position r (now (state .exit)) (now (memory .exit)) (now (calls .exit)) (now (answers .exit)) ⌝ }
+    requires { ⌜ Stands position (now calls) (now answers) × Wide (now calls) (now answers)
+        × (position .number ≤ 18446744073709551614) ⌝ }
+    ensures { λ r. ⌜ Round files
+        (now (state .entry)) (now (memory .entry)) (now (calls .entry)) (now (answers .entry)) position r
+        (now (state .exit)) (now (memory .exit)) (now (calls .exit)) (now (answers .exit)) ⌝ }
     ensures { λ r. ⌜ Goes r (position .number) (now (calls .exit)) (now (answers .exit)) ⌝ }
 {
     let c = position.calls;
@@ -155,7 +160,8 @@ fn round(
     }
 }
 
-// A proved loop has to end, and nothing says that a tape does: the rounds are counted down from a number that no tape below 2^63 bytes uses up.
+// A proved loop has to end, and nothing says that a tape does: the rounds are counted down from a number that no tapes below
+// 2^63 bytes use up.
 fn run(
     state: &mut [u8],
     memory: &mut [u8],
@@ -164,7 +170,8 @@ fn run(
     files: Files,
 ) -> Report
     requires { ⌜ Wide (now calls) (now answers) ⌝ }
-    requires { ⌜ (now state ≡ resetBytes (ListN·length (now memory))) × (now memory ≡ zeros (ListN·length (now memory))) ⌝ }
+    requires { ⌜ (now state ≡ resetBytes (ListN·length (now memory)))
+        × (now memory ≡ zeros (ListN·length (now memory))) ⌝ }
     ensures { λ r. ⌜ Reports (files .calls) (files .answers) (ListN·length (now (memory .entry))) r ⌝ }
 {
     let none = Held {
@@ -190,7 +197,8 @@ fn run(
 
 // Audits over the first bytes of the memory, to which the card is reset.
 fn audit(state: &mut [u8], memory: &mut [u8], length: usize, files: Files) -> Report
-    requires { ⌜ (length ≤ ListN·length (now memory)) × (now state ≡ resetBytes length) × (now memory ≡ zeros (ListN·length (now memory))) ⌝ }
+    requires { ⌜ (length ≤ ListN·length (now memory)) × (now state ≡ resetBytes length)
+        × (now memory ≡ zeros (ListN·length (now memory))) ⌝ }
     ensures { λ r. ⌜ Reports (files .calls) (files .answers) length r ⌝ }
 {
     let mut calls = io::large_buffer();

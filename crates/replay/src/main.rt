@@ -1,9 +1,10 @@
-// Replays a tape: reads records from standard input, makes each one's call on one card, and writes the answer records to standard output
-// (docs/TAPE.md). The library tape has what a tape means and what to do with the bytes held; here bytes are only moved.
+// Replays a tape: reads records from standard input, makes each one's call on one card, and writes the answer records to
+// standard output (docs/TAPE.md). The library tape has what a tape means and what to do with the bytes held; here bytes are
+// only moved.
 use libc::STDERR_FILENO;
 use libc::STDIN_FILENO;
 use libc::STDOUT_FILENO;
-use tape::Exchange;
+use tape::Reply;
 use tape::input::Held;
 ghost use mathlib.Core.List.{List};
 ghost use Prim.Native.Nat.{ℕ, _≤_};
@@ -38,14 +39,14 @@ fn answer(state: &mut [u8], memory: &mut [u8], held: &[u8], ended: bool) -> Done
     ensures { λ r. ⌜ Uses r (now (held .entry)) ⌝ }
 {
     let mut out = [0u8; tape::MOST_ANSWER];
-    match tape::steps::exchange(state, memory, held, ended, &mut out) {
-        Exchange::Answered { used, written } => write(&out[..written], used),
-        Exchange::Fault => {
+    match tape::steps::reply(state, memory, held, ended, &mut out) {
+        Reply::Answered { used, written } => write(&out[..written], used),
+        Reply::Fault => {
             io::write_all(STDOUT_FILENO, &out[..6]);
             Done::Stop
         }
-        Exchange::End => Done::Stop,
-        Exchange::More => Done::More,
+        Reply::End => Done::Stop,
+        Reply::More => Done::More,
     }
 }
 

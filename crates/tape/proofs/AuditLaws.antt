@@ -15,7 +15,7 @@ use Rattle.rules.specs.Contract.{bytesAfter}
 use Rattle.tape.specs.declared.Found.{Found}
 use Rattle.tape.specs.declared.Step.{Step}
 use Rattle.tape.specs.Tape.{stepOf, callAt, memoryLeft, answerTo, badRecord, played}
-use Rattle.tape.specs.Pieces.{exchanged, Input, next, past}
+use Rattle.tape.specs.Pieces.{replied, Input, next, past}
 use Rattle.tape.specs.Audit.{Verdict, starts, against}
 use Rattle.tape.specs.Inside.{closing, Finding, findingBy, findingOf}
 use Rattle.tape.proofs.BoundLaws.{answer-most}
@@ -89,7 +89,7 @@ module _ (n : ℕ) (l m : List ℕ) (c a : Input) where
 -- by whether enough of the answers is held and the step on the calls
 abbrev verdictAt : (n : ℕ) (l m : List ℕ) (c a : Input) → Bool → Step → Verdict
 verdictAt n l m c a b x =
-    let y : Finding = findingBy b l m (exchanged x l m (c .held)) (a .held) in verdictBy n (y .found) (y .state) (y .memory) c a
+    let y : Finding = findingBy b l m (replied x l m (c .held)) (a .held) in verdictBy n (y .found) (y .state) (y .memory) c a
 
 module _ (n : ℕ) (l m : List ℕ) (c a : Input) (lc : Lawful c) (la : Lawful a) where
   -- an answer that the answers held do not start with

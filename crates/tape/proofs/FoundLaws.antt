@@ -1,4 +1,4 @@
--- What a round of the audit finds, from what its exchange on the calls left. Assumes nothing.
+-- What a round of the audit finds, from what its reply to the calls left. Assumes nothing.
 use mathlib.Core.Path.{_≡_, refl, sym, ap, subst, _∙_}
 use mathlib.Core.Bool.{Bool, true, false, cond, _||_, true≢false}
 use mathlib.Core.List.{List}
@@ -10,67 +10,67 @@ use lib.Seq.{take-append-seam}
 use borrow.Author.Tests.{leb-false}
 use Rattle.tape.specs.declared.Found.{Found}
 use Rattle.tape.specs.declared.Step.{Step}
-use Rattle.tape.specs.declared.Exchange.{Exchange}
+use Rattle.tape.specs.declared.Reply.{Reply}
 use Rattle.tape.specs.Tape.{stepOf, callAt, answerTo, badRecord}
-use Rattle.tape.specs.Pieces.{Left, exchanged}
+use Rattle.tape.specs.Pieces.{Left, replied}
 use Rattle.tape.specs.Audit.{starts}
 use Rattle.tape.specs.Inside.{placed, Leaves, closing, foundBy, findingBy, findingOf, Finds}
 use Rattle.tape.proofs.StepLaws.{whole-held, more-wanting}
 use Rattle.tape.proofs.StartLaws.{starts-long}
 
--- the record that the exchange wrote
+-- the record that the reply wrote
 written : (b out out′ : List ℕ) → out′ ≡ placed b out → take (length b) out′ ≡ b
 written b out out′ e = ap (take (length b)) e ∙ take-append-seam b (drop (length b) out)
 
-finds : (l m : List ℕ) (t : Left) {out : List ℕ} {r : Exchange} {l′ m′ out′ : List ℕ} → Leaves t out r l′ m′ out′ → (g : List ℕ) (q : Found)
-    → q ≡ foundBy (t .exchange) (t .bytes) g → Finds (findingBy true l m t g) q l′ m′
+finds : (l m : List ℕ) (t : Left) {out : List ℕ} {r : Reply} {l′ m′ out′ : List ℕ} → Leaves t out r l′ m′ out′ → (g : List ℕ) (q : Found)
+    → q ≡ foundBy (t .reply) (t .bytes) g → Finds (findingBy true l m t g) q l′ m′
 finds l m t a g q e = record { found = e; state = a .state; memory = a .memory }
 
-module _ {out : List ℕ} {r : Exchange} {l′ m′ out′ : List ℕ} (g : List ℕ) (q : Found) where
-  pub found-answered : (x : Step) (l m i : List ℕ) → Leaves (exchanged x l m i) out r l′ m′ out′ → {u w : ℕ} → r ≡ Exchange.Answered u w
-      → q ≡ cond (starts (take w out′) g) (Found.Same u (length (take w out′))) (Found.Differs 0) → Finds (findingBy true l m (exchanged x l m i) g) q l′ m′
+module _ {out : List ℕ} {r : Reply} {l′ m′ out′ : List ℕ} (g : List ℕ) (q : Found) where
+  pub found-answered : (x : Step) (l m i : List ℕ) → Leaves (replied x l m i) out r l′ m′ out′ → {u w : ℕ} → r ≡ Reply.Answered u w
+      → q ≡ cond (starts (take w out′) g) (Found.Same u (length (take w out′))) (Found.Differs 0) → Finds (findingBy true l m (replied x l m i) g) q l′ m′
   found-answered (Step.Whole k n s) l m i t {u} {w} e p =
       let b : List ℕ = answerTo l (callAt k n s m i) in
-      let says : r ≡ Exchange.Answered (6 + s) (length b) = t .says in
+      let says : r ≡ Reply.Answered (6 + s) (length b) = t .says in
       let eu : u ≡ 6 + s = cc in
       let ew : w ≡ length b = cc in
       let f : take w out′ ≡ b = ap (λ (j : ℕ). take j out′) ew ∙ written b out out′ (t .bytes) in
-      finds l m (exchanged (Step.Whole k n s) l m i) t g q
+      finds l m (replied (Step.Whole k n s) l m i) t g q
       (p ∙ ap (λ (y : List ℕ). cond (starts y g) (Found.Same u (length y)) (Found.Differs 0)) f
       ∙ ap (λ (y : ℕ). cond (starts b g) (Found.Same y (length b)) (Found.Differs 0)) eu)
-  found-answered Step.Fault l m i t e p = absurd (let says : r ≡ Exchange.Fault = t .says in let z : _≡_ {A = ℕ} 0 1 = cc in omega arith)
-  found-answered Step.End l m i t e p = absurd (let says : r ≡ Exchange.End = t .says in let z : _≡_ {A = ℕ} 0 1 = cc in omega arith)
-  found-answered Step.More l m i t e p = absurd (let says : r ≡ Exchange.More = t .says in let z : _≡_ {A = ℕ} 0 1 = cc in omega arith)
+  found-answered Step.Fault l m i t e p = absurd (let says : r ≡ Reply.Fault = t .says in let z : _≡_ {A = ℕ} 0 1 = cc in omega arith)
+  found-answered Step.End l m i t e p = absurd (let says : r ≡ Reply.End = t .says in let z : _≡_ {A = ℕ} 0 1 = cc in omega arith)
+  found-answered Step.More l m i t e p = absurd (let says : r ≡ Reply.More = t .says in let z : _≡_ {A = ℕ} 0 1 = cc in omega arith)
 
-  pub found-fault : (x : Step) (l m i : List ℕ) → Leaves (exchanged x l m i) out r l′ m′ out′ → r ≡ Exchange.Fault
+  pub found-fault : (x : Step) (l m i : List ℕ) → Leaves (replied x l m i) out r l′ m′ out′ → r ≡ Reply.Fault
       → q ≡ cond (starts (take 6 out′) g) (closing 1 (length g - length (take 6 out′))) (Found.Differs 0)
-      → Finds (findingBy true l m (exchanged x l m i) g) q l′ m′
+      → Finds (findingBy true l m (replied x l m i) g) q l′ m′
   found-fault (Step.Whole k n s) l m i t e p =
-      absurd (let says : r ≡ Exchange.Answered (6 + s) (length (answerTo l (callAt k n s m i))) = t .says in let z : _≡_ {A = ℕ} 0 1 = cc in omega arith)
+      absurd (let says : r ≡ Reply.Answered (6 + s) (length (answerTo l (callAt k n s m i))) = t .says in let z : _≡_ {A = ℕ} 0 1 = cc in omega arith)
   found-fault Step.Fault l m i t e p =
-      finds l m (exchanged Step.Fault l m i) t g q
+      finds l m (replied Step.Fault l m i) t g q
       (p ∙ ap (λ (y : List ℕ). cond (starts y g) (closing 1 (length g - length y)) (Found.Differs 0)) (written badRecord out out′ (t .bytes)))
-  found-fault Step.End l m i t e p = absurd (let says : r ≡ Exchange.End = t .says in let z : _≡_ {A = ℕ} 0 1 = cc in omega arith)
-  found-fault Step.More l m i t e p = absurd (let says : r ≡ Exchange.More = t .says in let z : _≡_ {A = ℕ} 0 1 = cc in omega arith)
+  found-fault Step.End l m i t e p = absurd (let says : r ≡ Reply.End = t .says in let z : _≡_ {A = ℕ} 0 1 = cc in omega arith)
+  found-fault Step.More l m i t e p = absurd (let says : r ≡ Reply.More = t .says in let z : _≡_ {A = ℕ} 0 1 = cc in omega arith)
 
-  pub found-end : (x : Step) (l m i : List ℕ) → Leaves (exchanged x l m i) out r l′ m′ out′ → r ≡ Exchange.End → q ≡ closing 0 (length g)
-      → Finds (findingBy true l m (exchanged x l m i) g) q l′ m′
-  found-end x l m i t e p = finds l m (exchanged x l m i) t g q (p ∙ ap (λ (y : Exchange). foundBy y (exchanged x l m i .bytes) g) (sym e ∙ t .says))
+  pub found-end : (x : Step) (l m i : List ℕ) → Leaves (replied x l m i) out r l′ m′ out′ → r ≡ Reply.End → q ≡ closing 0 (length g)
+      → Finds (findingBy true l m (replied x l m i) g) q l′ m′
+  found-end x l m i t e p = finds l m (replied x l m i) t g q (p ∙ ap (λ (y : Reply). foundBy y (replied x l m i .bytes) g) (sym e ∙ t .says))
 
-  pub found-more : (x : Step) (l m i : List ℕ) → Leaves (exchanged x l m i) out r l′ m′ out′ → r ≡ Exchange.More → q ≡ Found.Calls
-      → Finds (findingBy true l m (exchanged x l m i) g) q l′ m′
-  found-more x l m i t e p = finds l m (exchanged x l m i) t g q (p ∙ ap (λ (y : Exchange). foundBy y (exchanged x l m i .bytes) g) (sym e ∙ t .says))
+  pub found-more : (x : Step) (l m i : List ℕ) → Leaves (replied x l m i) out r l′ m′ out′ → r ≡ Reply.More → q ≡ Found.Calls
+      → Finds (findingBy true l m (replied x l m i) g) q l′ m′
+  found-more x l m i t e p = finds l m (replied x l m i) t g q (p ∙ ap (λ (y : Reply). foundBy y (replied x l m i .bytes) g) (sym e ∙ t .says))
 
 -- ---- enough of the answers is held, or more are wanted
 
 module _ (l m i : List ℕ) (e : Bool) (g : List ℕ) (f : Bool) where
-  pub found-held : {r : Found} {l′ m′ : List ℕ} → (f || leb 135 (length g)) ≡ true → Finds (findingBy true l m (exchanged (stepOf i e) l m i) g) r l′ m′
+  pub found-held : {r : Found} {l′ m′ : List ℕ} → (f || leb 135 (length g)) ≡ true → Finds (findingBy true l m (replied (stepOf i e) l m i) g) r l′ m′
       → Finds (findingOf l m i e g f) r l′ m′
-  found-held {r} {l′} {m′} h x = subst (λ (b : Bool). Finds (findingBy b l m (exchanged (stepOf i e) l m i) g) r l′ m′) (sym h) x
+  found-held {r} {l′} {m′} h x = subst (λ (b : Bool). Finds (findingBy b l m (replied (stepOf i e) l m i) g) r l′ m′) (sym h) x
 
   pub found-wants : (f || leb 135 (length g)) ≡ false → Finds (findingOf l m i e g f) Found.Answers l m
   found-wants h =
-      subst (λ (b : Bool). Finds (findingBy b l m (exchanged (stepOf i e) l m i) g) Found.Answers l m) (sym h)
+      subst (λ (b : Bool). Finds (findingBy b l m (replied (stepOf i e) l m i) g) Found.Answers l m) (sym h)
       (record { found = refl; state = refl; memory = refl })
 
 -- ---- bytes used are among those held; bytes are wanted of a tape that has not ended, where fewer than a longest record are held
@@ -101,13 +101,13 @@ module _ (l m i : List ℕ) (e : Bool) (g : List ℕ) (f : Bool) where
   fault-within true = closing-within (eqb (length g - 6) 0) 1 (omega arith)
   fault-within false = omega arith
 
-  step-within : (x : Step) → stepOf i e ≡ x → Within (findingBy true l m (exchanged x l m i) g .found) i e g f
+  step-within : (x : Step) → stepOf i e ≡ x → Within (findingBy true l m (replied x l m i) g .found) i e g f
   step-within (Step.Whole k n s) p = whole-within p (starts (answerTo l (callAt k n s m i)) g) refl
   step-within Step.Fault p = fault-within (starts badRecord g)
   step-within Step.End p = closing-within (eqb (length g) 0) 0 (omega arith)
   step-within Step.More p = (more-wanting i e p .0, more-wanting i e p .1)
 
-  held-within : (b : Bool) → (f || leb 135 (length g)) ≡ b → Within (findingBy b l m (exchanged (stepOf i e) l m i) g .found) i e g f
+  held-within : (b : Bool) → (f || leb 135 (length g)) ≡ b → Within (findingBy b l m (replied (stepOf i e) l m i) g .found) i e g f
   held-within true h = step-within (stepOf i e) refl
   held-within false h = few f (length g) h
 

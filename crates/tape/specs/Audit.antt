@@ -20,14 +20,15 @@ starts [] g = true
 starts (a ∷ r) [] = false
 starts (a ∷ r) (b ∷ g) = eqb a b && starts r g
 
--- The records due from number n on, and the answer tape from there on: the first record that the tape does not have. "Extra bytes after
--- the last answer count as the next record."
+-- The records due from number n on, and the answer tape from there on: the first record that the tape does not have. "Extra
+-- bytes after the last answer count as the next record."
 unfoldable pub against : (n : ℕ) → (due : List (List ℕ)) → (given : List ℕ) → Verdict
 against n [] [] = agrees
 against n [] (b ∷ g) = differs n
 against n (r ∷ rs) g = cond (starts r g) (against (suc n) rs (drop (length r) g)) (differs n)
 
--- "the first record number .. where the answer tape isn't what the rules as they now stand give"; document 01's tape has a memory of 4,096
+-- "the first record number .. where the answer tape isn't what the rules as they now stand give"; document 01's tape has a
+-- memory of 4,096
 unfoldable pub verdict : (memory : ℕ) → (calls answers : List ℕ) → Verdict
 verdict memory calls answers = against 0 (records memory calls) answers
 
@@ -44,7 +45,8 @@ abbrev pub Wrong : (due : List (List ℕ)) → (given : List ℕ) → Type 0
 Wrong [] g = g ≡ [] → ⊥
 Wrong (r ∷ rs) g = starts r g ≡ false
 
--- "the first record number": n of the records due, or the number behind their last; the tape has all before it, and then not that one
+-- "the first record number": n of the records due, or the number behind their last; the tape has all before it, and then not
+-- that one
 pub record First (due : List (List ℕ)) (given : List ℕ) (n : ℕ) : Type 0 where
   pub most : n ≤ length due
   pub rest : List ℕ

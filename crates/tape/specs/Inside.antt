@@ -1,4 +1,5 @@
--- Inner contracts: what the functions of this crate owe one another and the programs. No statement of the other files rests on this one. Assumes nothing.
+-- Inner contracts: what the functions of this crate owe one another and the programs. No statement of the other files rests
+-- on this one. Assumes nothing.
 use mathlib.Core.Path.{_≡_}
 use mathlib.Core.Bool.{Bool, true, false, cond, _&&_, _||_}
 use mathlib.Core.List.{List, [], _∷_, _++_}
@@ -10,12 +11,12 @@ use Rattle.validate.specs.Accept.{memoryOk}
 use Rattle.tables.specs.Layout.{stateSize}
 use Rattle.rules.specs.Call.{Call}
 use Rattle.rules.specs.Contract.{bytesAfter}
-use Rattle.tape.specs.declared.Exchange.{Exchange}
+use Rattle.tape.specs.declared.Reply.{Reply}
 use Rattle.tape.specs.declared.Found.{Found}
 use Rattle.tape.specs.declared.input.Held.{Held}
 use Rattle.tape.specs.declared.input.Read.{Read}
 use Rattle.tape.specs.Tape.{headerSize, tapeAck, stepOf, answerTo}
-use Rattle.tape.specs.Pieces.{Left, exchanged}
+use Rattle.tape.specs.Pieces.{Left, replied}
 use Rattle.tape.specs.Audit.{starts}
 use Rattle.tape.specs.System.{Event, Happened}
 
@@ -25,15 +26,16 @@ use Rattle.tape.specs.System.{Event, Happened}
 abbrev pub placed : (bytes out : List ℕ) → List ℕ
 placed b out = b ++ drop (length b) out
 
--- The call k, on the state l, leaves the state l′, and `out′` of the buffer `out` with its answer record of n bytes at the start.
+-- The call k, on the state l, leaves the state l′, and `out′` of the buffer `out` with its answer record of n bytes at the
+-- start.
 pub record Answers (k : Call) (l out : List ℕ) (n : ℕ) (l′ out′ : List ℕ) : Type 0 where
   pub count : n ≡ length (answerTo l k)
   pub bytes : out′ ≡ placed (answerTo l k) out
   pub state : l′ ≡ bytesAfter l k
 
--- An exchange that owes t says r and leaves the state l′ and the memory m′, and its bytes at the start of the buffer `out`.
-pub record Leaves (t : Left) (out : List ℕ) (r : Exchange) (l′ m′ out′ : List ℕ) : Type 0 where
-  pub says : r ≡ t .exchange
+-- A reply that owes t says r and leaves the state l′ and the memory m′, and its bytes at the start of the buffer `out`.
+pub record Leaves (t : Left) (out : List ℕ) (r : Reply) (l′ m′ out′ : List ℕ) : Type 0 where
+  pub says : r ≡ t .reply
   pub state : l′ ≡ t .state
   pub memory : m′ ≡ t .memory
   pub bytes : out′ ≡ placed (t .bytes) out
@@ -71,8 +73,8 @@ pub record Gives (file : ℤ) (buffer : List ℕ) (count : ℕ) (failed : Bool) 
   pub bytes : count ≡ bytesBy answer
   pub failure : failed ≡ isFailure answer
 
--- One read of the file into the window w, of which h is held: those bytes stay held, what it gave is behind them, and where that is nothing the
--- input has ended.
+-- One read of the file into the window w, of which h is held: those bytes stay held, what it gave is behind them, and where
+-- that is nothing the input has ended.
 pub record Reads (file : ℤ) (h : Held) (w : List ℕ) (r : Read) (w′ : List ℕ) : Type 0 where
   pub lies : Lies (r .held) w′
   pub buffer : List ℕ
@@ -92,12 +94,13 @@ mostAnswer = headerSize + tapeAck
 abbrev pub closing : (later left : ℕ) → Found
 closing later left = cond (eqb left 0) Found.Agrees (Found.Differs later)
 
--- an exchange on the calls that answers by those bytes, and the answers held; the answer to a bad record is a record, and nothing is due after it
-abbrev pub foundBy : Exchange → (bytes given : List ℕ) → Found
-foundBy (Exchange.Answered u w) r g = cond (starts r g) (Found.Same u w) (Found.Differs 0)
-foundBy Exchange.Fault r g = cond (starts r g) (closing 1 (length g - length r)) (Found.Differs 0)
-foundBy Exchange.End r g = closing 0 (length g)
-foundBy Exchange.More r g = Found.Calls
+-- a reply to the calls by those bytes, and the answers held; the answer to a bad record is a record, and nothing is due after
+-- it
+abbrev pub foundBy : Reply → (bytes given : List ℕ) → Found
+foundBy (Reply.Answered u w) r g = cond (starts r g) (Found.Same u w) (Found.Differs 0)
+foundBy Reply.Fault r g = cond (starts r g) (closing 1 (length g - length r)) (Found.Differs 0)
+foundBy Reply.End r g = closing 0 (length g)
+foundBy Reply.More r g = Found.Calls
 
 -- what it finds, and the state and the memory that it leaves
 pub record Finding : Type 0 where
@@ -107,11 +110,12 @@ pub record Finding : Type 0 where
 
 -- an answer is looked at once the longest is held, or all that is left of the tape
 abbrev pub findingBy : (held : Bool) → (l m : List ℕ) → Left → (given : List ℕ) → Finding
-findingBy true l m t g = record { found = foundBy (t .exchange) (t .bytes) g; state = t .state; memory = t .memory }
+findingBy true l m t g = record { found = foundBy (t .reply) (t .bytes) g; state = t .state; memory = t .memory }
 findingBy false l m t g = record { found = Found.Answers; state = l; memory = m }
 
-abbrev pub findingOf : (l m calls : List ℕ) → (callsEnded : Bool) → (answers : List ℕ) → (answersEnded : Bool) → Finding
-findingOf l m i e g f = findingBy (f || leb mostAnswer (length g)) l m (exchanged (stepOf i e) l m i) g
+abbrev pub findingOf : (l m calls : List ℕ) → (callsEnded : Bool) → (answers : List ℕ) → (answersEnded : Bool)
+    → Finding
+findingOf l m i e g f = findingBy (f || leb mostAnswer (length g)) l m (replied (stepOf i e) l m i) g
 
 -- The function `audit`, which owes x, finds r and leaves the state l′ and the memory m′.
 pub record Finds (x : Finding) (r : Found) (l′ m′ : List ℕ) : Type 0 where

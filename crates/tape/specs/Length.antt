@@ -19,7 +19,8 @@ isDigit b = leb 48 b && leb b 57
 abbrev pub withDigit : (value byte : ℕ) → ℕ
 withDigit v b = v * 10 + (b - 48)
 
--- the value of the text, behind digits that are worth v: 0, which no reset takes, where a byte is no digit or it passes mostLength
+-- the value of the text, behind digits that are worth v: 0, which no reset takes, where a byte is no digit or it passes
+-- mostLength
 unfoldable pub valueOf : (v : ℕ) → (text : List ℕ) → ℕ
 valueOf v [] = v
 valueOf v (b ∷ t) = cond (isDigit b && leb (withDigit v b) mostLength) (valueOf (withDigit v b) t) 0

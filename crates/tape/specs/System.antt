@@ -19,8 +19,9 @@ pub data Event : Type 0 where
   -- a read of the file gave the answer, and left its buffer so
   read : (file answer : ℤ) → (buffer : List ℕ) → Event
 
--- The call was made and did that. No contract of the C library says so, and this is shut: a proof has it of the function that made the call alone.
--- So what is proved from it holds for any meaning that those functions keep; tests/audit/run looks at where `by-call` is cited.
+-- The call was made and did that. No contract of the C library says so, and this is shut: a proof has it of the function that
+-- made the call alone. So what is proved from it holds for any meaning that those functions keep; tests/audit/run looks at
+-- where `by-call` is cited.
 pub Happened : Event → Type 0
 Happened e = Unit {0}
 
@@ -33,7 +34,8 @@ by-call e = tt
 -- the bytes that reads of the file gave, one behind the other, and whether the last, with room for a byte, gave none: the end
 pub data BytesOf (file : ℤ) : (bytes : List ℕ) → (ended : Bool) → Type 0 where
   unread : BytesOf file [] false
-  more : {bytes : List ℕ} (buffer : List ℕ) (n : ℕ) → BytesOf file bytes false → Happened (Event.read file (pos n) buffer) → 0 < length buffer
+  more : {bytes : List ℕ} (buffer : List ℕ) (n : ℕ) → BytesOf file bytes false → Happened (Event.read file (pos n) buffer)
+      → 0 < length buffer
       → BytesOf file (bytes ++ take n buffer) (eqb n 0)
 
 -- a read of it failed

@@ -129,8 +129,8 @@ badRecord = 114 ∷ 107 ∷ 14 ∷ 0 ∷ 0 ∷ 0 ∷ []
 abbrev pub callAt : (kind number size : ℕ) → (m input : List ℕ) → Call
 callAt k n s m i = callOf k n (take s (drop headerSize i)) m
 
--- The answer records from a step on, where `more` gives those of what comes after its record: "A bad mark, kind or length .. or a cut
--- record gives 72 6B 0E 00 00 00 and ends. Clean end adds nothing." An input that has ended wants no more bytes.
+-- The answer records from a step on, where `more` gives those of what comes after its record: "A bad mark, kind or length ..
+-- or a cut record gives 72 6B 0E 00 00 00 and ends. Clean end adds nothing." An input that has ended wants no more bytes.
 abbrev pub playBy : (more : (l m input : List ℕ) → List (List ℕ)) → Step → (l m input : List ℕ) → List (List ℕ)
 playBy more (Step.Whole k n s) l m i =
     let call : Call = callAt k n s m i in

@@ -24,7 +24,8 @@ struct Piece {
     failed: bool,
 }
 
-// Opens the file that word i of the command line names, for reading; a negative number, of which no read succeeds, where that can't be done.
+// Opens the file that word i of the command line names, for reading; a negative number, of which no read succeeds, where that
+// can't be done.
 pub fn open(i: usize) -> i32
     ensures { λ r. ⌜ Opens i r ⌝ }
 {

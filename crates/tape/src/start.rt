@@ -14,7 +14,8 @@ const MOST_LENGTH: u64 = 1048576;
 // Resets the card to a memory of the given length; false, with the state as it was, where no reset takes it.
 pub fn start(state: &mut [u8], memory: u64) -> bool
     ensures { λ r. ⌜ r ≡ resets (now (state .entry)) memory ⌝ }
-    ensures { λ _. ⌜ now (state .exit) ≡ cond (resets (now (state .entry)) memory) (resetBytes memory) (now (state .entry)) ⌝ }
+    ensures { λ _. ⌜ now (state .exit)
+        ≡ cond (resets (now (state .entry)) memory) (resetBytes memory) (now (state .entry)) ⌝ }
 {
     match queues::reset(state, memory) {
         Answer::Done(_) => true,
@@ -50,7 +51,8 @@ pub fn memory_length(text: &[u8]) -> u64
     value
 }
 
-// The memory's length that word i, the last, asks for, 4,096 where there is none; 0 where it asks for none that the programs take.
+// The memory's length that word i, the last, asks for, 4,096 where there is none; 0 where it asks for none that the programs
+// take.
 pub fn length_asked(i: usize) -> u64
     ensures { λ r. ⌜ Asks i r ⌝ }
     ensures { λ r. ⌜ r ≤ mostLength ⌝ }
