@@ -9,7 +9,7 @@ ghost use mathlib.Core.Path.{_≡_};
 ghost use Prim.Native.Nat.{_+_, _≤_};
 ghost use lib.ListN.{length as ListN·length};
 ghost use Rattle.tables.specs.Reset.{zeros, resetBytes};
-ghost use Rattle.tape.specs.Inside.{Finds};
+ghost use Rattle.tape.specs.Inside.{Finds, Starts};
 ghost use Rattle.audit.specs.Report.{Reports, Right};
 ghost use Rattle.audit.specs.Inside.{shown, Used, passed, withCalls, withAnswers, Stands, Goes, Wide, Round};
 
@@ -197,8 +197,7 @@ fn run(
 
 // Audits over the first bytes of the memory, to which the card is reset.
 fn audit(state: &mut [u8], memory: &mut [u8], length: usize, files: Files) -> Report
-    requires { ⌜ (length ≤ ListN·length (now memory)) × (now state ≡ resetBytes length)
-        × (now memory ≡ zeros (ListN·length (now memory))) ⌝ }
+    requires { ⌜ Starts 3 length (now state) (now memory) ⌝ }
     ensures { λ r. ⌜ Reports (files .calls) (files .answers) length r ⌝ }
 {
     let mut calls = io::large_buffer();

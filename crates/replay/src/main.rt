@@ -9,7 +9,7 @@ use tape::input::Held;
 ghost use mathlib.Core.List.{List};
 ghost use Prim.Native.Nat.{ℕ, _≤_};
 ghost use lib.ListN.{length as ListN·length};
-ghost use Rattle.tape.specs.Inside.{Lies};
+ghost use Rattle.tape.specs.Inside.{Lies, Starts};
 ghost use Rattle.replay.specs.Inside.{Uses, Goes};
 
 // What a round did: it used so many of the bytes held, wants more, or ends the tape.
@@ -89,9 +89,9 @@ fn run(state: &mut [u8], memory: &mut [u8], window: &mut [u8]) {
     }
 }
 
-// Runs the tape over the first bytes of the memory.
+// Runs the tape over the first bytes of the memory, to which the card is reset: as many as the command line asks for.
 fn run_in(state: &mut [u8], memory: &mut [u8], length: usize)
-    requires { ⌜ length ≤ ListN·length (now memory) ⌝ }
+    requires { ⌜ Starts 1 length (now state) (now memory) ⌝ }
 {
     let mut window = io::large_buffer();
     run(state, &mut memory[..length], &mut window);

@@ -12,8 +12,9 @@ use borrow.Author.Tests.{le-leb, lt-leb, leb-true, eq-eqb}
 use Rattle.wire.proofs.ScanLaws.{and-left, and-right}
 use Rattle.tables.specs.Layout.{stateSize}
 use Rattle.tables.specs.Limits.{mostMemory}
-use Rattle.tape.specs.Length.{mostLength, isDigit, withDigit, valueOf, lengthOf}
-use Rattle.tape.specs.Inside.{resets}
+use Rattle.tables.specs.Reset.{zeros, resetBytes}
+use Rattle.tape.specs.Length.{mostLength, isDigit, withDigit, valueOf, lengthOf, Asks}
+use Rattle.tape.specs.Inside.{resets, Starts}
 
 -- what a digit is worth
 pub digit-most : (b : ℕ) → isDigit b ≡ true → (48 ≤ b) × (b ≤ 57)
@@ -52,3 +53,13 @@ resets-none l (suc k) long le h = absurd (true≢false (sym e ∙ h))
   where
     e : resets l (suc k) ≡ true
     e = rw (eq-eqb (length l) stateSize long, le-leb 1 (suc k) (omega arith), le-leb (suc k) mostMemory (omega arith))
+
+-- a program starts on what `length_asked`, `start` and `memory` leave
+pub starts-by : (i n : ℕ) (l₀ : List ℕ) {l m : List ℕ} {done : Bool} → Asks i n → n ≤ mostLength → done ≡ resets l₀ n
+    → l ≡ cond (resets l₀ n) (resetBytes n) l₀ → done ≡ true → 1048576 ≡ length m → m ≡ zeros 1048576 → Starts i n l m
+starts-by i n l₀ asks most e s good long zeroed = record {
+  asked = asks;
+  fits = omega arith;
+  state = s ∙ ap (λ (b : Bool). cond b (resetBytes n) l₀) (sym e ∙ good);
+  memory = zeroed ∙ ap zeros long;
+}

@@ -9,6 +9,7 @@ use lib.IntN.{ℤ, pos, negsuc}
 use lib.ListN.{length, take, drop}
 use Rattle.validate.specs.Accept.{memoryOk}
 use Rattle.tables.specs.Layout.{stateSize}
+use Rattle.tables.specs.Reset.{zeros, resetBytes}
 use Rattle.rules.specs.Call.{Call}
 use Rattle.rules.specs.Contract.{bytesAfter}
 use Rattle.tape.specs.declared.Reply.{Reply}
@@ -19,6 +20,7 @@ use Rattle.tape.specs.Tape.{headerSize, tapeAck, stepOf, answerTo}
 use Rattle.tape.specs.Pieces.{Left, replied}
 use Rattle.tape.specs.Audit.{starts}
 use Rattle.tape.specs.System.{Event, Happened}
+use Rattle.tape.specs.Length.{Asks}
 
 -- ---- an answer record in a buffer
 
@@ -43,6 +45,13 @@ pub record Leaves (t : Left) (out : List ℕ) (r : Reply) (l′ m′ out′ : Li
 -- a reset of the state l to a memory of so many bytes is answered 0
 abbrev pub resets : (l : List ℕ) → (memory : ℕ) → Bool
 resets l memory = eqb (length l) stateSize && memoryOk memory
+
+-- A program starts: the card is reset to the length that word i asks for, and the memory has that many bytes, all zero.
+pub record Starts (i size : ℕ) (l m : List ℕ) : Type 0 where
+  pub asked : Asks i size
+  pub fits : size ≤ length m
+  pub state : l ≡ resetBytes size
+  pub memory : m ≡ zeros (length m)
 
 -- ---- bytes held in a window
 

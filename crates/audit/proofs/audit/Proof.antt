@@ -33,11 +33,11 @@ slice-aggregate-run-3 c = search needs
 run-requires : tie.Need-run-requires
 run-requires c κs =
     let e = c .before .before .before .before .before .before .before .before in
-    let same = length-take-le (e .args .length) (now (e .args .memory)) (e .pre .0) in (
+    let same = length-take-le (e .args .length) (now (e .args .memory)) (e .pre .fits) in (
       (search needs, search needs),
       (
-        e .pre .1 ∙ ap resetBytes (sym same),
-        ap (take (e .args .length)) (e .pre .2) ∙ take-zeros (e .args .length) (length (now (e .args .memory))) (e .pre .0) ∙ ap zeros (sym same),
+        e .pre .state ∙ ap resetBytes (sym same),
+        ap (take (e .args .length)) (e .pre .memory) ∙ take-zeros (e .args .length) (length (now (e .args .memory))) (e .pre .fits) ∙ ap zeros (sym same),
       ),
     )
 
@@ -50,7 +50,7 @@ same-length-2 c = search needs
 returns : tie.Need-returns
 returns c =
     let e = c .before .before .before .before .before .before .before .before .before .before .before .before .before .before .before in
-    let same = length-take-le (e .args .length) (now (e .args .memory)) (e .pre .0) in
+    let same = length-take-le (e .args .length) (now (e .args .memory)) (e .pre .fits) in
     subst (λ (n : ℕ). Reports (e .args .files .calls) (e .args .files .answers) n (c .before .before .before .before .before .before .run .result)) same (c .before .before .before .before .before .before .run .ensures)
 
 pub audit-spec : {M : Type 1} → statement M

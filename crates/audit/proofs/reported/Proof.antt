@@ -1,16 +1,14 @@
 -- The command line, a reset card, and the audit over it.
-use mathlib.Core.Path.{sym, ap, subst, _∙_}
-use mathlib.Core.Bool.{Bool, cond}
+use mathlib.Core.Path.{sym, subst, _∙_}
 use Prim.Native.Nat.{ℕ}
-use native.Mathlib.Omega.{arith}
 use lib.IntN.{ℤ}
 use lib.ListN.{length-replicate}
 use mir.Syntax.{w32}
 use mir.Val.{toZ, ofZ}
 use mir.Facts.{toZ-ofZ}
 use Rattle.tables.specs.Layout.{stateSize}
-use Rattle.tables.specs.Reset.{zeros, resetBytes}
-use Rattle.tape.proofs.LengthLaws.{resets-none}
+use Rattle.tables.specs.Reset.{zeros}
+use Rattle.tape.proofs.LengthLaws.{resets-none, starts-by}
 use Rattle.audit.specs.Report.{Silent, Reports}
 use borrow.Author.Needs.{needs}
 use Rattle.audit.proofs.reported.Statement.{statement}
@@ -44,11 +42,8 @@ audit-requires : tie.Need-audit-requires
 audit-requires c κs =
     let m = c .before .before .before .before .before .before .before .memory in
     let n = c .before .before .before .before .before .before .length-asked in
-    let st = c .before .before .before .before .start in (
-      let most = n .ensures .1 in let long = m .ensures .0 in omega arith,
-      st .ensures .1 ∙ ap (λ (b : Bool). cond b (resetBytes (n .result)) (zeros stateSize)) (sym (st .ensures .0) ∙ c .before .before .if1 .taken),
-      m .ensures .1 ∙ ap zeros (m .ensures .0),
-    )
+    let st = c .before .before .before .before .start in
+    starts-by 3 (n .result) (zeros stateSize) (n .ensures .0) (n .ensures .1) (st .ensures .0) (st .ensures .1) (c .before .before .if1 .taken) (m .ensures .0) (m .ensures .1)
 
 returns : tie.Need-returns
 returns c =
