@@ -1,24 +1,25 @@
-// Replays a tape: reads records from standard input, makes each one's call on one card, and writes the answer records to standard output
-// (docs/TAPE.md). The library tape has what a tape means and what to do with the bytes held; here bytes are only moved.
+// Replays a tape: reads records from standard input, makes each one's call on one card, and writes the answer records to
+// standard output (docs/TAPE.md). The library tape has what a tape means and what to do with the bytes held; here bytes are
+// only moved.
 use libc::STDERR_FILENO;
 use libc::STDIN_FILENO;
 use libc::STDOUT_FILENO;
-use tape::Turn;
+use tape::Reply;
 use tape::input::Held;
 ghost use mathlib.Core.List.{List};
 ghost use Prim.Native.Nat.{ℕ, _≤_};
 ghost use lib.ListN.{length as ListN·length};
-ghost use Rattle.tape.specs.Pieces.{Lies};
-ghost use Rattle.replay.specs.Next.{Uses, Goes};
+ghost use Rattle.tape.specs.Inside.{Lies, Starts};
+ghost use Rattle.replay.specs.Inside.{Uses, Goes};
 
-// What a turn did: it used so many of the bytes held, wants more, or ends the tape.
+// What a round did: it used so many of the bytes held, wants more, or ends the tape.
 enum Done {
     Used(usize),
     More,
     Stop,
 }
 
-// What is held after a turn, or that the tape ends.
+// What is held after a round, or that the tape ends.
 enum Next {
     On(Held),
     Stop,
@@ -38,18 +39,18 @@ fn answer(state: &mut [u8], memory: &mut [u8], held: &[u8], ended: bool) -> Done
     ensures { λ r. ⌜ Uses r (now (held .entry)) ⌝ }
 {
     let mut out = [0u8; tape::MOST_ANSWER];
-    match tape::steps::turn(state, memory, held, ended, &mut out) {
-        Turn::Answered { used, written } => write(&out[..written], used),
-        Turn::Fault => {
+    match tape::steps::reply(state, memory, held, ended, &mut out) {
+        Reply::Answered { used, written } => write(&out[..written], used),
+        Reply::Fault => {
             io::write_all(STDOUT_FILENO, &out[..6]);
             Done::Stop
         }
-        Turn::End => Done::Stop,
-        Turn::More => Done::More,
+        Reply::End => Done::Stop,
+        Reply::More => Done::More,
     }
 }
 
-fn turn(state: &mut [u8], memory: &mut [u8], window: &mut [u8], held: Held) -> Next
+fn round(state: &mut [u8], memory: &mut [u8], window: &mut [u8], held: Held) -> Next
     requires { ⌜ Lies held (now window) ⌝ }
     ensures { λ r. ⌜ Goes r (now (window .exit)) ⌝ }
 {
@@ -62,31 +63,35 @@ fn turn(state: &mut [u8], memory: &mut [u8], window: &mut [u8], held: Held) -> N
             to,
             ended,
         }),
-        Done::More => Next::On(tape::input::more(STDIN_FILENO, window, held)),
+        Done::More => {
+            let read = tape::input::more(STDIN_FILENO, window, held);
+            let after = read.held; // a read that fails is the input's end
+            Next::On(after)
+        }
         Done::Stop => Next::Stop,
     }
 }
 
-// A proved loop has to end, and nothing says that a tape does: the turns are counted down from a number that no run uses up.
+// A proved loop has to end, and nothing says that a tape does: the rounds are counted down from a number that no run uses up.
 fn run(state: &mut [u8], memory: &mut [u8], window: &mut [u8]) {
     let mut held = Held {
         from: 0,
         to: 0,
         ended: false,
     };
-    let mut turns = u64::MAX;
-    while turns > 0 {
-        match turn(state, memory, window, held) {
+    let mut rounds = u64::MAX;
+    while rounds > 0 {
+        match round(state, memory, window, held) {
             Next::On(next) => held = next,
             Next::Stop => return,
         }
-        turns -= 1;
+        rounds -= 1;
     }
 }
 
-// Runs the tape over the first bytes of the memory.
+// Runs the tape over the first bytes of the memory, to which the card is reset: as many as the command line asks for.
 fn run_in(state: &mut [u8], memory: &mut [u8], length: usize)
-    requires { ⌜ length ≤ ListN·length (now memory) ⌝ }
+    requires { ⌜ Starts 1 length (now state) (now memory) ⌝ }
 {
     let mut window = io::large_buffer();
     run(state, &mut memory[..length], &mut window);

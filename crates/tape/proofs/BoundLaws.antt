@@ -27,7 +27,8 @@ use Rattle.rules.specs.declared.Answer.the-variants.{Done, Held, Refused}
 use Rattle.rules.specs.Contract.{bytesAfter}
 use Rattle.tape.specs.declared.Header.{Header}
 use Rattle.tape.specs.declared.Header.the-variants.{Record, Bad, Cut}
-use Rattle.tape.specs.Tape.{isMark, isKind, isGood, isLength, ackWrittenBy, writtenIn, writtenBy, answerHead, answerRecord, headerOf, callOf, memoryLeft, answerTo, Answers, badRecord, playBy, play}
+use Rattle.tape.specs.Tape.{isMark, isKind, isGood, isLength, ackWrittenBy, writtenIn, writtenBy, answerHead, answerRecord, headerOf, callOf, memoryLeft, answerTo, badRecord, playBy, play}
+use Rattle.tape.specs.Inside.{Answers}
 
 -- ---- a header is in its first six bytes
 

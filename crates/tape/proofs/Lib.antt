@@ -4,7 +4,7 @@ pub mod BoundLaws
 pub mod StepLaws
 pub mod Examples
 pub mod Buffers
-pub mod TurnLaws
+pub mod ReplyLaws
 pub mod PieceLaws
 pub mod InputLaws
 pub mod LengthLaws

@@ -10,7 +10,7 @@ use Rattle.rules.specs.Call.{Call}
 use Rattle.rules.specs.Contract.{bytesAfter}
 use Rattle.tape.specs.declared.Step.{Step}
 use Rattle.tape.specs.Tape.{stepOf, callOf, callAt, memoryLeft, answerTo, badRecord, playBy, play, played, records}
-use Rattle.tape.specs.Pieces.{Input, unread, readBy, next, past, turnsFor, runBy, run, HoweverCut}
+use Rattle.tape.specs.Pieces.{Input, unread, readBy, next, past, roundsFor, runBy, run, HoweverCut}
 use Rattle.tape.proofs.StepLaws.{isMore, whole-held, more-wanting, step-kept}
 
 -- ---- the answer records do not depend on the bound on their number, where it is at least the input's length
@@ -53,7 +53,7 @@ content i = i .held ++ flatten (i .pieces)
 abbrev pub Lawful : Input → Type 0
 Lawful i = i .ended ≡ true → i .pieces ≡ []
 
--- as many turns as it asks at most
+-- as many rounds as it asks at most
 abbrev pub cost : Input → ℕ
 cost i = length (i .held) + (length (flatten (i .pieces)) + length (i .pieces)) + cond (i .ended) 1 2
 
@@ -130,13 +130,13 @@ module _ (l m : List ℕ) (i : Input) (lawful : Lawful i) where
       ∙ ap₂ (λ (call : Call) (rest : List ℕ). answerTo l call ∷ played (bytesAfter l call) (memoryLeft l m call) rest)
       (whole-same k n s m (i .held) (flatten (i .pieces)) w) (past-content i (6 + s) w)
 
--- so many turns write the answer records of the whole input
-abbrev Writes : (turns : ℕ) → Type 0
+-- so many rounds write the answer records of the whole input
+abbrev Writes : (rounds : ℕ) → Type 0
 Writes t = (l m : List ℕ) (i : Input) → Lawful i → cost i ≤ t → run t l m i ≡ played l m (content i)
 
-turn-of : (t : ℕ) (l m : List ℕ) (i : Input) (x : Step) → stepOf (i .held) (i .ended) ≡ x → run (suc t) l m i ≡ runBy (run t) x l m i
+round-of : (t : ℕ) (l m : List ℕ) (i : Input) (x : Step) → stepOf (i .held) (i .ended) ≡ x → run (suc t) l m i ≡ runBy (run t) x l m i
 unfolding run
-turn-of t l m i x e = ap (λ (y : Step). runBy (run t) y l m i) e
+round-of t l m i x e = ap (λ (y : Step). runBy (run t) y l m i) e
 
 one-more : (t : ℕ) → Writes t → Writes (suc t)
 one-more t later l m i lawful c = by (stepOf (i .held) (i .ended)) refl
@@ -145,14 +145,14 @@ one-more t later l m i lawful c = by (stepOf (i .held) (i .ended)) refl
     by (Step.Whole k n s) e =
         let p : cost (past (6 + s) i) + (6 + s) ≡ cost i = past-cost i (6 + s) (whole-held (i .held) (i .ended) e .1) in
         let call : Call = callAt k n s m (i .held) in
-        turn-of t l m i (Step.Whole k n s) e
+        round-of t l m i (Step.Whole k n s) e
         ∙ ap (λ (x : List (List ℕ)). answerTo l call ∷ x) (later (bytesAfter l call) (memoryLeft l m call) (past (6 + s) i) lawful (omega arith))
         ∙ sym (played-whole l m i lawful e)
-    by Step.Fault e = turn-of t l m i Step.Fault e ∙ sym (played-known l m i lawful Step.Fault e refl)
-    by Step.End e = turn-of t l m i Step.End e ∙ sym (played-known l m i lawful Step.End e refl)
+    by Step.Fault e = round-of t l m i Step.Fault e ∙ sym (played-known l m i lawful Step.Fault e refl)
+    by Step.End e = round-of t l m i Step.End e ∙ sym (played-known l m i lawful Step.End e refl)
     by Step.More e =
         let p : suc (cost (next i)) ≡ cost i = next-cost i (more-wanting (i .held) (i .ended) e .1) in
-        turn-of t l m i Step.More e ∙ later l m (next i) (next-lawful i) (omega arith) ∙ ap (played l m) (next-content i)
+        round-of t l m i Step.More e ∙ later l m (next i) (next-lawful i) (omega arith) ∙ ap (played l m) (next-content i)
 
 run-played : (t : ℕ) → Writes t
 run-played zero l m i lawful c = absurd (let h = cost-least i in omega arith)
@@ -160,4 +160,4 @@ run-played (suc t) l m i lawful c = one-more t (run-played t) l m i lawful c
 
 pub however-cut : HoweverCut
 unfolding HoweverCut records
-however-cut memory ps turns h = run-played turns _ _ (unread ps) (λ e. absurd (true≢false (sym e))) (omega arith)
+however-cut memory ps rounds h = run-played rounds _ _ (unread ps) (λ e. absurd (true≢false (sym e))) (omega arith)

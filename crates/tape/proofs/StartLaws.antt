@@ -12,7 +12,7 @@ use borrow.Author.Tests.{eqb-true, eq-eqb, ne-eqb}
 use Rattle.wire.proofs.ScanLaws.{and-left, and-right}
 use Rattle.tape.specs.Audit.{starts}
 
--- ---- by the comparison's turns
+-- ---- by the comparison's passes
 
 pub starts-short : (r g : List ℕ) → length g < length r → starts r g ≡ false
 unfolding starts

@@ -58,7 +58,7 @@ From n k due g = (j : ℕ) × (k ≡ n + j) × First due g j
 
 here : (n k : ℕ) (due : List (List ℕ)) (g : List ℕ) → Verdict.differs n ≡ Verdict.differs k → Wrong due g → From n k due g
 unfolding flatten
-here n k due g e w = let s : n ≡ k = cc in (0, omega arith, record { within = omega arith; rest = g; before = refl; wrong = w })
+here n k due g e w = let s : n ≡ k = cc in (0, omega arith, record { most = omega arith; rest = g; before = refl; wrong = w })
 
 further : (n k : ℕ) (r : List ℕ) (rs : List (List ℕ)) (g : List ℕ) → starts r g ≡ true → From (suc n) k rs (drop (length r) g) → From n k (r ∷ rs) g
 unfolding flatten
@@ -66,11 +66,11 @@ further n k r rs g h f =
     let j : ℕ = f .0 in
     let e : k ≡ suc n + j = f .1 in
     let x : First rs (drop (length r) g) j = f .2 in
-    let i : j ≤ length rs = x .within in (
+    let i : j ≤ length rs = x .most in (
       suc j,
       omega arith,
       record {
-        within = omega arith;
+        most = omega arith;
         rest = x .rest;
         before = starts-split r g h ∙ ap (λ (l : List ℕ). r ++ l) (x .before) ∙ sym (append-assoc r (flatten (take j rs)) (x .rest));
         wrong = x .wrong;
@@ -116,5 +116,5 @@ differs-first memory calls answers n = (
       subst (λ (k : ℕ). First (records memory calls) answers k) (sym j) (f .2),
   λ f.
       let z : 0 + n ≡ n = omega arith in
-      first-then 0 n (records memory calls) answers (f .rest) (f .within) (f .before) (f .wrong) ∙ ap Verdict.differs z,
+      first-then 0 n (records memory calls) answers (f .rest) (f .most) (f .before) (f .wrong) ∙ ap Verdict.differs z,
 )

@@ -34,7 +34,8 @@ use Rattle.rules.proofs.Answers.{answered-not-done}
 use Rattle.rules.proofs.Tests.{passed-before}
 use Rattle.rules.specs.Bytes.{effectBytes}
 use Rattle.rules.specs.Contract.{Owes, bytesBy}
-use Rattle.tape.specs.Tape.{answerHead, answerRecord, answerTo, writtenBy, placed, Answers, completionSize, callOf, tapeAck, resets}
+use Rattle.tape.specs.Tape.{answerHead, answerRecord, answerTo, writtenBy, completionSize, callOf, tapeAck}
+use Rattle.tape.specs.Inside.{placed, Answers, resets}
 
 -- the head, then the first n of the bytes behind it
 module _ (r : Answer) (b : List ℕ) (n : ℕ) (within : n ≤ length b) where

@@ -1,5 +1,4 @@
 -- Document 01, "Replay tape (house)": the records of a tape, the answer to each, and the whole output. Assumes nothing.
-use mathlib.Core.Path.{_≡_}
 use mathlib.Core.Bool.{Bool, true, cond, _&&_, _||_}
 use mathlib.Core.List.{List, [], _∷_, _++_, flatten}
 use mathlib.Core.Option.{Option}
@@ -7,10 +6,9 @@ use Prim.Native.Nat.{ℕ, zero, suc, _+_, _/_, _%_}
 use lib.Dec.{eqb, ltb, leb}
 use lib.ListN.{length, take, drop}
 use Rattle.wire.specs.Le.{leAt}
-use Rattle.validate.specs.Accept.{accepts, memoryOk}
+use Rattle.validate.specs.Accept.{accepts}
 use Rattle.tables.specs.Card.{Card}
 use Rattle.tables.specs.State.{card}
-use Rattle.tables.specs.Layout.{stateSize}
 use Rattle.tables.specs.Commands.{Command, ackSize, commandOf}
 use Rattle.tables.specs.Reset.{zeros, resetBytes}
 use Rattle.rules.specs.Answer.{number, status, isDone}
@@ -125,24 +123,14 @@ answerTo l k =
 abbrev pub badRecord : List ℕ
 badRecord = 114 ∷ 107 ∷ 14 ∷ 0 ∷ 0 ∷ 0 ∷ []
 
--- the buffer `out` with the bytes written at its start
-abbrev pub placed : (bytes out : List ℕ) → List ℕ
-placed b out = b ++ drop (length b) out
-
--- The call k, on the state l, leaves the state l′, and `out′` of the buffer `out` with its answer record of n bytes at the start.
-pub record Answers (k : Call) (l out : List ℕ) (n : ℕ) (l′ out′ : List ℕ) : Type 0 where
-  pub count : n ≡ length (answerTo l k)
-  pub bytes : out′ ≡ placed (answerTo l k) out
-  pub state : l′ ≡ bytesAfter l k
-
 -- ---- the whole output
 
 -- the call of a whole record at the front of the input
 abbrev pub callAt : (kind number size : ℕ) → (m input : List ℕ) → Call
 callAt k n s m i = callOf k n (take s (drop headerSize i)) m
 
--- The answer records from a step on, where `more` gives those of what comes after its record: "A bad mark, kind or length .. or a cut
--- record gives 72 6B 0E 00 00 00 and ends. Clean end adds nothing." An input that has ended wants no more bytes.
+-- The answer records from a step on, where `more` gives those of what comes after its record: "A bad mark, kind or length ..
+-- or a cut record gives 72 6B 0E 00 00 00 and ends. Clean end adds nothing." An input that has ended wants no more bytes.
 abbrev pub playBy : (more : (l m input : List ℕ) → List (List ℕ)) → Step → (l m input : List ℕ) → List (List ℕ)
 playBy more (Step.Whole k n s) l m i =
     let call : Call = callAt k n s m i in
@@ -163,10 +151,6 @@ played l m i = play (length i) l m i
 -- the answer records of a tape on a card that is reset to a memory of that many zero bytes
 unfoldable pub records : (memory : ℕ) → (input : List ℕ) → List (List ℕ)
 records memory i = played (resetBytes memory) (zeros memory) i
-
--- a reset of the state l to a memory of so many bytes is answered 0
-abbrev pub resets : (l : List ℕ) → (memory : ℕ) → Bool
-resets l memory = eqb (length l) stateSize && memoryOk memory
 
 -- 02, M-106: "The program keeps its 4,096 bytes."
 abbrev pub tapeMemory : ℕ

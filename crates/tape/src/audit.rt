@@ -1,16 +1,17 @@
-// The audit of a tape of calls and a tape of answers, turn by turn, from the bytes of each that are held. What it finds:
-// specs/Audit.antt.
+// The audit of a tape of calls and a tape of answers, round by round, from the bytes of each that are held. What it finds:
+// specs/Inside.antt.
 use crate::Found;
 use crate::MOST_ANSWER;
-use crate::Turn;
-use crate::steps::turn;
+use crate::Reply;
+use crate::steps::reply;
 ghost use mathlib.Core.Path.{_≡_};
 ghost use mathlib.Core.Bool.{true, cond};
 ghost use Prim.Native.Nat.{_-_};
 ghost use lib.ListN.{length};
 ghost use Rattle.tape.specs.Tape.{stepOf};
-ghost use Rattle.tape.specs.Pieces.{turned};
-ghost use Rattle.tape.specs.Audit.{starts as Audit·starts, closing as Audit·closing, findingBy, findingOf, Finds};
+ghost use Rattle.tape.specs.Pieces.{replied};
+ghost use Rattle.tape.specs.Audit.{starts as Audit·starts};
+ghost use Rattle.tape.specs.Inside.{closing as Inside·closing, findingBy, findingOf, Finds};
 
 // The answers start with the record.
 fn starts(due: &[u8], given: &[u8]) -> bool
@@ -31,7 +32,7 @@ fn starts(due: &[u8], given: &[u8]) -> bool
 
 // No answer is due, and so many bytes of the answers are left.
 fn closing(later: u64, left: usize) -> Found
-    ensures { λ r. ⌜ r ≡ Audit·closing later left ⌝ }
+    ensures { λ r. ⌜ r ≡ Inside·closing later left ⌝ }
 {
     if left == 0 {
         return Found::Agrees;
@@ -40,7 +41,9 @@ fn closing(later: u64, left: usize) -> Found
 }
 
 fn judge_answer(used: usize, due: &[u8], given: &[u8]) -> Found
-    ensures { λ r. ⌜ r ≡ cond (Audit·starts (now (due .entry)) (now (given .entry))) (Found.Same used (length (now (due .entry)))) (Found.Differs 0) ⌝ }
+    ensures { λ r. ⌜ r
+        ≡ cond (Audit·starts (now (due .entry)) (now (given .entry)))
+        (Found.Same used (length (now (due .entry)))) (Found.Differs 0) ⌝ }
 {
     if starts(due, given) {
         return Found::Same {
@@ -53,7 +56,9 @@ fn judge_answer(used: usize, due: &[u8], given: &[u8]) -> Found
 
 // The answer to a bad record is the last that is due.
 fn judge_fault(due: &[u8], given: &[u8]) -> Found
-    ensures { λ r. ⌜ r ≡ cond (Audit·starts (now (due .entry)) (now (given .entry))) (Audit·closing 1 (length (now (given .entry)) - length (now (due .entry)))) (Found.Differs 0) ⌝ }
+    ensures { λ r. ⌜ r
+        ≡ cond (Audit·starts (now (due .entry)) (now (given .entry)))
+        (Inside·closing 1 (length (now (given .entry)) - length (now (due .entry)))) (Found.Differs 0) ⌝ }
 {
     if starts(due, given) {
         return closing(1, given.len() - due.len());
@@ -61,20 +66,22 @@ fn judge_fault(due: &[u8], given: &[u8]) -> Found
     Found::Differs { later: 0 }
 }
 
-// The turn on the calls held, its answer held against the answers.
+// The reply to the calls held, its answer held against the answers.
 fn judge(state: &mut [u8], memory: &mut [u8], calls: &[u8], ended: bool, given: &[u8]) -> Found
-    ensures { λ r. ⌜ Finds (findingBy true (now (state .entry)) (now (memory .entry)) (turned (stepOf (now (calls .entry)) ended) (now (state .entry)) (now (memory .entry)) (now (calls .entry))) (now (given .entry))) r (now (state .exit)) (now (memory .exit)) ⌝ }
+    ensures { λ r. ⌜ Finds (findingBy true (now (state .entry)) (now (memory .entry))
+        (replied (stepOf (now (calls .entry)) ended) (now (state .entry)) (now (memory .entry)) (now (calls .entry)))
+        (now (given .entry))) r (now (state .exit)) (now (memory .exit)) ⌝ }
 {
     let mut out = [0u8; MOST_ANSWER];
-    match turn(state, memory, calls, ended, &mut out) {
-        Turn::Answered { used, written } => judge_answer(used, &out[..written], given),
-        Turn::Fault => judge_fault(&out[..6], given),
-        Turn::End => closing(0, given.len()),
-        Turn::More => Found::Calls,
+    match reply(state, memory, calls, ended, &mut out) {
+        Reply::Answered { used, written } => judge_answer(used, &out[..written], given),
+        Reply::Fault => judge_fault(&out[..6], given),
+        Reply::End => closing(0, given.len()),
+        Reply::More => Found::Calls,
     }
 }
 
-// The turn that the bytes held of both tapes allow.
+// The round that the bytes held of both tapes allow.
 pub fn audit(
     state: &mut [u8],
     memory: &mut [u8],
@@ -83,7 +90,9 @@ pub fn audit(
     answers: &[u8],
     answers_ended: bool,
 ) -> Found
-    ensures { λ r. ⌜ Finds (findingOf (now (state .entry)) (now (memory .entry)) (now (calls .entry)) «calls_ended» (now (answers .entry)) «answers_ended») r (now (state .exit)) (now (memory .exit)) ⌝ }
+    ensures { λ r. ⌜ Finds (findingOf (now (state .entry)) (now (memory .entry))
+        (now (calls .entry)) «calls_ended» (now (answers .entry)) «answers_ended») r
+        (now (state .exit)) (now (memory .exit)) ⌝ }
 {
     let is_held = answers_ended | (MOST_ANSWER <= answers.len());
     if is_held {

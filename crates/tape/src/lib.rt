@@ -27,7 +27,9 @@ ghost use Rattle.rules.specs.Answer.{isDone};
 ghost use Rattle.rules.specs.Call.{Call};
 ghost use Rattle.rules.specs.Control.{commandAck};
 ghost use Rattle.rules.specs.Lists.{maybe};
-ghost use Rattle.tape.specs.Tape.{isMark, isKind, isLength, headerOf, ackWritten, answerHead, answerRecord, placed, badRecord, completionSize, callOf, memoryLeft, Answers, tapeAck, tapeMemory};
+ghost use Rattle.tape.specs.Tape.{isMark, isKind, isLength, headerOf, ackWritten, answerHead};
+ghost use Rattle.tape.specs.Tape.{answerRecord, badRecord, completionSize, callOf, memoryLeft, tapeAck};
+ghost use Rattle.tape.specs.Inside.{placed, Answers};
 
 const HEADER: usize = 6;
 
@@ -55,8 +57,8 @@ pub enum Header {
     Cut,
 }
 
-// What stands at the front of the input: a whole record with its kind, number and body length, a bad or a cut record, a clean end, or
-// too few bytes to tell.
+// What stands at the front of the input: a whole record with its kind, number and body length, a bad or a cut record, a clean
+// end, or too few bytes to tell.
 pub enum Step {
     Whole { kind: u8, number: u8, length: u16 },
     Fault,
@@ -64,17 +66,17 @@ pub enum Step {
     More,
 }
 
-// What a turn did: it answered a record, of `used` bytes of the input, by `written` bytes; it answered a fault by six, and the tape ends
-// there; it found the clean end; or more bytes are wanted.
-pub enum Turn {
+// What was done about the bytes held: a record, of `used` bytes of the input, was answered by `written` bytes; a fault was
+// answered by six, and the tape ends there; the clean end was found; or more bytes are wanted.
+pub enum Reply {
     Answered { used: usize, written: usize },
     Fault,
     End,
     More,
 }
 
-// What a turn of an audit finds: more bytes of the calls or of the answers are wanted; an answer as it is due, of so many bytes of each
-// tape; the tapes agree; or they differ, at the record due or so many records later.
+// What a round of an audit finds: more bytes of the calls or of the answers are wanted; an answer as it is due, of so many
+// bytes of each tape; the tapes agree; or they differ, at the record due or so many records later.
 pub enum Found {
     Calls,
     Answers,
@@ -202,7 +204,8 @@ fn completion_written(answer: Answer) -> usize
 
 fn answer_control(state: &mut [u8], body: &[u8], out: &mut [u8]) -> usize
     requires { ⌜ 135 ≤ length (now out) ⌝ }
-    ensures { λ r. ⌜ Answers (Call.control (now (body .entry)) (zeros tapeAck)) (now (state .entry)) (now (out .entry)) r (now (state .exit)) (now (out .exit)) ⌝ }
+    ensures { λ r. ⌜ Answers (Call.control (now (body .entry)) (zeros tapeAck))
+        (now (state .entry)) (now (out .entry)) r (now (state .exit)) (now (out .exit)) ⌝ }
 {
     let mut ack = [0u8; 129];
     let answer = commands::control::control(state, body, &mut ack);
@@ -218,8 +221,10 @@ fn answer_send(
     out: &mut [u8],
 ) -> usize
     requires { ⌜ 135 ≤ length (now out) ⌝ }
-    ensures { λ r. ⌜ Answers (Call.send number (now (body .entry)) (now (memory .entry))) (now (state .entry)) (now (out .entry)) r (now (state .exit)) (now (out .exit)) ⌝ }
-    ensures { λ _. ⌜ now (memory .exit) ≡ memoryLeft (now (state .entry)) (now (memory .entry)) (Call.send number (now (body .entry)) (now (memory .entry))) ⌝ }
+    ensures { λ r. ⌜ Answers (Call.send number (now (body .entry)) (now (memory .entry)))
+        (now (state .entry)) (now (out .entry)) r (now (state .exit)) (now (out .exit)) ⌝ }
+    ensures { λ _. ⌜ now (memory .exit)
+        ≡ memoryLeft (now (state .entry)) (now (memory .entry)) (Call.send number (now (body .entry)) (now (memory .entry))) ⌝ }
 {
     let answer = engine::send::post_send(state, memory, number as u32, body);
     put_bare(out, answer)
@@ -227,7 +232,8 @@ fn answer_send(
 
 fn answer_receive(state: &mut [u8], number: u8, body: &[u8], out: &mut [u8]) -> usize
     requires { ⌜ 135 ≤ length (now out) ⌝ }
-    ensures { λ r. ⌜ Answers (Call.receive number (now (body .entry))) (now (state .entry)) (now (out .entry)) r (now (state .exit)) (now (out .exit)) ⌝ }
+    ensures { λ r. ⌜ Answers (Call.receive number (now (body .entry)))
+        (now (state .entry)) (now (out .entry)) r (now (state .exit)) (now (out .exit)) ⌝ }
 {
     let answer = queues::post_receive(state, number as u32, body);
     put_bare(out, answer)
@@ -235,7 +241,8 @@ fn answer_receive(state: &mut [u8], number: u8, body: &[u8], out: &mut [u8]) -> 
 
 fn answer_poll(state: &mut [u8], number: u8, out: &mut [u8]) -> usize
     requires { ⌜ 135 ≤ length (now out) ⌝ }
-    ensures { λ r. ⌜ Answers (Call.poll number (zeros completionSize)) (now (state .entry)) (now (out .entry)) r (now (state .exit)) (now (out .exit)) ⌝ }
+    ensures { λ r. ⌜ Answers (Call.poll number (zeros completionSize))
+        (now (state .entry)) (now (out .entry)) r (now (state .exit)) (now (out .exit)) ⌝ }
 {
     let mut buffer = [0u8; 24];
     let answer = queues::poll(state, number as u32, &mut buffer);
@@ -245,7 +252,8 @@ fn answer_poll(state: &mut [u8], number: u8, out: &mut [u8]) -> usize
 
 fn answer_flush(state: &mut [u8], number: u8, out: &mut [u8]) -> usize
     requires { ⌜ 135 ≤ length (now out) ⌝ }
-    ensures { λ r. ⌜ Answers (Call.flush number) (now (state .entry)) (now (out .entry)) r (now (state .exit)) (now (out .exit)) ⌝ }
+    ensures { λ r. ⌜ Answers (Call.flush number)
+        (now (state .entry)) (now (out .entry)) r (now (state .exit)) (now (out .exit)) ⌝ }
 {
     let answer = queues::flush(state, number as u32);
     put_bare(out, answer)
@@ -261,8 +269,10 @@ fn answer_record(
     out: &mut [u8],
 ) -> usize
     requires { ⌜ 135 ≤ length (now out) ⌝ }
-    ensures { λ r. ⌜ Answers (callOf kind number (now (body .entry)) (now (memory .entry))) (now (state .entry)) (now (out .entry)) r (now (state .exit)) (now (out .exit)) ⌝ }
-    ensures { λ _. ⌜ now (memory .exit) ≡ memoryLeft (now (state .entry)) (now (memory .entry)) (callOf kind number (now (body .entry)) (now (memory .entry))) ⌝ }
+    ensures { λ r. ⌜ Answers (callOf kind number (now (body .entry)) (now (memory .entry)))
+        (now (state .entry)) (now (out .entry)) r (now (state .exit)) (now (out .exit)) ⌝ }
+    ensures { λ _. ⌜ now (memory .exit)
+        ≡ memoryLeft (now (state .entry)) (now (memory .entry)) (callOf kind number (now (body .entry)) (now (memory .entry))) ⌝ }
 {
     match kind {
         CONTROL => answer_control(state, body, out),

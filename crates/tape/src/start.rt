@@ -1,12 +1,12 @@
-// The card of a tape: its reset, and its memory's length as an argument says it.
+// The card of a tape: its reset, and its memory's length as the command line asks for it.
 use rules::Answer;
 ghost use mathlib.Core.Path.{_≡_};
 ghost use mathlib.Core.Bool.{cond};
 ghost use Prim.Native.Nat.{_≤_};
 ghost use lib.ListN.{length};
-ghost use Rattle.tables.specs.Reset.{resetBytes};
-ghost use Rattle.tape.specs.Length.{mostLength, isDigit, lengthOf};
-ghost use Rattle.tape.specs.Tape.{resets};
+ghost use Rattle.tables.specs.Reset.{zeros, resetBytes};
+ghost use Rattle.tape.specs.Length.{mostLength, isDigit, lengthOf, Asks};
+ghost use Rattle.tape.specs.Inside.{resets};
 
 // The longest memory that a program takes.
 const MOST_LENGTH: u64 = 1048576;
@@ -14,7 +14,8 @@ const MOST_LENGTH: u64 = 1048576;
 // Resets the card to a memory of the given length; false, with the state as it was, where no reset takes it.
 pub fn start(state: &mut [u8], memory: u64) -> bool
     ensures { λ r. ⌜ r ≡ resets (now (state .entry)) memory ⌝ }
-    ensures { λ _. ⌜ now (state .exit) ≡ cond (resets (now (state .entry)) memory) (resetBytes memory) (now (state .entry)) ⌝ }
+    ensures { λ _. ⌜ now (state .exit)
+        ≡ cond (resets (now (state .entry)) memory) (resetBytes memory) (now (state .entry)) ⌝ }
 {
     match queues::reset(state, memory) {
         Answer::Done(_) => true,
@@ -50,8 +51,10 @@ pub fn memory_length(text: &[u8]) -> u64
     value
 }
 
-// The memory's length that argument i, the last, asks for, 4,096 where there is none; 0 where it asks for none that the programs take.
+// The memory's length that word i, the last, asks for, 4,096 where there is none; 0 where it asks for none that the programs
+// take.
 pub fn length_asked(i: usize) -> u64
+    ensures { λ r. ⌜ Asks i r ⌝ }
     ensures { λ r. ⌜ r ≤ mostLength ⌝ }
 {
     let count = os::arg_count();
@@ -69,6 +72,7 @@ pub fn length_asked(i: usize) -> u64
 // The longest memory that a program takes, all zeros.
 pub fn memory() -> [u8; 1048576]
     ensures { λ r. ⌜ 1048576 ≡ length r ⌝ }
+    ensures { λ r. ⌜ r ≡ zeros 1048576 ⌝ }
 {
     [0; 1048576]
 }

@@ -1,8 +1,9 @@
-// The tape step by step, from the bytes of the input that are held. What a step is: specs/Tape.antt; a turn: specs/Pieces.antt.
+// The tape step by step, from the bytes of the input that are held. What a step is: specs/Tape.antt; a reply to it:
+// specs/Pieces.antt.
 use crate::Header;
 use crate::MOST_ANSWER;
+use crate::Reply;
 use crate::Step;
-use crate::Turn;
 use crate::answer_record;
 use crate::bad_record;
 use crate::read_header;
@@ -11,7 +12,8 @@ ghost use mathlib.Core.Bool.{cond};
 ghost use Prim.Native.Nat.{_+_, _≤_};
 ghost use lib.ListN.{length as ListN·length};
 ghost use Rattle.tape.specs.Tape.{lacking as Tape·lacking, stepBy, stepOf};
-ghost use Rattle.tape.specs.Pieces.{Leaves, turned};
+ghost use Rattle.tape.specs.Pieces.{replied};
+ghost use Rattle.tape.specs.Inside.{Leaves};
 
 const HEADER: usize = 6;
 
@@ -67,7 +69,7 @@ fn step(held: &[u8], ended: bool) -> Step
     step_by(header, held.len(), ended)
 }
 
-// The turn of a whole record at the front of the bytes held.
+// The reply to a whole record at the front of the bytes held.
 fn answer_whole(
     state: &mut [u8],
     memory: &mut [u8],
@@ -76,25 +78,29 @@ fn answer_whole(
     number: u8,
     length: u16,
     out: &mut [u8],
-) -> Turn
+) -> Reply
     requires { ⌜ (6 + length ≤ ListN·length (now held)) × (135 ≤ ListN·length (now out)) ⌝ }
-    ensures { λ r. ⌜ Leaves (turned (Step.Whole kind number length) (now (state .entry)) (now (memory .entry)) (now (held .entry))) (now (out .entry)) r (now (state .exit)) (now (memory .exit)) (now (out .exit)) ⌝ }
+    ensures { λ r. ⌜ Leaves
+        (replied (Step.Whole kind number length) (now (state .entry)) (now (memory .entry)) (now (held .entry)))
+        (now (out .entry)) r (now (state .exit)) (now (memory .exit)) (now (out .exit)) ⌝ }
 {
     let from = HEADER;
     let used = HEADER + length as usize;
     let written = answer_record(state, memory, kind, number, &held[from..used], out);
-    Turn::Answered { used, written }
+    Reply::Answered { used, written }
 }
 
-// The turn that the bytes held allow. What is to be written stands at the start of `out`.
-pub fn turn(
+// The reply to what stands at the front of the bytes held. What is to be written stands at the start of `out`.
+pub fn reply(
     state: &mut [u8],
     memory: &mut [u8],
     held: &[u8],
     ended: bool,
     out: &mut [u8; MOST_ANSWER],
-) -> Turn
-    ensures { λ r. ⌜ Leaves (turned (stepOf (now (held .entry)) ended) (now (state .entry)) (now (memory .entry)) (now (held .entry))) (now (out .entry)) r (now (state .exit)) (now (memory .exit)) (now (out .exit)) ⌝ }
+) -> Reply
+    ensures { λ r. ⌜ Leaves
+        (replied (stepOf (now (held .entry)) ended) (now (state .entry)) (now (memory .entry)) (now (held .entry)))
+        (now (out .entry)) r (now (state .exit)) (now (memory .exit)) (now (out .exit)) ⌝ }
 {
     match step(held, ended) {
         Step::Whole {
@@ -104,9 +110,9 @@ pub fn turn(
         } => answer_whole(state, memory, held, kind, number, length, out),
         Step::Fault => {
             bad_record(out);
-            Turn::Fault
+            Reply::Fault
         }
-        Step::End => Turn::End,
-        Step::More => Turn::More,
+        Step::End => Reply::End,
+        Step::More => Reply::More,
     }
 }

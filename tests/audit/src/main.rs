@@ -3,10 +3,12 @@
 //!
 //! usage: audits files PROGRAM FOLDER WORK     answers as they are due, changed, cut, extended, without a record; tapes swapped
 //!        audits pieces PROGRAM FOLDER WORK    both tapes through named pipes in odd pieces
+//!        audits failing PROGRAM CALLS ANSWERS reads that fail, of tapes that agree and are both longer than 65,536 bytes
 //!
 //! WORK is a folder to write to.
 
 mod changes;
+mod failing;
 mod pipes;
 
 use reference::replay::replay;
@@ -21,8 +23,9 @@ fn main() -> ExitCode {
     let result = match words[..] {
         ["files", program, folder, work] => over_files(program, Path::new(folder), Path::new(work)),
         ["pieces", program, folder, work] => over_pipes(program, Path::new(folder), Path::new(work)),
+        ["failing", program, calls, answers] => over_failures(program, calls, answers),
         _ => {
-            eprintln!("usage: audits files|pieces PROGRAM FOLDER WORK");
+            eprintln!("usage: audits files|pieces PROGRAM FOLDER WORK, audits failing PROGRAM CALLS ANSWERS");
             return ExitCode::from(2);
         }
     };
@@ -113,4 +116,30 @@ fn over_pipes(program: &str, folder: &Path, work: &Path) -> io::Result<(usize, u
     }
     println!("{runs} audits, {wrong} wrong");
     Ok((runs, wrong))
+}
+
+/// Nothing is printed where a read fails before the verdict; a read that is not made can't fail.
+fn over_failures(program: &str, calls: &str, answers: &str) -> io::Result<(usize, usize)> {
+    use failing::{ANSWERS, AT_ONCE, CALLS, IN_THE_MIDDLE, NEVER};
+    failing::close_others();
+    let runs = [
+        ("calls, never", [calls, answers], CALLS, NEVER, "agrees\n"),
+        ("answers, never", [calls, answers], ANSWERS, NEVER, "agrees\n"),
+        ("calls, at once", [calls, answers], CALLS, AT_ONCE, ""),
+        ("answers, at once", [calls, answers], ANSWERS, AT_ONCE, ""),
+        ("calls, in the middle", [calls, answers], CALLS, IN_THE_MIDDLE, ""),
+        ("answers, in the middle", [calls, answers], ANSWERS, IN_THE_MIDDLE, ""),
+        ("calls, behind the verdict", [calls, calls], CALLS, IN_THE_MIDDLE, "0\n"),
+        ("answers, behind the verdict", [calls, calls], ANSWERS, IN_THE_MIDDLE, "0\n"),
+    ];
+    let mut wrong = 0;
+    for (what, files, fd, lengths, wanted) in &runs {
+        let said = failing::audit(program, *files, *fd, lengths.clone())?;
+        if said != *wanted {
+            println!("DIFFERS {what}: {said:?} for {wanted:?}");
+            wrong += 1;
+        }
+    }
+    println!("{} audits, {wrong} wrong", runs.len());
+    Ok((runs.len(), wrong))
 }

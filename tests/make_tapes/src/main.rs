@@ -57,15 +57,31 @@ fn tapes() -> BTreeMap<String, (Vec<u8>, Vec<u8>)> {
 
 type Tapes = BTreeMap<String, (Vec<u8>, Vec<u8>)>;
 
-/// What the gate runs the audit program on, and what it must print: a tape that is longer than what the program holds of one, with its answers.
+/// What the gate runs the audit program on, and what it must print: a tape that is longer than what the program holds of one, with its answers, of
+/// which a bit of the last but one is another.
 fn audit_files(audit: &Path, tapes: &Tapes) -> [(PathBuf, Vec<u8>); 3] {
     let (calls, answers) = &tapes["mixed-1"];
+    let starts = starts(answers);
+    let changed = starts.len() - 2;
+    let mut answers = answers.clone();
+    answers[starts[changed] + 2] ^= 1;
     let data = audit.join("data");
     [
         (data.join("calls.tape"), calls.clone()),
-        (data.join("answers.tape"), answers.clone()),
-        (audit.join("stdout"), b"agrees\n".to_vec()),
+        (data.join("answers.tape"), answers),
+        (audit.join("stdout"), format!("{changed}\n").into_bytes()),
     ]
+}
+
+/// Where each answer record starts.
+fn starts(answers: &[u8]) -> Vec<usize> {
+    let mut starts = Vec::new();
+    let mut at = 0;
+    while at < answers.len() {
+        starts.push(at);
+        at += 6 + usize::from(answers[at + 4]) + 256 * usize::from(answers[at + 5]);
+    }
+    starts
 }
 
 fn write_files(folder: &Path, audit: &Path, tapes: &Tapes) -> io::Result<usize> {

@@ -1,5 +1,5 @@
 use denote.Ref.{now}
-use Rattle.audit.proofs.PlaceLaws.{finds-used}
+use Rattle.audit.proofs.RoundLaws.{finds-used}
 use borrow.Author.Needs.{needs}
 use Rattle.audit.proofs.find.Statement.{statement}
 use Rattle.audit.proofs.find.Tie as tie
@@ -36,7 +36,7 @@ returns c =
     let e = c .before .before .before .before .before .before .before .before .before .before .before .before .before .before .before in
     let a = e .args in
     let f = c .before .before .before .before .audit .ensures in
-    (f, finds-used (now (a .state)) (now (a .memory)) (now (a .calls)) (now (a .answers)) (a .place) (e .pre) f)
+    (f, finds-used (now (a .state)) (now (a .memory)) (now (a .calls)) (now (a .answers)) (a .position) (e .pre) f)
 
 pub find-spec : {M : Type 1} → statement M
 find-spec =

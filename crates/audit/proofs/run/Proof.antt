@@ -1,31 +1,36 @@
-use mathlib.Core.Path.{_≡_}
+-- The invariant: where the program stands, by `Stand`; its number and the rounds left stay below the largest number.
+use mathlib.Core.Path.{_≡_, refl}
 use Prim.Native.Nat.{_+_, _≤_}
 use native.Mathlib.Omega.{arith}
 use lib.ListN.{length}
-use Rattle.audit.specs.Place.{Stands}
+use Rattle.audit.specs.Inside.{Stands}
+use Rattle.audit.proofs.RunLaws.{Stand, stand-start, stand-on, stand-done, stand-out}
 use borrow.Author.Needs.{needs}
 use Rattle.audit.proofs.run.Statement.{statement}
 use Rattle.audit.proofs.run.Tie as tie
 
 abbrev Inv-loop : tie.InvT-loop
-Inv-loop state₀ memory₀ calls₀ answers₀ files place₀ turns₀ state memory calls answers place turns =
+Inv-loop state₀ memory₀ calls₀ answers₀ files position₀ rounds₀ state memory calls answers position rounds =
     (length state ≡ length state₀) × (length memory ≡ length memory₀) × (length calls ≡ length calls₀) × (length answers ≡ length answers₀)
-    × Stands place calls answers × (place .number + turns ≤ 18446744073709551615)
+    × Stands position calls answers × (position .number + rounds ≤ 18446744073709551615)
+    × Stand files (length memory₀) state memory calls answers position rounds
 
 abbrev μ-loop : tie.MeasureT-loop
-μ-loop state₀ memory₀ calls₀ answers₀ files place₀ turns₀ state memory calls answers place turns = turns
+μ-loop state₀ memory₀ calls₀ answers₀ files position₀ rounds₀ state memory calls answers position rounds = rounds
 
 loop-holds : tie.Need-loop-holds Inv-loop μ-loop
-loop-holds c = search needs
+loop-holds c =
+    let e = c .before .before .before .before in
+    (refl, refl, refl, refl, search needs, search needs, stand-start (e .args .files) _ _ _ _ _ (e .pre .1 .0) (e .pre .1 .1))
 
-turn-requires : tie.Need-turn-requires Inv-loop μ-loop
-turn-requires c κs = search needs
+round-requires : tie.Need-round-requires Inv-loop μ-loop
+round-requires c κs = search needs
 
 enum-known-next : tie.Need-enum-known-next Inv-loop μ-loop
 enum-known-next c = search needs
 
-enum-known-verdict : tie.Need-enum-known-verdict Inv-loop μ-loop
-enum-known-verdict c = search needs
+enum-known-report : tie.Need-enum-known-report Inv-loop μ-loop
+enum-known-report c = search needs
 
 same-length : tie.Need-same-length Inv-loop μ-loop
 same-length c = search needs
@@ -40,10 +45,10 @@ same-length-4 : tie.Need-same-length-4 Inv-loop μ-loop
 same-length-4 c = search needs
 
 returns : tie.Need-returns Inv-loop μ-loop
-returns c = search needs
+returns c = stand-done (c .before .before .before .before .before .before .before .before .before .before .before .before .before .before .before .before .before .loop .inv .6) (rw (c .before .report .given .1) at (c .before .before .before .before .before .before .before .before .before .before .before .round .ensures .0))
 
-sub-turns : tie.Need-sub-turns Inv-loop μ-loop
-sub-turns c = search needs
+sub-rounds : tie.Need-sub-rounds Inv-loop μ-loop
+sub-rounds c = search needs
 
 loop-less : tie.Need-loop-less Inv-loop μ-loop
 loop-less c = search needs
@@ -52,8 +57,15 @@ loop-again : tie.Need-loop-again Inv-loop μ-loop
 loop-again c =
     let d = c .before .before .before .before .before .before .before .before .before .before .before in
     let i = d .before .before .before .before .before .before .loop .inv .5 in
-    let g = rw (c .before .next .given .1) at (d .turn .ensures .1) in
-    (search needs, search needs, search needs, search needs, g .0, let n = g .1 in omega arith)
+    let g = rw (c .before .next .given .1) at (d .round .ensures .1) in (
+      search needs,
+      search needs,
+      search needs,
+      search needs,
+      g .0,
+      let n = g .1 in omega arith,
+      stand-on (c .before .before .before .before .before .before .before .before .before .before .before .before .before .before .before .before .before .loop .inv .6) (rw (c .before .next .given .1) at (d .round .ensures .0)) _ (omega arith),
+    )
 
 same-length-5 : tie.Need-same-length-5 Inv-loop μ-loop
 same-length-5 c = search needs
@@ -68,7 +80,7 @@ same-length-8 : tie.Need-same-length-8 Inv-loop μ-loop
 same-length-8 c = search needs
 
 returns-2 : tie.Need-returns-2 Inv-loop μ-loop
-returns-2 c = search needs
+returns-2 c = stand-out (c .before .loop .inv .6) (omega arith)
 
 pub run-spec : {M : Type 1} → statement M
 run-spec =
@@ -77,15 +89,15 @@ run-spec =
     Inv-loop
     μ-loop
     loop-holds
-    turn-requires
+    round-requires
     enum-known-next
-    enum-known-verdict
+    enum-known-report
     same-length
     same-length-2
     same-length-3
     same-length-4
     returns
-    sub-turns
+    sub-rounds
     loop-less
     loop-again
     same-length-5

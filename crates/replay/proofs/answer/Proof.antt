@@ -4,25 +4,25 @@ use native.Mathlib.Omega.{arith}
 use lib.ListN.{length, length-take}
 use denote.Ref.{now}
 use Rattle.tape.specs.Tape.{stepOf}
-use Rattle.tape.proofs.TurnLaws.{answered-within, leaves-length}
+use Rattle.tape.proofs.ReplyLaws.{answered-within, leaves-length}
 use borrow.Author.Needs.{needs}
 use Rattle.replay.proofs.answer.Statement.{statement}
 use Rattle.replay.proofs.answer.Tie as tie
 
--- the buffer after the turn
-room : (c : tie.After-turn) → length (c .turn .last .1 .1 .1 .1 .0) ≡ 135
+-- the buffer after the reply
+room : (c : tie.After-reply) → length (c .reply .last .1 .1 .1 .1 .0) ≡ 135
 room c =
     let a = c .before .before .before .before .before .before .before .args in
-    leaves-length (stepOf (now (a .held)) (a .ended)) (now (a .state)) (now (a .memory)) (now (a .held)) (c .turn .ensures) refl
+    leaves-length (stepOf (now (a .held)) (a .ended)) (now (a .state)) (now (a .memory)) (now (a .held)) (c .reply .ensures) refl
 
 -- an answered record and its answer
 within : (c : tie.After-used) → (c .used .given .0 .0 ≤ length (now (c .before .before .before .before .before .before .before .before .before .before .before .before .before .args .held))) × (c .used .given .0 .1 .0 ≤ 135)
 within c =
     let a = c .before .before .before .before .before .before .before .before .before .before .before .before .before .args in
-    answered-within (now (a .held)) (a .ended) (now (a .state)) (now (a .memory)) (sym (c .before .before .before .before .before .before .turn .ensures .says) ∙ c .used .given .1)
+    answered-within (now (a .held)) (a .ended) (now (a .state)) (now (a .memory)) (sym (c .before .before .before .before .before .before .reply .ensures .says) ∙ c .used .given .1)
 
-turn-requires : tie.Need-turn-requires
-turn-requires c κs = search needs
+reply-requires : tie.Need-reply-requires
+reply-requires c κs = search needs
 
 enum-known-used : tie.Need-enum-known-used
 enum-known-used c = search needs
@@ -94,7 +94,7 @@ pub answer-spec : {M : Type 1} → statement M
 answer-spec =
     tie.close
     (tie.spec
-    turn-requires
+    reply-requires
     enum-known-used
     array-share-prefix-out
     slice-aggregate-write

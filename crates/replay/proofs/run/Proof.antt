@@ -1,21 +1,21 @@
 use mathlib.Core.Path.{_≡_}
 use lib.ListN.{length}
-use Rattle.tape.specs.Pieces.{Lies}
+use Rattle.tape.specs.Inside.{Lies}
 use borrow.Author.Needs.{needs}
 use Rattle.replay.proofs.run.Statement.{statement}
 use Rattle.replay.proofs.run.Tie as tie
 
 abbrev Inv-loop : tie.InvT-loop
-Inv-loop state₀ memory₀ window₀ held₀ turns₀ state memory window held turns = (length state ≡ length state₀) × (length memory ≡ length memory₀) × (length window ≡ length window₀) × Lies held window
+Inv-loop state₀ memory₀ window₀ held₀ rounds₀ state memory window held rounds = (length state ≡ length state₀) × (length memory ≡ length memory₀) × (length window ≡ length window₀) × Lies held window
 
 abbrev μ-loop : tie.MeasureT-loop
-μ-loop state₀ memory₀ window₀ held₀ turns₀ state memory window held turns = turns
+μ-loop state₀ memory₀ window₀ held₀ rounds₀ state memory window held rounds = rounds
 
 loop-holds : tie.Need-loop-holds Inv-loop μ-loop
 loop-holds c = search needs
 
-turn-requires : tie.Need-turn-requires Inv-loop μ-loop
-turn-requires c κs = search needs
+round-requires : tie.Need-round-requires Inv-loop μ-loop
+round-requires c κs = search needs
 
 enum-known-next : tie.Need-enum-known-next Inv-loop μ-loop
 enum-known-next c = search needs
@@ -35,14 +35,14 @@ same-length-3 c = search needs
 returns : tie.Need-returns Inv-loop μ-loop
 returns c = search needs
 
-sub-turns : tie.Need-sub-turns Inv-loop μ-loop
-sub-turns c = search needs
+sub-rounds : tie.Need-sub-rounds Inv-loop μ-loop
+sub-rounds c = search needs
 
 loop-less : tie.Need-loop-less Inv-loop μ-loop
 loop-less c = search needs
 
 loop-again : tie.Need-loop-again Inv-loop μ-loop
-loop-again c = (search needs, search needs, search needs, rw (c .before .next .given .1) at (c .before .before .before .before .before .before .before .before .before .turn .ensures))
+loop-again c = (search needs, search needs, search needs, rw (c .before .next .given .1) at (c .before .before .before .before .before .before .before .before .before .round .ensures))
 
 same-length-4 : tie.Need-same-length-4 Inv-loop μ-loop
 same-length-4 c = search needs
@@ -63,14 +63,14 @@ run-spec =
     Inv-loop
     μ-loop
     loop-holds
-    turn-requires
+    round-requires
     enum-known-next
     enum-told
     same-length
     same-length-2
     same-length-3
     returns
-    sub-turns
+    sub-rounds
     loop-less
     loop-again
     same-length-4

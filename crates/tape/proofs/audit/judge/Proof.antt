@@ -5,27 +5,27 @@ use lib.ListN.{length, length-take}
 use denote.Ref.{now}
 use Rattle.tape.specs.declared.Found.{Found}
 use Rattle.tape.specs.Tape.{stepOf}
-use Rattle.tape.proofs.TurnLaws.{answered-within, leaves-length}
+use Rattle.tape.proofs.ReplyLaws.{answered-within, leaves-length}
 use Rattle.tape.proofs.FoundLaws.{found-answered, found-fault, found-end, found-more}
 use borrow.Author.Needs.{needs}
 use Rattle.tape.proofs.audit.judge.Statement.{statement}
 use Rattle.tape.proofs.audit.judge.Tie as tie
 
--- the buffer after the turn
-room : (c : tie.After-turn) → length (c .turn .last .1 .1 .1 .1 .0) ≡ 135
+-- the buffer after the reply
+room : (c : tie.After-reply) → length (c .reply .last .1 .1 .1 .1 .0) ≡ 135
 room c =
     let a = c .before .before .before .before .before .before .before .before .args in
-    leaves-length (stepOf (now (a .calls)) (a .ended)) (now (a .state)) (now (a .memory)) (now (a .calls)) (c .turn .ensures) refl
+    leaves-length (stepOf (now (a .calls)) (a .ended)) (now (a .state)) (now (a .memory)) (now (a .calls)) (c .reply .ensures) refl
 
 -- the answer fits it
 within : (c : tie.After-used) → c .used .given .0 .1 .0 ≤ 135
 within c =
     let a = c .before .before .before .before .before .before .before .before .before .before .before .before .before .before .args in
     answered-within (now (a .calls)) (a .ended) (now (a .state)) (now (a .memory))
-    (sym (c .before .before .before .before .before .before .turn .ensures .says) ∙ c .used .given .1) .1
+    (sym (c .before .before .before .before .before .before .reply .ensures .says) ∙ c .used .given .1) .1
 
-turn-requires : tie.Need-turn-requires
-turn-requires c κs = search needs
+reply-requires : tie.Need-reply-requires
+reply-requires c κs = search needs
 
 enum-known-used : tie.Need-enum-known-used
 enum-known-used c = search needs
@@ -74,7 +74,7 @@ returns c =
     let d = c .before .before .before .before .before .before .before .before .before in
     let a = d .before .before .before .before .before .before .before .before .args in
     found-answered (now (a .given)) (c .judge-answer .result) (stepOf (now (a .calls)) (a .ended)) (now (a .state)) (now (a .memory)) (now (a .calls))
-    (d .turn .ensures) (c .before .before .before .used .given .1) (c .judge-answer .ensures)
+    (d .reply .ensures) (c .before .before .before .used .given .1) (c .judge-answer .ensures)
 
 same-length-3 : tie.Need-same-length-3
 same-length-3 c = search needs
@@ -87,7 +87,7 @@ returns-2 c =
     let d = c .before .before .before .before .before .before .before .before in
     let a = d .before .before .before .before .before .before .before .before .args in
     found-fault (now (a .given)) (c .judge-fault .result) (stepOf (now (a .calls)) (a .ended)) (now (a .state)) (now (a .memory)) (now (a .calls))
-    (d .turn .ensures) (c .before .before .enum-told .given .1) (c .judge-fault .ensures)
+    (d .reply .ensures) (c .before .before .enum-told .given .1) (c .judge-fault .ensures)
 
 same-length-5 : tie.Need-same-length-5
 same-length-5 c = search needs
@@ -100,7 +100,7 @@ returns-3 c =
     let d = c .before .before .before .before .before .before .before in
     let a = d .before .before .before .before .before .before .before .before .args in
     found-end (now (a .given)) (c .closing .result) (stepOf (now (a .calls)) (a .ended)) (now (a .state)) (now (a .memory)) (now (a .calls))
-    (d .turn .ensures) (c .before .enum-told2 .given .1) (c .closing .ensures)
+    (d .reply .ensures) (c .before .enum-told2 .given .1) (c .closing .ensures)
 
 same-length-7 : tie.Need-same-length-7
 same-length-7 c = search needs
@@ -113,13 +113,13 @@ returns-4 c =
     let d = c .before .before .before .before .before .before in
     let a = d .before .before .before .before .before .before .before .before .args in
     found-more (now (a .given)) Found.Calls (stepOf (now (a .calls)) (a .ended)) (now (a .state)) (now (a .memory)) (now (a .calls))
-    (d .turn .ensures) (c .enum-told3 .given .1) refl
+    (d .reply .ensures) (c .enum-told3 .given .1) refl
 
 pub judge-spec : {M : Type 1} → statement M
 judge-spec =
     tie.close
     (tie.spec
-    turn-requires
+    reply-requires
     enum-known-used
     array-share-prefix-out
     slice-aggregate-judge-answer

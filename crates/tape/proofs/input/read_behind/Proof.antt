@@ -1,11 +1,39 @@
+-- The event is the call's own; what it gave lies behind the bytes kept, which it did not touch.
 use native.Mathlib.Omega.{arith}
-use Prim.Native.Nat.{_-_}
+use mathlib.Core.Path.{_≡_}
+use mathlib.Core.Bool.{Bool}
+use Prim.Native.Nat.{_+_, _-_, _≤_}
 use denote.Ref.{now}
-use lib.ListN.{length, length-take, length-drop}
-use borrow.Rule.Slice.PartMut.{take-put}
+use lib.IntN.{pos}
+use lib.Signed.{ltZ}
+use lib.ListN.{length, take, drop, length-take, length-drop}
+use mir.Syntax.{w64}
+use mir.Val.{toZ, ofZ}
+use mir.Facts.{toZ-ofZ}
+use borrow.Rule.Slice.PartMut.{putMid, take-put}
+use Rattle.tape.specs.System.{Event, by-call}
+use Rattle.tape.specs.Inside.{Gives}
+use Rattle.tape.proofs.InputLaws.{gives-by}
 use borrow.Author.Needs.{needs}
 use Rattle.tape.proofs.input.read_behind.Statement.{statement}
 use Rattle.tape.proofs.input.read_behind.Tie as tie
+
+-- what both ways out return
+gave : (c : tie.After-count) {failed : Bool} → ltZ (toZ w64 (ofZ w64 (c .before .before .before .before .before .read .result))) (pos 0) ≡ failed
+    → let a = c .before .before .before .before .before .before .before .before in
+    let w = putMid (a .args .kept) (length (now (a .args .window)) - a .args .kept) (now (a .args .window)) (c .before .before .before .before .before .read .last .1 .0) in
+    (a .args .kept + c .count .result ≤ length w)
+    × ((take (a .args .kept) w ≡ take (a .args .kept) (now (a .args .window))) × Gives (a .args .fd) (drop (a .args .kept) w) (c .count .result) failed)
+gave c flag =
+    let a = c .before .before .before .before .before .before .before .before in
+    let r = c .before .before .before .before .before .read in (
+      let h = simp (length-take, length-drop) at (c .count .ensures .0 .0) in omega arith,
+      (
+        take-put (a .args .kept) (length (now (a .args .window)) - a .args .kept) (now (a .args .window)) (r .last .1 .0) (a .pre),
+        gives-by (a .args .fd) (r .result) (toZ-ofZ {w = w64} {z = r .result} (record { sfits = r .ok })) _ (c .count .result) _ _ (by-call (Event.read _ _ _)) (r .ensures)
+            (simp (length-take, length-drop) (omega arith)) (c .count .ensures .1) flag,
+      ),
+    )
 
 sub-read : tie.Need-sub-read
 sub-read c = search needs
@@ -35,11 +63,13 @@ same-length : tie.Need-same-length
 same-length c = search needs
 
 returns : tie.Need-returns
-returns c = (
-  let h = simp (length-take, length-drop) at (c .count .ensures .0 .0) in omega arith,
-  let a = c .before .before .before .before .before .before .before .before in
-      take-put (a .args .kept) (length (now (a .args .window)) - a .args .kept) (now (a .args .window)) (c .before .before .before .before .before .read .last .1 .0) (a .pre),
-)
+returns c = gave (c .before) (c .if1 .taken)
+
+same-length-2 : tie.Need-same-length-2
+same-length-2 c = search needs
+
+returns-2 : tie.Need-returns-2
+returns-2 c = gave (c .before) (c .if1 .left)
 
 pub read-behind-spec : {M : Type 1} → statement M
 read-behind-spec =
@@ -54,4 +84,6 @@ read-behind-spec =
     part-count-end
     count-requires
     same-length
-    returns)
+    returns
+    same-length-2
+    returns-2)

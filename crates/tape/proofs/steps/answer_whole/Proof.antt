@@ -1,7 +1,7 @@
 use mathlib.Core.Path.{_≡_, ap}
 use Prim.Native.Nat.{_+_, _-_}
 use native.Mathlib.Omega.{arith}
-use Rattle.tape.specs.declared.Turn.{Turn}
+use Rattle.tape.specs.declared.Reply.{Reply}
 use borrow.Author.Needs.{needs}
 use Rattle.tape.proofs.steps.answer_whole.Statement.{statement}
 use Rattle.tape.proofs.steps.answer_whole.Tie as tie
@@ -36,7 +36,7 @@ returns c =
     let a = c .before .before .before .before .before .before .before .before .before .before .before .before .before .before .before .args in
     let e : 6 + a .length - 6 ≡ a .length = omega arith in
     record {
-      says = ap (Turn.Answered (6 + a .length)) (rw e at (r .0 .count));
+      says = ap (Reply.Answered (6 + a .length)) (rw e at (r .0 .count));
       state = rw e at (r .0 .state);
       memory = rw e at (r .1);
       bytes = rw e at (r .0 .bytes);

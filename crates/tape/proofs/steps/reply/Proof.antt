@@ -1,8 +1,8 @@
 use mathlib.Core.Path.{refl, sym, _∙_}
 use Rattle.tape.proofs.StepLaws.{whole-held}
 use borrow.Author.Needs.{needs}
-use Rattle.tape.proofs.steps.turn.Statement.{statement}
-use Rattle.tape.proofs.steps.turn.Tie as tie
+use Rattle.tape.proofs.steps.reply.Statement.{statement}
+use Rattle.tape.proofs.steps.reply.Tie as tie
 
 step-requires : tie.Need-step-requires
 step-requires c κs = search needs
@@ -52,8 +52,8 @@ returns-4 c =
     let e = sym (c .before .before .step .ensures) ∙ c .enum-told3 .given .1 in
     rw e (record { says = refl; state = refl; memory = refl; bytes = refl })
 
-pub turn-spec : {M : Type 1} → statement M
-turn-spec =
+pub reply-spec : {M : Type 1} → statement M
+reply-spec =
     tie.close
     (tie.spec
     step-requires

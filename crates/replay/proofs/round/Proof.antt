@@ -2,8 +2,8 @@ use Prim.Native.Nat.{_+_, _≤_}
 use native.Mathlib.Omega.{arith}
 use lib.ListN.{length-take, length-drop}
 use borrow.Author.Needs.{needs}
-use Rattle.replay.proofs.turn.Statement.{statement}
-use Rattle.replay.proofs.turn.Tie as tie
+use Rattle.replay.proofs.round.Statement.{statement}
+use Rattle.replay.proofs.round.Tie as tie
 
 -- the bytes used are among those held
 used : (c : tie.After-n) → c .before .before .before .before .before .before .before .before .before .before .before .before .before .before .args .held .from + c .n .given .0 .0 ≤ c .before .before .before .before .before .before .before .before .before .before .before .before .before .before .args .held .to
@@ -28,8 +28,8 @@ answer-requires c κs = search needs
 enum-known-n : tie.Need-enum-known-n
 enum-known-n c = search needs
 
-add-t19 : tie.Need-add-t19
-add-t19 c = let u = used (c .before) in omega arith
+add-t21 : tie.Need-add-t21
+add-t21 c = let u = used (c .before) in omega arith
 
 enum-told : tie.Need-enum-told
 enum-told c = search needs
@@ -76,8 +76,8 @@ same-length-9 c = search needs
 returns-3 : tie.Need-returns-3
 returns-3 c = search needs
 
-pub turn-spec : {M : Type 1} → statement M
-turn-spec =
+pub round-spec : {M : Type 1} → statement M
+round-spec =
     tie.close
     (tie.spec
     sub-answer
@@ -85,7 +85,7 @@ turn-spec =
     part-answer-end
     answer-requires
     enum-known-n
-    add-t19
+    add-t21
     enum-told
     more-requires
     enum-told-2

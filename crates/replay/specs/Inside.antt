@@ -1,8 +1,8 @@
--- What a turn of the program leaves. Assumes nothing.
+-- Inner contracts: what a round of the program leaves. Assumes nothing.
 use mathlib.Core.List.{List}
 use Prim.Native.Nat.{ℕ, _≤_}
 use lib.ListN.{length}
-use Rattle.tape.specs.Pieces.{Lies}
+use Rattle.tape.specs.Inside.{Lies}
 use Rattle.replay.specs.declared.Done.{Done}
 use Rattle.replay.specs.declared.Next.{Next}
 
