@@ -89,18 +89,21 @@ EXPORTED struct ibv_context *ibv_open_device(struct ibv_device *of)
     context->pages.file = context->pages.copy = -1;
     pthread_mutex_init(&context->base.mutex, NULL);
     pthread_mutex_init(&context->lock, NULL);
+    contexts_add(context);
     return &context->base;
 }
 
 EXPORTED int ibv_close_device(struct ibv_context *base)
 {
     struct lk_context *context = context_of(base);
+    contexts_lock_all();
+    contexts_remove(context);
     link_close(&context->link);
+    pages_close(&context->pages);
+    contexts_unlock_all();
     close(base->async_fd);
-    if (context->joined) {
-        pages_close(&context->pages);
-    }
     pthread_mutex_destroy(&context->lock);
+    pthread_mutex_destroy(&base->mutex);
     free(context);
     return 0;
 }

@@ -32,8 +32,17 @@ int link_open(struct link *link, const char *path)
 
 void link_close(struct link *link)
 {
-    close(link->fd);
+    if (link->fd >= 0) {
+        close(link->fd);
+    }
     pthread_mutex_destroy(&link->lock);
+}
+
+void link_lose(struct link *link)
+{
+    close(link->fd);
+    link->fd = -1;
+    pthread_mutex_init(&link->lock, NULL);
 }
 
 int link_errno(uint32_t result)

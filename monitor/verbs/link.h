@@ -16,6 +16,8 @@ struct link {
 /* Connects to a monitor; 0, or -1 with errno. */
 int link_open(struct link *link, const char *path);
 void link_close(struct link *link);
+/* Leaves the connection to the parent, in a child: no request is answered any more. */
+void link_lose(struct link *link);
 /* The errno of a result; EIO where the monitor has gone. */
 int link_errno(uint32_t result);
 

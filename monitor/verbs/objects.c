@@ -43,6 +43,9 @@ static int share_and_register(struct lk_context *context, struct lk_mr *mr, uint
 {
     const uintptr_t address = (uintptr_t)mr->base.addr;
     struct lesungkap_register_mr_ack made = {0, 0, 0};
+    if (context->link.fd < 0) {
+        return EIO;
+    }
     const int why = pages_share(&context->pages, address, mr->base.length, &mr->first_page, &mr->pages);
     if (why != 0) {
         return why;
@@ -71,9 +74,14 @@ EXPORTED struct ibv_mr *ibv_reg_mr_iova2(struct ibv_pd *pd, void *address, size_
     mr->base.pd = pd;
     mr->base.addr = address;
     mr->base.length = length;
-    pthread_mutex_lock(&context->lock);
-    const int why = share_and_register(context, mr, virt, access);
-    pthread_mutex_unlock(&context->lock);
+    contexts_lock_all();
+    int why = contexts_share(context, (uintptr_t)address, length) ? EBUSY : 0;
+    if (why == 0) {
+        pthread_mutex_lock(&context->lock);
+        why = share_and_register(context, mr, virt, access);
+        pthread_mutex_unlock(&context->lock);
+    }
+    contexts_unlock_all();
     if (why != 0) {
         free(mr);
         return fail(why);
@@ -95,6 +103,7 @@ EXPORTED int ibv_dereg_mr(struct ibv_mr *base)
 {
     struct lk_mr *mr = (struct lk_mr *)base;
     struct lk_context *context = context_of(base->context);
+    contexts_lock_all();
     pthread_mutex_lock(&context->lock);
     const uint32_t result = ask_deregister_mr(&context->link, mr->mrn);
     if (result == LESUNGKAP_DONE) {
@@ -102,6 +111,7 @@ EXPORTED int ibv_dereg_mr(struct ibv_mr *base)
         free(mr);
     }
     pthread_mutex_unlock(&context->lock);
+    contexts_unlock_all();
     return link_errno(result);
 }
 

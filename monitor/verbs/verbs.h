@@ -68,6 +68,7 @@ struct lk_channel {
 
 struct lk_context {
     struct ibv_context base;
+    struct lk_context *next; /* of this process's */
     struct link link;
     struct pages pages;
     int joined;
@@ -87,10 +88,33 @@ void *fail(int why);
 /* Brings the client's memory to the monitor, once; 0 or an errno. */
 int join_monitor(struct lk_context *context);
 
+/* ---- aside.c */
+
+/* Runs a function on a stack of its own, while the caller's stack stands still; 0 or an errno. */
+int run_aside(int (*what)(void *), void *given, int *result);
+
+/* ---- fork.c */
+
+/* Taken before any context's lock by who opens, closes, registers, deregisters or forks. */
+void contexts_lock_all(void);
+void contexts_unlock_all(void);
+void contexts_add(struct lk_context *context);
+void contexts_remove(struct lk_context *context);
+/* Whether a page of these bytes is shared by a context, but for this one or NULL. */
+int contexts_share(const struct lk_context *except, uintptr_t address, size_t length);
+
 /* ---- pages.c */
 
 int pages_open(struct pages *pages, uint32_t bytes);
+/* Gives all pages back to the program. */
 void pages_close(struct pages *pages);
+/* Forgets the parent's pages, in a child. */
+void pages_lose(struct pages *pages);
+/* Whether a page of these bytes is shared. */
+int pages_hold(const struct pages *pages, uintptr_t address, size_t length);
+size_t pages_used(const struct pages *pages);
+/* Copies the pages that are shared, and where each lies; how many they are. */
+size_t pages_copy(const struct pages *pages, uint8_t *copies, uintptr_t *addresses);
 /* Puts the program's pages that hold these bytes into the file, in place and in a row; 0 or an errno. */
 int pages_share(struct pages *pages, uintptr_t address, size_t length, size_t *first, size_t *count);
 void pages_release(struct pages *pages, size_t first, size_t count);
