@@ -169,7 +169,7 @@ static void after_in_child(void)
     for (struct lk_context *context = contexts; context != NULL; context = context->next) {
         pthread_mutex_init(&context->lock, NULL);
         link_lose(&context->link);
-        context->base.cmd_fd = context->link.fd;
+        context->extended.context.cmd_fd = context->link.fd;
         pages_lose(&context->pages);
     }
     pthread_mutex_init(&contexts_lock, NULL);

@@ -39,6 +39,14 @@ EXPORTED int ibv_dealloc_pd(struct ibv_pd *pd)
 
 /* ---- regions */
 
+/* The card's access flags of a region: its bits are those of IBV_ACCESS_*. What is optional is left out, and atomics, which it has none of,
+ * though they ask for LOCAL_WRITE too. */
+static int region_access(unsigned access, uint32_t *wanted)
+{
+    *wanted = access & ~(unsigned)(IBV_ACCESS_OPTIONAL_RANGE | IBV_ACCESS_REMOTE_ATOMIC);
+    return (access & IBV_ACCESS_REMOTE_ATOMIC) && !(access & IBV_ACCESS_LOCAL_WRITE) ? EINVAL : 0;
+}
+
 static int share_and_register(struct lk_context *context, struct lk_mr *mr, uint64_t virt, unsigned access)
 {
     const uintptr_t address = (uintptr_t)mr->base.addr;
@@ -46,11 +54,16 @@ static int share_and_register(struct lk_context *context, struct lk_mr *mr, uint
     if (context->link.fd < 0) {
         return EIO;
     }
-    const int why = pages_share(&context->pages, address, mr->base.length, &mr->first_page, &mr->pages);
+    uint32_t flags;
+    int why = region_access(access, &flags);
     if (why != 0) {
         return why;
     }
-    const struct lesungkap_register_mr wanted = {mr->base.pd->handle, access & ~(unsigned)IBV_ACCESS_OPTIONAL_RANGE,
+    why = pages_share(&context->pages, address, mr->base.length, &mr->first_page, &mr->pages);
+    if (why != 0) {
+        return why;
+    }
+    const struct lesungkap_register_mr wanted = {mr->base.pd->handle, flags,
                                                  mr->first_page * PACKET_PAGE + address % PACKET_PAGE, mr->base.length, virt};
     const uint32_t result = ask_register_mr(&context->link, &wanted, &made);
     if (result != LESUNGKAP_DONE) {

@@ -14,6 +14,8 @@
 
 #define EXPORTED __attribute__((visibility("default")))
 
+static const uint64_t DEVICE_GUID = 0x024c53fffe4b0001u;
+
 enum {
     MOST_CQE = 4096,
     MOST_WR = PACKET_HELD_MOST,
@@ -67,7 +69,7 @@ struct lk_channel {
 };
 
 struct lk_context {
-    struct ibv_context base;
+    struct verbs_context extended; /* its last part is the ibv_context that the program has */
     struct lk_context *next; /* of this process's */
     struct link link;
     struct pages pages;
@@ -78,7 +80,11 @@ struct lk_context {
     uint32_t names[NUMBERS]; /* the last name of each number */
 };
 
-static inline struct lk_context *context_of(struct ibv_context *context) { return (struct lk_context *)context; }
+static inline struct lk_context *context_of(struct ibv_context *context)
+{
+    const size_t at = offsetof(struct lk_context, extended.context);
+    return (struct lk_context *)(void *)((uint8_t *)context - at);
+}
 
 /* errno, and NULL. */
 void *fail(int why);

@@ -224,6 +224,8 @@ static const struct {
              {"stack buffers", stack_buffers},
              {"two contexts", two_contexts},
              {"fork", forks},
+             {"queries", extended_queries},
+             {"atomics", atomics_flag},
              {"lacks", lacks}};
 
 int main(int argc, char **argv)
