@@ -272,6 +272,7 @@ static void run(struct monitor *monitor, unsigned client, const struct packet *p
     case PACKET_WINDOW: window(monitor, answer); return;
     case PACKET_JOIN: answer->result = join(monitor, client, *fd); return;
     case PACKET_ARM: answer->result = events_arm(monitor, client, number); return;
+    case PACKET_WAITS: work_waits(monitor, client, number, answer); return;
     case PACKET_CHANNEL:
         answer->result = events_channel(monitor, client, number, *fd);
         *fd = answer->result == LESUNGKAP_DONE ? NO_FD : *fd;

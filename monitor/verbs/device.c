@@ -102,6 +102,7 @@ EXPORTED struct ibv_context *ibv_open_device(struct ibv_device *of)
     set_base(&context->extended, of, context->link.fd);
     context->pages.file = context->pages.copy = -1;
     pthread_mutex_init(&context->lock, NULL);
+    limits_init(context);
     contexts_add(context);
     return &context->extended.context;
 }
@@ -109,12 +110,14 @@ EXPORTED struct ibv_context *ibv_open_device(struct ibv_device *of)
 EXPORTED int ibv_close_device(struct ibv_context *base)
 {
     struct lk_context *context = context_of(base);
+    limits_stop(context);
     contexts_lock_all();
     contexts_remove(context);
     link_close(&context->link);
     pages_close(&context->pages);
     contexts_unlock_all();
     close(base->async_fd);
+    pthread_cond_destroy(&context->clock);
     pthread_mutex_destroy(&context->lock);
     pthread_mutex_destroy(&base->mutex);
     free(context);

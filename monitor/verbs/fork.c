@@ -168,6 +168,7 @@ static void after_in_child(void)
     after();
     for (struct lk_context *context = contexts; context != NULL; context = context->next) {
         pthread_mutex_init(&context->lock, NULL);
+        limits_init(context);
         link_lose(&context->link);
         context->extended.context.cmd_fd = context->link.fd;
         pages_lose(&context->pages);

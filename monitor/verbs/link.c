@@ -138,6 +138,19 @@ uint32_t ask_channel(struct link *link, uint32_t cqn, int socket) { return ask_p
 
 uint32_t ask_arm(struct link *link, uint32_t cqn) { return ask_plain(link, PACKET_ARM, cqn, -1); }
 
+uint32_t ask_waits(struct link *link, uint32_t name, uint32_t *oldest, uint32_t *what)
+{
+    struct asked asked;
+    if (ask(link, PACKET_WAITS, qp_number(name), NULL, 0, -1, &asked) == LESUNGKAP_DONE) {
+        if (asked.packet.length != PACKET_WAITS_BYTES) {
+            return LINK_LOST;
+        }
+        *oldest = get_number(asked.packet.body, 4);
+        *what = get_number(asked.packet.body + 4, 4);
+    }
+    return asked.result;
+}
+
 /* ---- control commands */
 
 /* The ack's test where the command was done; what is no ack was not sent by a monitor. */

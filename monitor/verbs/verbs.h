@@ -43,13 +43,24 @@ struct lk_cq {
     int armed;
 };
 
+/* The time of sends that the monitor holds (limits.c). */
+struct limits {
+    uint64_t check; /* when the monitor is asked, by the clock; 0: it need not be */
+    int seen;       /* it was, and no send has completed since: */
+    uint64_t since; /* then the oldest */
+    uint32_t oldest;
+    uint32_t what; /* waited for this */
+};
+
 /* Receives that the card has no room for wait here, the oldest first. */
 struct lk_qp {
     struct ibv_qp base;
     struct ibv_qp_attr attr;
     struct ibv_qp_init_attr init;
-    int broken;  /* in error: receives are flushed */
-    int drained; /* and none is left in the card */
+    struct limits limits;
+    enum ibv_wc_status ended; /* what the next flushed send ends with, its time being over; or 0 */
+    int broken;               /* in error: receives are flushed */
+    int drained;              /* and none is left in the card */
     unsigned first;
     unsigned waiting;
     unsigned in_card;
@@ -75,6 +86,10 @@ struct lk_context {
     struct pages pages;
     int joined;
     pthread_mutex_t lock;
+    pthread_cond_t clock; /* wakes the thread of limits.c */
+    pthread_t thread;
+    int has_thread;
+    int closing;
     struct lk_cq *cqs[NUMBERS];
     struct lk_qp *qps[NUMBERS];
     uint32_t names[NUMBERS]; /* the last name of each number */
@@ -130,6 +145,17 @@ void pages_release(struct pages *pages, size_t first, size_t count);
 int work_post_send(struct ibv_qp *qp, struct ibv_send_wr *wr, struct ibv_send_wr **bad);
 int work_post_receive(struct ibv_qp *qp, struct ibv_recv_wr *wr, struct ibv_recv_wr **bad);
 int work_poll(struct ibv_cq *cq, int count, struct ibv_wc *wcs);
+
+/* ---- limits.c: called with the context's lock, but for the first and the last */
+
+/* Of a new context, and of a child's: without a thread. */
+void limits_init(struct lk_context *context);
+/* A send of the queue pair is held. */
+void limits_begin(struct lk_context *context, struct lk_qp *qp);
+/* The status of a send that was flushed: the first's, if its time was over or its peer has gone. */
+enum ibv_wc_status limits_status(struct lk_context *context, struct lk_qp *qp);
+/* Ends the context's thread. */
+void limits_stop(struct lk_context *context);
 
 /* ---- events.c */
 

@@ -226,6 +226,13 @@ static const struct {
              {"fork", forks},
              {"queries", extended_queries},
              {"atomics", atomics_flag},
+             {"peer in error", peer_in_error},
+             {"no receive", no_receive},
+             {"peer gone", peer_gone},
+             {"no limits", no_limits},
+             {"slow peer", slow_peer},
+             {"limits by events", limits_by_events},
+             {"signals", interrupted_waits},
              {"lacks", lacks}};
 
 int main(int argc, char **argv)

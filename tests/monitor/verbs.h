@@ -55,7 +55,12 @@ void forks(void);
 void two_contexts(void);
 void extended_queries(void);
 void atomics_flag(void);
-void limits_of_time(void);
+void peer_in_error(void);
+void no_receive(void);
+void peer_gone(void);
+void no_limits(void);
+void slow_peer(void);
 void limits_by_events(void);
+void interrupted_waits(void);
 
 #endif
