@@ -71,11 +71,12 @@ static void set_ops(struct ibv_context_ops *ops)
     ops->req_notify_cq = events_arm;
 }
 
-/* An extended context without extended calls: libibverbs' headers see for each that there is none. */
+/* An extended context with one extended call: libibverbs' headers see of the others that there are none. */
 static void set_base(struct verbs_context *extended, struct ibv_device *of, int fd)
 {
     struct ibv_context *base = &extended->context;
     extended->sz = sizeof *extended;
+    extended->query_device_ex = query_device_ex;
     base->abi_compat = __VERBS_ABI_IS_EXTENDED;
     set_ops(&base->ops);
     base->device = of;

@@ -27,7 +27,6 @@ NO_CALL(ibv_detach_mcast, (struct ibv_qp * qp, const union ibv_gid *gid, uint16_
 
 /* changes of what is made, other kinds of memory, objects of other processes, extended queue pairs, vendors' options */
 NO_CALL(ibv_resize_cq, (struct ibv_cq * cq, int cqe))
-NO_CALL(ibv_rereg_mr, (struct ibv_mr * mr, int flags, struct ibv_pd *pd, void *address, size_t length, int access))
 NO_OBJECT(struct ibv_mr, ibv_reg_dmabuf_mr, (struct ibv_pd * pd, uint64_t offset, size_t length, uint64_t iova, int fd, int access))
 NO_OBJECT(struct ibv_context, ibv_import_device, (int fd))
 NO_OBJECT(struct ibv_pd, ibv_import_pd, (struct ibv_context * context, uint32_t handle))
@@ -38,6 +37,13 @@ NO_CALL(ibv_set_ece, (struct ibv_qp * qp, struct ibv_ece *ece))
 NO_CALL(ibv_query_ece, (struct ibv_qp * qp, struct ibv_ece *ece))
 
 NO_CALL(ibv_resolve_eth_l2_from_gid, (struct ibv_context * context, struct ibv_ah_attr *attr, uint8_t mac[6], uint16_t *vlan))
+
+/* Has numbers of its own, and the region stays as it was. */
+EXPORTED int ibv_rereg_mr(struct ibv_mr *mr, int flags, struct ibv_pd *pd, void *address, size_t length, int access)
+{
+    errno = EOPNOTSUPP;
+    return IBV_REREG_MR_ERR_CMD;
+}
 
 /* Nothing was imported, and no order of bytes is promised. */
 EXPORTED void ibv_unimport_pd(struct ibv_pd *pd) {}

@@ -21,7 +21,7 @@ void link_lose(struct link *link);
 /* The errno of a result; EIO where the monitor has gone. */
 int link_errno(uint32_t result);
 
-/* The card's access flags of a queue pair: the bits are those of IBV_ACCESS_*, and atomics it has none. */
+/* The card's access flags: the bits are those of IBV_ACCESS_*, and atomics it has none. */
 static inline uint32_t rights_of(unsigned access)
 {
     return access & (LESUNGKAP_LOCAL_WRITE | LESUNGKAP_REMOTE_WRITE | LESUNGKAP_REMOTE_READ);

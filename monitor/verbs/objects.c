@@ -39,11 +39,14 @@ EXPORTED int ibv_dealloc_pd(struct ibv_pd *pd)
 
 /* ---- regions */
 
-/* The card's access flags of a region: its bits are those of IBV_ACCESS_*. What is optional is left out, and atomics, which it has none of,
- * though they ask for LOCAL_WRITE too. */
+/* The card's access flags of a region: its bits are those of IBV_ACCESS_*. What is optional is left
+ * out, and atomics, of which it has none, though they ask for LOCAL_WRITE too. */
 static int region_access(unsigned access, uint32_t *wanted)
 {
-    *wanted = access & ~(unsigned)(IBV_ACCESS_OPTIONAL_RANGE | IBV_ACCESS_REMOTE_ATOMIC);
+    *wanted = rights_of(access);
+    if (access & ~(unsigned)(IBV_ACCESS_OPTIONAL_RANGE | IBV_ACCESS_REMOTE_ATOMIC) & ~*wanted) {
+        return EOPNOTSUPP;
+    }
     return (access & IBV_ACCESS_REMOTE_ATOMIC) && !(access & IBV_ACCESS_LOCAL_WRITE) ? EINVAL : 0;
 }
 

@@ -41,6 +41,20 @@ EXPORTED int ibv_query_device(struct ibv_context *base, struct ibv_device_attr *
     return 0;
 }
 
+/* Of what is not in the first part, the device has only the count of ports. */
+int query_device_ex(struct ibv_context *base, const struct ibv_query_device_ex_input *input,
+                    struct ibv_device_attr_ex *attr, size_t size)
+{
+    if ((input != NULL && input->comp_mask != 0) || size < sizeof attr->orig_attr) {
+        return EINVAL;
+    }
+    memset(attr, 0, size);
+    if (size >= offsetof(struct ibv_device_attr_ex, phys_port_cnt_ex) + sizeof attr->phys_port_cnt_ex) {
+        attr->phys_port_cnt_ex = PORT;
+    }
+    return ibv_query_device(base, &attr->orig_attr);
+}
+
 /* The symbol's struct is a beginning of struct ibv_port_attr, up to its flags; the caller has cleared the rest. */
 EXPORTED int ibv_query_port(struct ibv_context *base, uint8_t port, struct _compat_ibv_port_attr *compat)
 {

@@ -140,6 +140,11 @@ size_t pages_copy(const struct pages *pages, uint8_t *copies, uintptr_t *address
 int pages_share(struct pages *pages, uintptr_t address, size_t length, size_t *first, size_t *count);
 void pages_release(struct pages *pages, size_t first, size_t count);
 
+/* ---- queries.c */
+
+int query_device_ex(struct ibv_context *base, const struct ibv_query_device_ex_input *input,
+                    struct ibv_device_attr_ex *attr, size_t size);
+
 /* ---- work.c */
 
 int work_post_send(struct ibv_qp *qp, struct ibv_send_wr *wr, struct ibv_send_wr **bad);
