@@ -133,6 +133,7 @@ static void seats(void)
     client_open(&b, path, 8);
     EXPECT(join(&third) == LESUNGKAP_FULL);
     link_close(&third);
+    run_as(SECOND, join_twice);
     client_close(&a);
     client_close(&b);
 }
@@ -253,7 +254,7 @@ static void a_crowd(void)
         before += shared->stamps[n / WAITING][n % WAITING] < last;
     }
     printf("%u of the crowd's %d requests were answered before the victim's %d\n", before, CROWD * WAITING, WAITING);
-    EXPECT(before <= WAITING);
+    EXPECT(before <= WAITING / 2);
     link_close(&victim);
 }
 
@@ -297,6 +298,15 @@ static void register_all(void)
     client_close(&a);
 }
 
+/* The first key of a card that was reset. */
+static void register_first(void)
+{
+    struct client a;
+    client_open(&a, path, 8);
+    EXPECT(a.mr.lkey == 1);
+    client_close(&a);
+}
+
 /* An operator that uses up its keys leaves the others theirs; when no client is left, it has them again. */
 static void keys(void)
 {
@@ -305,7 +315,7 @@ static void keys(void)
     run_as(FIRST, use_up_keys);
     run_as(SECOND, register_all);
     client_close(&a);
-    usleep(100000); /* until the monitor has seen it go */
+    run_as(FIRST, register_first);
     run_as(FIRST, register_all);
 }
 

@@ -17,7 +17,7 @@
 #include <time.h>
 #include <unistd.h>
 
-enum { SHARE_OF_REGIONS = LESUNGKAP_MR_COUNT / 4 / 2, REGISTRATIONS = 3000, QUERIES = 1000 };
+enum { SHARE_OF_REGIONS = LESUNGKAP_MR_COUNT / 4 / 2, REGISTRATIONS = 3000, TIMES = 1000 };
 
 const char *path;
 
@@ -305,12 +305,13 @@ static void keys(void)
     client_close(&a);
 }
 
-/* Two clients' sends wait for each other while one asks for something that changes nothing: the tape does not grow by
- * tries of the sends. */
-static void held_and_queries(void)
+/* Two clients' sends wait for each other while one makes requests that are done and don't help them: the tape does not
+ * grow by tries of the sends. */
+static void held_and_tried(void)
 {
     struct client a, b;
     struct lesungkap_query_port_ack port;
+    struct lesungkap_register_mr_ack mr;
     uint8_t bytes[LESUNGKAP_MOST_INLINE] = {0};
     struct lesungkap_send send;
     memset(&send, 0, sizeof send);
@@ -324,9 +325,10 @@ static void held_and_queries(void)
     client_ready(&b, a.qp);
     EXPECT(lesungkap_answer(ask_send(&a.link, a.qp, &send)) == LESUNGKAP_HELD_PEER);
     EXPECT(lesungkap_answer(ask_send(&b.link, b.qp, &send)) == LESUNGKAP_HELD_PEER);
-    for (int n = 0; n < QUERIES; n++) {
+    const struct lesungkap_register_mr region = {a.pdn, 1, 0, 1, 0};
+    for (int n = 0; n < TIMES; n++) {
         EXPECT(ask_query_port(&a.link, &port) == LESUNGKAP_DONE);
-        EXPECT(client_move(&a, LESUNGKAP_QP_RTS, 0) == LESUNGKAP_WRONG_STATE);
+        EXPECT(ask_register_mr(&a.link, &region, &mr) == LESUNGKAP_DONE && ask_deregister_mr(&a.link, mr.mrn) == LESUNGKAP_DONE);
     }
     client_close(&a);
     client_close(&b);
@@ -360,7 +362,7 @@ int main(int count, char **words)
                  {"a flood", flood},                   {"in turn", in_turn},
                  {"bad channels", bad_channels},       {"its own end", own_end},
                  {"filled memory", filled_memory},     {"keys", keys},
-                 {"queries", held_and_queries}};
+                 {"tries", held_and_tried}};
     EXPECT(count == 2 || count == 3);
     path = words[1];
     if (count == 3 && strcmp(words[2], "a file that never closes") == 0) {

@@ -80,13 +80,14 @@ static void send_two_files(const struct link *link, int first, int second)
     EXPECT(sendmsg(link->fd, &message, MSG_NOSIGNAL) == 1 && close(first) == 0 && close(second) == 0);
 }
 
-/* Another client is answered a hundred times within four seconds. */
+/* Another client is answered a hundred times within four seconds, also when it passes a file. */
 static void others_are_served(struct client *other)
 {
     const double since = seconds();
     for (int n = 0; n < 100; n++) {
         EXPECT(ask_window(&other->link, &other->bytes) == LESUNGKAP_DONE);
     }
+    EXPECT(ask_join(&other->link, other->memory_file) == LESUNGKAP_IN_USE);
     EXPECT(seconds() - since < 4);
 }
 
