@@ -180,6 +180,8 @@ uint32_t work_receive(struct monitor *monitor, unsigned client, uint32_t qpn, co
                       size_t length);
 uint32_t work_flush(struct monitor *monitor, unsigned client, uint32_t qpn);
 void work_poll(struct monitor *monitor, unsigned client, uint32_t cqn, struct answer *answer);
+/* Says what a queue pair's oldest held send waits for (waits.c). */
+void work_waits(struct monitor *monitor, unsigned client, uint32_t qpn, struct answer *answer);
 /* Gives each queue pair's oldest held send one try. */
 void work_turn(struct monitor *monitor);
 void work_forget(struct monitor *monitor, uint32_t qpn);

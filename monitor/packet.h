@@ -14,22 +14,32 @@ enum {
     PACKET_RECEIVE = LESUNGKAP_TAPE_RECEIVE,
     PACKET_POLL = LESUNGKAP_TAPE_POLL,
     PACKET_FLUSH = LESUNGKAP_TAPE_FLUSH,
-    PACKET_WINDOW =
-        16, /* how much memory a client may bring; the answer's body: version and bytes, 4 each */
+    PACKET_WINDOW = 16,  /* how much memory a client may bring; the answer's body: version and
+                            bytes, 4 each */
     PACKET_JOIN = 17,    /* with the file of the client's memory */
     PACKET_CHANNEL = 18, /* number: a completion queue; with the socket that its events go to */
     PACKET_ARM = 19,     /* number: a completion queue, whose next completion gives an event */
-    PACKET_SHOW =
-        20, /* number: a line of the statistics; the answer's body is its text, 9 behind the last */
+    PACKET_SHOW = 20,    /* number: a line of the statistics; the answer's body: its text */
+    PACKET_WAITS = 21,   /* number: a queue pair; the answer's body: where its oldest held send lies
+                            and what it waits for, 4 each */
 
     PACKET_MOST_BYTES = LESUNGKAP_TAPE_HEADER_BYTES + LESUNGKAP_TAPE_MOST_BODY,
     PACKET_WINDOW_BYTES = 8,
-    PACKET_POLL_BYTES = LESUNGKAP_COMPLETION_BYTES +
-                        1, /* last: how many completions are left in the queue, at most 255 */
+    PACKET_POLL_BYTES = LESUNGKAP_COMPLETION_BYTES + 1, /* last: how many completions are left */
+    PACKET_WAITS_BYTES = 8,
     PACKET_PAGE = 4096,
     PACKET_HELD_MOST = 1024, /* sends that wait on a queue pair */
-    PACKET_NAME_SHIFT = 8    /* of a queue pair's name: its number below, how often the number was
-                                given above, in 16 bits */
+    PACKET_NAME_SHIFT = 8    /* of a queue pair's name: its number below, above it whose it is and
+                                how often he was given it, in 16 bits */
+};
+
+/* What a held send waits for. */
+enum {
+    PACKET_WAITS_FOR_NOTHING = 0, /* none is held */
+    PACKET_WAITS_FOR_PEER = 1,    /* it is not ready */
+    PACKET_WAITS_FOR_RECEIVE = 2, /* of the peer's */
+    PACKET_WAITS_FOR_PLACE = 3,   /* of a completion */
+    PACKET_WAITS_FOR_GONE = 4     /* its destination is no more */
 };
 
 /* A packet's parts: kind and number of a request, answer and status of an answer. */

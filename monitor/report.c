@@ -6,6 +6,8 @@
 #include <time.h>
 #include <unistd.h>
 
+enum { SECOND = 1000000000 };
+
 uint64_t clock_now(void)
 {
     struct timespec now;
@@ -29,8 +31,8 @@ int failed(const char *what, const char *why)
 
 void report(struct lines *lines, const char *who, const char *what)
 {
-    const uint64_t second = clock_now() / 1000000000u + 1; /* 0: nothing was said yet */
-    if (second == lines->second || !takes_a_line(STDERR_FILENO)) {
+    const uint64_t now = clock_now();
+    if (now < lines->next || !takes_a_line(STDERR_FILENO)) {
         lines->left_out++;
         return;
     }
@@ -39,6 +41,6 @@ void report(struct lines *lines, const char *who, const char *what)
         fprintf(stderr, " (%u lines about it were left out before)", lines->left_out);
     }
     fputc('\n', stderr);
-    lines->second = second;
+    lines->next = now + SECOND;
     lines->left_out = 0;
 }

@@ -6,7 +6,7 @@
 
 /* What limits lines about one client, operator or matter to one a second. */
 struct lines {
-    uint64_t second;
+    uint64_t next; /* when one may be said again, by the clock */
     unsigned left_out;
 };
 
@@ -16,7 +16,7 @@ uint64_t clock_now(void);
 int takes_a_line(int fd);
 /* Says what failed and why; 0. For what ends the monitor, or happens once. */
 int failed(const char *what, const char *why);
-/* Says something about somebody, unless a line about him was said in this second. */
+/* Says something about somebody, unless a line about him was said within a second. */
 void report(struct lines *lines, const char *who, const char *what);
 
 #endif

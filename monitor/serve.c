@@ -53,6 +53,7 @@ static void run(struct monitor *monitor, unsigned client, const struct packet *p
     case PACKET_ARM: answer->result = events_arm(monitor, client, number); return;
     case PACKET_CHANNEL: answer->result = events_channel(monitor, client, number, fd); return;
     case PACKET_SHOW: show(monitor, client, number, answer); return;
+    case PACKET_WAITS: work_waits(monitor, client, number, answer); return;
     default: answer->result = LESUNGKAP_BAD_TAPE_RECORD;
     }
 }

@@ -5,6 +5,7 @@
 #include <errno.h>
 #include <fcntl.h>
 #include <poll.h>
+#include <signal.h>
 #include <stdlib.h>
 #include <sys/socket.h>
 #include <unistd.h>
@@ -78,7 +79,27 @@ int events_arm(struct ibv_cq *base, int solicited_only)
     return link_errno(result);
 }
 
-/* The next event's queue number, or -1 with errno: the channel gives none, or the monitor has gone. */
+/* Whether a wait that a signal has interrupted goes on, as a read would: no handler of the program's
+ * wants it to end. Handlers of faults interrupt nothing. */
+static int goes_on(void)
+{
+    static const int faults[] = {SIGSEGV, SIGBUS, SIGFPE, SIGILL, SIGTRAP, SIGABRT};
+    struct sigaction action;
+    for (int number = 1; number < NSIG; number++) {
+        int fault = 0;
+        for (size_t n = 0; n < sizeof faults / sizeof *faults; n++) {
+            fault |= number == faults[n];
+        }
+        if (!fault && sigaction(number, NULL, &action) == 0 && action.sa_handler != SIG_DFL &&
+            action.sa_handler != SIG_IGN && !(action.sa_flags & SA_RESTART)) {
+            errno = EINTR;
+            return 0;
+        }
+    }
+    return 1;
+}
+
+/* The next event's queue number, or -1 with errno: the channel gives none, the monitor has gone, or a signal has come. */
 static int next_event(struct ibv_comp_channel *channel)
 {
     struct pollfd wait[2] = {{.fd = channel->fd, .events = POLLIN}, {.fd = context_of(channel->context)->link.fd, .events = POLLRDHUP}};
@@ -95,7 +116,7 @@ static int next_event(struct ibv_comp_channel *channel)
             errno = EIO;
             return -1;
         }
-        if (poll(wait, 2, -1) < 0 && errno != EINTR) {
+        if (poll(wait, 2, -1) < 0 && (errno != EINTR || !goes_on())) {
             return -1;
         }
     }

@@ -32,9 +32,21 @@ NO_OBJECT(struct ibv_mr, ibv_reg_dmabuf_mr, (struct ibv_pd * pd, uint64_t offset
 NO_OBJECT(struct ibv_context, ibv_import_device, (int fd))
 NO_OBJECT(struct ibv_pd, ibv_import_pd, (struct ibv_context * context, uint32_t handle))
 NO_OBJECT(struct ibv_mr, ibv_import_mr, (struct ibv_pd * pd, uint32_t handle))
+NO_OBJECT(struct ibv_dm, ibv_import_dm, (struct ibv_context * context, uint32_t handle))
 NO_OBJECT(struct ibv_qp_ex, ibv_qp_to_qp_ex, (struct ibv_qp * qp))
 NO_CALL(ibv_set_ece, (struct ibv_qp * qp, struct ibv_ece *ece))
 NO_CALL(ibv_query_ece, (struct ibv_qp * qp, struct ibv_ece *ece))
+
+NO_CALL(ibv_resolve_eth_l2_from_gid, (struct ibv_context * context, struct ibv_ah_attr *attr, uint8_t mac[6], uint16_t *vlan))
+
+/* Nothing was imported, and no order of bytes is promised. */
+EXPORTED void ibv_unimport_pd(struct ibv_pd *pd) {}
+
+EXPORTED void ibv_unimport_mr(struct ibv_mr *mr) {}
+
+EXPORTED void ibv_unimport_dm(struct ibv_dm *dm) {}
+
+EXPORTED int ibv_query_qp_data_in_order(struct ibv_qp *qp, enum ibv_wr_opcode opcode, uint32_t flags) { return 0; }
 
 /* Calls through the context. */
 static struct ibv_mw *alloc_mw(struct ibv_pd *pd, enum ibv_mw_type type) { return fail(EOPNOTSUPP); }

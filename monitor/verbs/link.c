@@ -32,8 +32,17 @@ int link_open(struct link *link, const char *path)
 
 void link_close(struct link *link)
 {
-    close(link->fd);
+    if (link->fd >= 0) {
+        close(link->fd);
+    }
     pthread_mutex_destroy(&link->lock);
+}
+
+void link_lose(struct link *link)
+{
+    close(link->fd);
+    link->fd = -1;
+    pthread_mutex_init(&link->lock, NULL);
 }
 
 int link_errno(uint32_t result)
@@ -128,6 +137,19 @@ uint32_t ask_join(struct link *link, int memory) { return ask_plain(link, PACKET
 uint32_t ask_channel(struct link *link, uint32_t cqn, int socket) { return ask_plain(link, PACKET_CHANNEL, cqn, socket); }
 
 uint32_t ask_arm(struct link *link, uint32_t cqn) { return ask_plain(link, PACKET_ARM, cqn, -1); }
+
+uint32_t ask_waits(struct link *link, uint32_t name, uint32_t *oldest, uint32_t *what)
+{
+    struct asked asked;
+    if (ask(link, PACKET_WAITS, qp_number(name), NULL, 0, -1, &asked) == LESUNGKAP_DONE) {
+        if (asked.packet.length != PACKET_WAITS_BYTES) {
+            return LINK_LOST;
+        }
+        *oldest = get_number(asked.packet.body, 4);
+        *what = get_number(asked.packet.body + 4, 4);
+    }
+    return asked.result;
+}
 
 /* ---- control commands */
 

@@ -16,6 +16,8 @@ struct link {
 /* Connects to a monitor; 0, or -1 with errno. */
 int link_open(struct link *link, const char *path);
 void link_close(struct link *link);
+/* Leaves the connection to the parent, in a child: no request is answered any more. */
+void link_lose(struct link *link);
 /* The errno of a result; EIO where the monitor has gone. */
 int link_errno(uint32_t result);
 
@@ -36,6 +38,8 @@ uint32_t ask_window(struct link *link, uint32_t *bytes);
 uint32_t ask_join(struct link *link, int memory);
 uint32_t ask_channel(struct link *link, uint32_t cqn, int socket);
 uint32_t ask_arm(struct link *link, uint32_t cqn);
+/* Where the oldest held send lies, and what it waits for, of PACKET_WAITS_FOR_*. */
+uint32_t ask_waits(struct link *link, uint32_t name, uint32_t *oldest, uint32_t *what);
 
 uint32_t ask_query_device(struct link *link, struct lesungkap_query_device_ack *device);
 uint32_t ask_query_port(struct link *link, struct lesungkap_query_port_ack *port);

@@ -39,15 +39,31 @@ EXPORTED int ibv_dealloc_pd(struct ibv_pd *pd)
 
 /* ---- regions */
 
+/* The card's access flags of a region: its bits are those of IBV_ACCESS_*. What is optional is left out, and atomics, which it has none of,
+ * though they ask for LOCAL_WRITE too. */
+static int region_access(unsigned access, uint32_t *wanted)
+{
+    *wanted = access & ~(unsigned)(IBV_ACCESS_OPTIONAL_RANGE | IBV_ACCESS_REMOTE_ATOMIC);
+    return (access & IBV_ACCESS_REMOTE_ATOMIC) && !(access & IBV_ACCESS_LOCAL_WRITE) ? EINVAL : 0;
+}
+
 static int share_and_register(struct lk_context *context, struct lk_mr *mr, uint64_t virt, unsigned access)
 {
     const uintptr_t address = (uintptr_t)mr->base.addr;
     struct lesungkap_register_mr_ack made = {0, 0, 0};
-    const int why = pages_share(&context->pages, address, mr->base.length, &mr->first_page, &mr->pages);
+    if (context->link.fd < 0) {
+        return EIO;
+    }
+    uint32_t flags;
+    int why = region_access(access, &flags);
     if (why != 0) {
         return why;
     }
-    const struct lesungkap_register_mr wanted = {mr->base.pd->handle, access & ~(unsigned)IBV_ACCESS_OPTIONAL_RANGE,
+    why = pages_share(&context->pages, address, mr->base.length, &mr->first_page, &mr->pages);
+    if (why != 0) {
+        return why;
+    }
+    const struct lesungkap_register_mr wanted = {mr->base.pd->handle, flags,
                                                  mr->first_page * PACKET_PAGE + address % PACKET_PAGE, mr->base.length, virt};
     const uint32_t result = ask_register_mr(&context->link, &wanted, &made);
     if (result != LESUNGKAP_DONE) {
@@ -71,9 +87,14 @@ EXPORTED struct ibv_mr *ibv_reg_mr_iova2(struct ibv_pd *pd, void *address, size_
     mr->base.pd = pd;
     mr->base.addr = address;
     mr->base.length = length;
-    pthread_mutex_lock(&context->lock);
-    const int why = share_and_register(context, mr, virt, access);
-    pthread_mutex_unlock(&context->lock);
+    contexts_lock_all();
+    int why = contexts_share(context, (uintptr_t)address, length) ? EBUSY : 0;
+    if (why == 0) {
+        pthread_mutex_lock(&context->lock);
+        why = share_and_register(context, mr, virt, access);
+        pthread_mutex_unlock(&context->lock);
+    }
+    contexts_unlock_all();
     if (why != 0) {
         free(mr);
         return fail(why);
@@ -95,6 +116,7 @@ EXPORTED int ibv_dereg_mr(struct ibv_mr *base)
 {
     struct lk_mr *mr = (struct lk_mr *)base;
     struct lk_context *context = context_of(base->context);
+    contexts_lock_all();
     pthread_mutex_lock(&context->lock);
     const uint32_t result = ask_deregister_mr(&context->link, mr->mrn);
     if (result == LESUNGKAP_DONE) {
@@ -102,6 +124,7 @@ EXPORTED int ibv_dereg_mr(struct ibv_mr *base)
         free(mr);
     }
     pthread_mutex_unlock(&context->lock);
+    contexts_unlock_all();
     return link_errno(result);
 }
 

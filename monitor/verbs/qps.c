@@ -153,6 +153,8 @@ EXPORTED int ibv_modify_qp(struct ibv_qp *base, struct ibv_qp_attr *attr, int ma
         base->state = attr->qp_state;
         qp->broken = attr->qp_state == IBV_QPS_ERR;
         qp->drained = 0;
+        qp->ended = IBV_WC_SUCCESS;
+        qp->limits = (struct limits){0};
         if (attr->qp_state == IBV_QPS_RESET) {
             qp->waiting = qp->in_card = 0;
         } else if (qp->broken && flushes_into(context, (struct lk_cq *)base->recv_cq)) {

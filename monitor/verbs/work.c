@@ -59,7 +59,7 @@ static int put_request(const struct lk_qp *qp, const struct ibv_send_wr *wr, str
     return 0;
 }
 
-static int post_one(struct lk_context *context, const struct lk_qp *qp, const struct ibv_send_wr *wr)
+static int post_one(struct lk_context *context, struct lk_qp *qp, const struct ibv_send_wr *wr)
 {
     uint8_t bytes[LESUNGKAP_MOST_INLINE];
     struct lesungkap_send send;
@@ -69,9 +69,9 @@ static int post_one(struct lk_context *context, const struct lk_qp *qp, const st
     }
     const uint32_t result = ask_send(&context->link, qp->base.qp_num, &send);
     switch (lesungkap_answer(result)) {
-    case LESUNGKAP_DONE:
+    case LESUNGKAP_DONE: return 0;
     case LESUNGKAP_HELD_PEER:
-    case LESUNGKAP_HELD_PLACE: return 0;
+    case LESUNGKAP_HELD_PLACE: limits_begin(context, qp); return 0;
     default: return link_errno(result);
     }
 }
@@ -174,13 +174,22 @@ static enum ibv_wc_opcode opcode_of(unsigned opcode)
     }
 }
 
+static int is_receive(const struct lesungkap_completion *done)
+{
+    return done->opcode == LESUNGKAP_COMPLETED_RECEIVE || done->opcode == LESUNGKAP_COMPLETED_RECEIVE_OF_WRITE;
+}
+
 /* A completion has no mark of an immediate: a write's is always there, a send's where it isn't 0. */
-static void put_wc(const struct lk_context *context, const struct lesungkap_completion *done, struct ibv_wc *wc)
+static void put_wc(struct lk_context *context, const struct lesungkap_completion *done, struct ibv_wc *wc)
 {
     const int write = done->opcode == LESUNGKAP_COMPLETED_RECEIVE_OF_WRITE;
+    struct lk_qp *qp = context->qps[qp_number(done->qpn)];
     memset(wc, 0, sizeof *wc);
     wc->wr_id = done->wr_id;
     wc->status = status_of(done->status);
+    if (qp != NULL && done->status == LESUNGKAP_FLUSHED && !is_receive(done)) {
+        wc->status = limits_status(context, qp);
+    }
     wc->opcode = opcode_of(done->opcode);
     wc->byte_len = done->byte_length;
     wc->qp_num = context->names[qp_number(done->qpn)];
@@ -188,7 +197,8 @@ static void put_wc(const struct lk_context *context, const struct lesungkap_comp
     wc->wc_flags = done->status == LESUNGKAP_SUCCESS && (write || done->immediate != 0) ? IBV_WC_WITH_IMM : 0;
 }
 
-/* What a completion says of its queue pair: a failure leaves it in error, a receive makes room for the next. */
+/* What a completion says of its queue pair: a failure leaves it in error, a receive makes room for the next, and after a send the time of the
+ * next begins. */
 static void note(struct lk_context *context, const struct lesungkap_completion *done)
 {
     struct lk_qp *qp = context->qps[qp_number(done->qpn)];
@@ -198,9 +208,11 @@ static void note(struct lk_context *context, const struct lesungkap_completion *
     if (done->status != LESUNGKAP_SUCCESS) {
         qp->broken = 1;
     }
-    if (done->opcode == LESUNGKAP_COMPLETED_RECEIVE || done->opcode == LESUNGKAP_COMPLETED_RECEIVE_OF_WRITE) {
+    if (is_receive(done)) {
         qp->in_card -= qp->in_card > 0;
         top_up(context, qp);
+    } else {
+        qp->limits.seen = 0;
     }
 }
 

@@ -97,7 +97,7 @@ static void others_objects(void)
     struct client a, b;
     struct lesungkap_completion done;
     struct lesungkap_register_mr_ack mr;
-    uint32_t name;
+    uint32_t name, oldest, what;
     unsigned left;
     client_open(&a, path, 8);
     client_open(&b, path, 8);
@@ -112,6 +112,7 @@ static void others_objects(void)
         EXPECT(n == b.cqn || ask_arm(&b.link, n) == LESUNGKAP_NOT_LIVE);
         EXPECT(n == b.cqn || ask_channel(&b.link, n, -1) == LESUNGKAP_NOT_LIVE);
         EXPECT(n == qp_number(b.qp) || ask_flush(&b.link, n) == LESUNGKAP_NOT_LIVE);
+        EXPECT(n == qp_number(b.qp) || ask_waits(&b.link, n, &oldest, &what) == LESUNGKAP_NOT_LIVE);
         EXPECT(n == b.pdn || ask_register_mr(&b.link, &region, &mr) == LESUNGKAP_NOT_LIVE);
         EXPECT(n == b.pdn || ask_create_qp(&b.link, &pd, &name) == LESUNGKAP_NOT_LIVE);
         EXPECT(n == b.cqn || ask_create_qp(&b.link, &cq, &name) == LESUNGKAP_NOT_LIVE);
