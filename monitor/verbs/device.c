@@ -18,10 +18,23 @@ static struct {
                       .name = "lesungkap0",
                       .dev_name = "lesungkap0"}};
 
-void *fail(int why)
+/* ---- errors */
+
+void *no_object(int why)
 {
     errno = why;
     return NULL;
+}
+
+int minus_one(int why)
+{
+    errno = why;
+    return -1;
+}
+
+void complain(const char *what, const char *why)
+{
+    fprintf(stderr, "liblesungkap-verbs: %s: %s\n", what, why);
 }
 
 /* ---- devices */
@@ -31,12 +44,12 @@ EXPORTED struct ibv_device **ibv_get_device_list(int *count)
     struct ibv_device **list = calloc(2, sizeof *list);
     const int named = getenv("LESUNGKAP_SOCKET") != NULL;
     if (list == NULL) {
-        return fail(ENOMEM);
+        return no_object(ENOMEM);
     }
     if (named) {
         list[0] = &known.device;
     } else {
-        fprintf(stderr, "liblesungkap-verbs: no device: LESUNGKAP_SOCKET doesn't name a monitor's socket\n");
+        complain("no device", "LESUNGKAP_SOCKET doesn't name a monitor's socket");
     }
     if (count != NULL) {
         *count = named;
@@ -44,9 +57,15 @@ EXPORTED struct ibv_device **ibv_get_device_list(int *count)
     return list;
 }
 
-EXPORTED void ibv_free_device_list(struct ibv_device **list) { free(list); }
+EXPORTED void ibv_free_device_list(struct ibv_device **list)
+{
+    free(list);
+}
 
-EXPORTED const char *ibv_get_device_name(struct ibv_device *of) { return of->name; }
+EXPORTED const char *ibv_get_device_name(struct ibv_device *of)
+{
+    return of->name;
+}
 
 EXPORTED __be64 ibv_get_device_guid(struct ibv_device *of)
 {
@@ -71,39 +90,57 @@ static void set_ops(struct ibv_context_ops *ops)
     ops->req_notify_cq = events_arm;
 }
 
-/* An extended context without extended calls: libibverbs' headers see for each that there is none. */
-static void set_base(struct verbs_context *extended, struct ibv_device *of, int fd)
+/* An extended context with one extended call: libibverbs' headers see of the others that there are
+ * none. */
+static int set_base(struct verbs_context *extended, struct ibv_device *of, int fd)
 {
     struct ibv_context *base = &extended->context;
+    base->async_fd = eventfd(0, EFD_CLOEXEC);
+    if (base->async_fd < 0) {
+        return errno;
+    }
     extended->sz = sizeof *extended;
+    extended->query_device_ex = query_device_ex;
     base->abi_compat = __VERBS_ABI_IS_EXTENDED;
     set_ops(&base->ops);
     base->device = of;
     base->cmd_fd = fd;
-    base->async_fd = eventfd(0, EFD_CLOEXEC);
     base->num_comp_vectors = 1;
     pthread_mutex_init(&base->mutex, NULL);
+    return 0;
+}
+
+static int open_context(struct lk_context *context, struct ibv_device *of, const char *path)
+{
+    int why = link_open(&context->link, path);
+    if (why != 0) {
+        complain(path, strerror(why));
+        return why;
+    }
+    why = set_base(&context->extended, of, context->link.fd);
+    if (why != 0) {
+        link_close(&context->link);
+        return why;
+    }
+    context->pages.file = context->pages.copy = -1;
+    pthread_mutex_init(&context->lock, NULL);
+    limits_init(context);
+    contexts_add(context);
+    return 0;
 }
 
 EXPORTED struct ibv_context *ibv_open_device(struct ibv_device *of)
 {
     const char *path = getenv("LESUNGKAP_SOCKET");
-    struct lk_context *context = calloc(1, sizeof *context);
-    if (context == NULL || path == NULL) {
-        free(context);
-        return fail(path == NULL ? ENODEV : ENOMEM);
+    struct lk_context *context = path != NULL ? calloc(1, sizeof *context) : NULL;
+    if (context == NULL) {
+        return no_object(path == NULL ? ENODEV : ENOMEM);
     }
-    if (link_open(&context->link, path) != 0) {
-        const int why = errno;
-        fprintf(stderr, "liblesungkap-verbs: %s: %s\n", path, strerror(why));
+    const int why = open_context(context, of, path);
+    if (why != 0) {
         free(context);
-        return fail(why);
+        return no_object(why);
     }
-    set_base(&context->extended, of, context->link.fd);
-    context->pages.file = context->pages.copy = -1;
-    pthread_mutex_init(&context->lock, NULL);
-    limits_init(context);
-    contexts_add(context);
     return &context->extended.context;
 }
 
@@ -141,7 +178,8 @@ int join_monitor(struct lk_context *context)
     result = ask_join(&context->link, context->pages.file);
     if (result != LESUNGKAP_DONE) {
         pages_close(&context->pages);
-        fprintf(stderr, "liblesungkap-verbs: the monitor takes no more clients: %s\n", lesungkap_answer_text(lesungkap_answer(result)));
+        complain("the monitor takes no more clients",
+                 lesungkap_answer_text(lesungkap_answer(result)));
         return link_errno(result);
     }
     context->joined = 1;

@@ -1,10 +1,11 @@
-/* The contexts of this process, and what a child of fork gets of them: copies of the shared pages as
- * they were, and none of the objects.
+/* The contexts of this process, and what a child of fork gets of them: copies of the shared pages
+ * as they were, and none of the objects.
  *
- * Pages of the client's memory are never mapped in a child, however it was made. Before a fork of the
- * C library they are copied; the child puts the copies in their places before any handler of its own
- * runs. Where the C library needs one earlier, the fault is caught and the copies are put there at
- * once. The child's first steps are on a stack of the library's own, as the caller's may be shared. */
+ * Pages of the client's memory are never mapped in a child, however it was made. Before a fork of
+ * the C library they are copied; the child puts the copies in their places before any handler of
+ * its own runs. Where the C library needs one earlier, the fault is caught and the copies are put
+ * there at once. The child's first steps are on a stack of the library's own, as the caller's may
+ * be shared. */
 #define _GNU_SOURCE
 #include "verbs.h"
 
@@ -23,9 +24,15 @@ static pid_t (*libc_fork)(void);
 
 /* ---- contexts */
 
-void contexts_lock_all(void) { pthread_mutex_lock(&contexts_lock); }
+void contexts_lock_all(void)
+{
+    pthread_mutex_lock(&contexts_lock);
+}
 
-void contexts_unlock_all(void) { pthread_mutex_unlock(&contexts_lock); }
+void contexts_unlock_all(void)
+{
+    pthread_mutex_unlock(&contexts_lock);
+}
 
 void contexts_add(struct lk_context *context)
 {
@@ -47,7 +54,8 @@ void contexts_remove(struct lk_context *context)
 int contexts_share(const struct lk_context *except, uintptr_t address, size_t length)
 {
     int share = 0;
-    for (struct lk_context *context = contexts; context != NULL && !share; context = context->next) {
+    for (struct lk_context *context = contexts; context != NULL && !share;
+         context = context->next) {
         if (context != except) {
             pthread_mutex_lock(&context->lock);
             share = pages_hold(&context->pages, address, length);
@@ -70,7 +78,10 @@ static struct {
     struct sigaction action;
 } copies;
 
-static size_t copies_bytes(void) { return copies.count * (PACKET_PAGE + sizeof *copies.addresses); }
+static size_t copies_bytes(void)
+{
+    return copies.count * (PACKET_PAGE + sizeof *copies.addresses);
+}
 
 /* Where they can't be made, the child has no pages there. */
 static void make_copies(void)
@@ -84,7 +95,8 @@ static void make_copies(void)
     if (copies.count == 0) {
         return;
     }
-    copies.pages = mmap(NULL, copies_bytes(), PROT_READ | PROT_WRITE, MAP_PRIVATE | MAP_ANONYMOUS, -1, 0);
+    copies.pages =
+        mmap(NULL, copies_bytes(), PROT_READ | PROT_WRITE, MAP_PRIVATE | MAP_ANONYMOUS, -1, 0);
     if (copies.pages == MAP_FAILED) {
         copies.count = 0;
         return;
@@ -92,15 +104,16 @@ static void make_copies(void)
     copies.addresses = (uintptr_t *)(void *)(copies.pages + copies.count * PACKET_PAGE);
     size_t done = 0;
     for (struct lk_context *context = contexts; context != NULL; context = context->next) {
-        done += pages_copy(&context->pages, copies.pages + done * PACKET_PAGE, copies.addresses + done);
+        done +=
+            pages_copy(&context->pages, copies.pages + done * PACKET_PAGE, copies.addresses + done);
     }
 }
 
 static void place_copies(void)
 {
     for (size_t n = 0; n < copies.count && !copies.placed; n++) {
-        mremap(copies.pages + n * PACKET_PAGE, PACKET_PAGE, PACKET_PAGE, MREMAP_MAYMOVE | MREMAP_FIXED,
-               (void *)copies.addresses[n]);
+        mremap(copies.pages + n * PACKET_PAGE, PACKET_PAGE, PACKET_PAGE,
+               MREMAP_MAYMOVE | MREMAP_FIXED, (void *)copies.addresses[n]);
     }
     copies.placed = 1;
 }
@@ -114,7 +127,8 @@ static void drop_copies(void)
     copies.count = 0;
 }
 
-/* The child's first fault of this time is one of a page that it hasn't; any other is the program's. */
+/* The child's first fault of this time is one of a page that it hasn't; any other is the program's.
+ */
 static void catch_fault(int signal, siginfo_t *info, void *context)
 {
     (void)info;
@@ -161,7 +175,8 @@ static void after_in_parent(void)
     contexts_unlock_all();
 }
 
-/* The connection and the memory are the parent's: here every request fails as if the monitor had gone. */
+/* The connection and the memory are the parent's: here every request fails as if the monitor had
+ * gone. */
 static void after_in_child(void)
 {
     place_copies();
@@ -188,13 +203,14 @@ static int fork_aside(void *unused)
     return libc_fork();
 }
 
-/* The kernel writes a thread's number and its rseq area before the child's first step, so that a copy
- * comes too late. errno stands for the variables of a thread. */
+/* The kernel writes a thread's number and its rseq area before the child's first step, so that a
+ * copy comes too late. errno stands for the variables of a thread. */
 static int shares_thread_data(void)
 {
     const uintptr_t thread = (uintptr_t)__builtin_thread_pointer();
     const uintptr_t rseq = thread + (uintptr_t)__rseq_offset;
-    return contexts_share(NULL, thread, THREAD_NUMBER_WITHIN) || contexts_share(NULL, rseq, __rseq_size) ||
+    return contexts_share(NULL, thread, THREAD_NUMBER_WITHIN) ||
+           contexts_share(NULL, rseq, __rseq_size) ||
            contexts_share(NULL, (uintptr_t)&errno, sizeof errno);
 }
 
@@ -216,6 +232,12 @@ EXPORTED pid_t fork(void)
 
 /* ---- as libibverbs has it: fork needs nothing */
 
-EXPORTED int ibv_fork_init(void) { return 0; }
+EXPORTED int ibv_fork_init(void)
+{
+    return 0;
+}
 
-EXPORTED enum ibv_fork_status ibv_is_fork_initialized(void) { return IBV_FORK_UNNEEDED; }
+EXPORTED enum ibv_fork_status ibv_is_fork_initialized(void)
+{
+    return IBV_FORK_UNNEEDED;
+}

@@ -1,8 +1,8 @@
-/* How long a send may be held: timeout and retry_cnt say it of a peer that is not ready, rnr_retry and
- * min_rnr_timer of one without a receive. A thread of the context, which is started with the first held
- * send that has a limit, asks the monitor what the oldest one waits for. Where that stays the same for
- * the whole time, it moves the queue pair to the error state: the card flushes what is held, and the
- * first of it is given the status of this case. */
+/* How long a send may be held: timeout and retry_cnt say it of a peer that is not ready, rnr_retry
+ * and min_rnr_timer of one without a receive. A thread of the context, which is started with the
+ * first held send that has a limit, asks the monitor what the oldest one waits for. Where that
+ * stays the same for the whole time, it moves the queue pair to the error state: the card flushes
+ * what is held, and the first of it is given the status of this case. */
 #define _GNU_SOURCE
 #include "verbs.h"
 
@@ -12,18 +12,19 @@
 static const uint64_t NO_LIMIT = UINT64_MAX;
 
 enum {
-    ACK_UNIT = 4096,           /* nanoseconds; timeout is their power of two */
-    RNR_UNIT = 10000,          /* nanoseconds */
-    RNR_FOR_EVER = 7,          /* of rnr_retry */
-    LEAST_CHECK = 20000000,    /* nanoseconds between two questions that nothing hangs on */
+    ACK_UNIT = 4096,        /* nanoseconds; timeout is their power of two */
+    RNR_UNIT = 10000,       /* nanoseconds */
+    RNR_FOR_EVER = 7,       /* of rnr_retry */
+    LEAST_CHECK = 20000000, /* nanoseconds between two questions that nothing hangs on */
     STACK_BYTES = 1 << 18,
     SECOND = 1000000000
 };
 
 /* The time of min_rnr_timer, in units of RNR_UNIT. */
-static const uint32_t rnr_times[32] = {65536, 1,   2,   3,   4,    6,    8,    12,   16,   24,    32,
-                                       48,    64,  96,  128, 192,  256,  384,  512,  768,  1024,  1536,
-                                       2048,  3072, 4096, 6144, 8192, 12288, 16384, 24576, 32768, 49152};
+static const uint32_t rnr_times[32] = {65536, 1,    2,    3,     4,     6,     8,     12,
+                                       16,    24,   32,   48,    64,    96,    128,   192,
+                                       256,   384,  512,  768,   1024,  1536,  2048,  3072,
+                                       4096,  6144, 8192, 12288, 16384, 24576, 32768, 49152};
 
 static uint64_t now(void)
 {
@@ -34,7 +35,8 @@ static uint64_t now(void)
 
 /* ---- times */
 
-/* As long as all tries of a request take, or NO_LIMIT. The peer's own min_rnr_timer isn't known here. */
+/* As long as all tries of a request take, or NO_LIMIT. The peer's own min_rnr_timer isn't known
+ * here. */
 static uint64_t time_for(const struct lk_qp *qp, uint32_t what)
 {
     const struct ibv_qp_attr *attr = &qp->attr;
@@ -63,7 +65,8 @@ static void time_is_over(struct lk_context *context, struct lk_qp *qp)
     wanted.qpn = qp->base.qp_num;
     wanted.mask = LESUNGKAP_MASK_STATE;
     wanted.state = LESUNGKAP_QP_ERROR;
-    qp->ended = qp->limits.what == PACKET_WAITS_FOR_PEER ? IBV_WC_RETRY_EXC_ERR : IBV_WC_RNR_RETRY_EXC_ERR;
+    qp->ended =
+        qp->limits.what == PACKET_WAITS_FOR_PEER ? IBV_WC_RETRY_EXC_ERR : IBV_WC_RNR_RETRY_EXC_ERR;
     qp->limits.check = 0;
     if (ask_modify_qp(&context->link, &wanted) == LESUNGKAP_DONE) {
         qp->broken = 1;
@@ -92,7 +95,8 @@ static void check(struct lk_context *context, struct lk_qp *qp, uint64_t time)
         return;
     }
     const uint64_t shortest = shortest_time(qp);
-    limits->check = most != NO_LIMIT ? limits->since + most : time + (shortest > LEAST_CHECK ? shortest : LEAST_CHECK);
+    limits->check = most != NO_LIMIT ? limits->since + most
+                                     : time + (shortest > LEAST_CHECK ? shortest : LEAST_CHECK);
 }
 
 /* Checks what is due, and says when the next is; 0: never. */
@@ -142,7 +146,7 @@ static int start_thread(struct lk_context *context)
     const int why = pthread_create(&context->thread, &attributes, keep_time, context);
     pthread_sigmask(SIG_SETMASK, &before, NULL);
     pthread_attr_destroy(&attributes);
-    return why == 0;
+    return why;
 }
 
 void limits_begin(struct lk_context *context, struct lk_qp *qp)
@@ -154,7 +158,7 @@ void limits_begin(struct lk_context *context, struct lk_qp *qp)
     qp->limits = (struct limits){.check = now() + shortest / 4};
     if (context->has_thread) {
         pthread_cond_signal(&context->clock);
-    } else if (start_thread(context)) {
+    } else if (start_thread(context) == 0) {
         context->has_thread = 1;
     } else {
         qp->limits.check = 0; /* the next held send tries again */
@@ -165,7 +169,8 @@ enum ibv_wc_status limits_status(struct lk_context *context, struct lk_qp *qp)
 {
     enum ibv_wc_status status = qp->ended != 0 ? qp->ended : IBV_WC_WR_FLUSH_ERR;
     uint32_t oldest, what;
-    if (!qp->broken && ask_waits(&context->link, qp->base.qp_num, &oldest, &what) == LESUNGKAP_DONE &&
+    if (!qp->broken &&
+        ask_waits(&context->link, qp->base.qp_num, &oldest, &what) == LESUNGKAP_DONE &&
         what == PACKET_WAITS_FOR_GONE) {
         status = IBV_WC_RETRY_EXC_ERR;
     }

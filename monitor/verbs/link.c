@@ -12,19 +12,17 @@ int link_open(struct link *link, const char *path)
 {
     struct sockaddr_un address = {.sun_family = AF_UNIX};
     if (strlen(path) >= sizeof address.sun_path) {
-        errno = ENAMETOOLONG;
-        return -1;
+        return ENAMETOOLONG;
     }
     strcpy(address.sun_path, path);
     link->fd = socket(AF_UNIX, SOCK_SEQPACKET | SOCK_CLOEXEC, 0);
     if (link->fd < 0) {
-        return -1;
+        return errno;
     }
     if (connect(link->fd, (const struct sockaddr *)&address, sizeof address) != 0) {
         const int why = errno;
         close(link->fd);
-        errno = why;
-        return -1;
+        return why;
     }
     pthread_mutex_init(&link->lock, NULL);
     return 0;
@@ -47,7 +45,8 @@ void link_lose(struct link *link)
 
 int link_errno(uint32_t result)
 {
-    return lesungkap_answer(result) == LINK_LOST ? EIO : lesungkap_answer_errno(lesungkap_answer(result));
+    return lesungkap_answer(result) == LINK_LOST ? EIO
+                                                 : lesungkap_answer_errno(lesungkap_answer(result));
 }
 
 int link_send(const struct link *link, const uint8_t *bytes, size_t length, int file)
@@ -75,7 +74,8 @@ int link_send(const struct link *link, const uint8_t *bytes, size_t length, int 
     return sent == (ssize_t)length;
 }
 
-size_t link_exchange(struct link *link, const uint8_t *request, size_t length, int file, uint8_t *answer)
+size_t link_exchange(struct link *link, const uint8_t *request, size_t length, int file,
+                     uint8_t *answer)
 {
     ssize_t got = -1;
     pthread_mutex_lock(&link->lock);
@@ -96,11 +96,13 @@ struct asked {
     uint8_t bytes[PACKET_MOST_BYTES];
 };
 
-static uint32_t ask(struct link *link, unsigned kind, uint32_t number, const uint8_t *body, size_t length, int file, struct asked *asked)
+static uint32_t ask(struct link *link, unsigned kind, uint32_t number, const uint8_t *body,
+                    size_t length, int file, struct asked *asked)
 {
     uint8_t request[PACKET_MOST_BYTES];
     const struct packet packet = {(uint8_t)kind, (uint8_t)number, body, length};
-    const size_t got = link_exchange(link, request, put_packet(request, LESUNGKAP_TAPE_CALL_MARK, &packet), file, asked->bytes);
+    const size_t got = link_exchange(
+        link, request, put_packet(request, LESUNGKAP_TAPE_CALL_MARK, &packet), file, asked->bytes);
     if (!get_packet(asked->bytes, got, LESUNGKAP_TAPE_ANSWER_MARK, &asked->packet)) {
         return asked->result = LINK_LOST;
     }
@@ -113,7 +115,8 @@ static uint32_t ask_plain(struct link *link, unsigned kind, uint32_t number, int
     return ask(link, kind, number, NULL, 0, file, &asked);
 }
 
-static uint32_t ask_command(struct link *link, const uint8_t *command, size_t length, struct asked *asked)
+static uint32_t ask_command(struct link *link, const uint8_t *command, size_t length,
+                            struct asked *asked)
 {
     return ask(link, PACKET_CONTROL, 0, command, length, -1, asked);
 }
@@ -124,7 +127,8 @@ uint32_t ask_window(struct link *link, uint32_t *bytes)
 {
     struct asked asked;
     if (ask(link, PACKET_WINDOW, 0, NULL, 0, -1, &asked) == LESUNGKAP_DONE) {
-        if (asked.packet.length != PACKET_WINDOW_BYTES || get_number(asked.packet.body, 4) != PACKET_VERSION) {
+        if (asked.packet.length != PACKET_WINDOW_BYTES ||
+            get_number(asked.packet.body, 4) != PACKET_VERSION) {
             return LINK_LOST;
         }
         *bytes = get_number(asked.packet.body + 4, 4);
@@ -132,11 +136,20 @@ uint32_t ask_window(struct link *link, uint32_t *bytes)
     return asked.result;
 }
 
-uint32_t ask_join(struct link *link, int memory) { return ask_plain(link, PACKET_JOIN, 0, memory); }
+uint32_t ask_join(struct link *link, int memory)
+{
+    return ask_plain(link, PACKET_JOIN, 0, memory);
+}
 
-uint32_t ask_channel(struct link *link, uint32_t cqn, int socket) { return ask_plain(link, PACKET_CHANNEL, cqn, socket); }
+uint32_t ask_channel(struct link *link, uint32_t cqn, int socket)
+{
+    return ask_plain(link, PACKET_CHANNEL, cqn, socket);
+}
 
-uint32_t ask_arm(struct link *link, uint32_t cqn) { return ask_plain(link, PACKET_ARM, cqn, -1); }
+uint32_t ask_arm(struct link *link, uint32_t cqn)
+{
+    return ask_plain(link, PACKET_ARM, cqn, -1);
+}
 
 uint32_t ask_waits(struct link *link, uint32_t name, uint32_t *oldest, uint32_t *what)
 {
@@ -164,7 +177,8 @@ uint32_t ask_query_device(struct link *link, struct lesungkap_query_device_ack *
     uint8_t command[LESUNGKAP_COMMAND_MOST_BYTES];
     struct asked asked;
     ask_command(link, command, lesungkap_put_query_device(command, sizeof command), &asked);
-    return acked(&asked, lesungkap_get_query_device_ack(asked.packet.body, asked.packet.length, device));
+    return acked(&asked,
+                 lesungkap_get_query_device_ack(asked.packet.body, asked.packet.length, device));
 }
 
 uint32_t ask_query_port(struct link *link, struct lesungkap_query_port_ack *port)
@@ -172,7 +186,8 @@ uint32_t ask_query_port(struct link *link, struct lesungkap_query_port_ack *port
     uint8_t command[LESUNGKAP_COMMAND_MOST_BYTES];
     struct asked asked;
     ask_command(link, command, lesungkap_put_query_port(command, sizeof command), &asked);
-    return acked(&asked, lesungkap_get_query_port_ack(asked.packet.body, asked.packet.length, port));
+    return acked(&asked,
+                 lesungkap_get_query_port_ack(asked.packet.body, asked.packet.length, port));
 }
 
 uint32_t ask_create_pd(struct link *link, uint32_t *pdn)
@@ -181,7 +196,8 @@ uint32_t ask_create_pd(struct link *link, uint32_t *pdn)
     struct asked asked;
     struct lesungkap_create_pd_ack made = {0};
     ask_command(link, command, lesungkap_put_create_pd(command, sizeof command), &asked);
-    const uint32_t result = acked(&asked, lesungkap_get_create_pd_ack(asked.packet.body, asked.packet.length, &made));
+    const uint32_t result =
+        acked(&asked, lesungkap_get_create_pd_ack(asked.packet.body, asked.packet.length, &made));
     *pdn = made.pdn;
     return result;
 }
@@ -193,17 +209,20 @@ uint32_t ask_create_cq(struct link *link, uint32_t places, uint32_t *cqn)
     struct asked asked;
     struct lesungkap_create_cq_ack made = {0};
     ask_command(link, command, lesungkap_put_create_cq(command, sizeof command, &wanted), &asked);
-    const uint32_t result = acked(&asked, lesungkap_get_create_cq_ack(asked.packet.body, asked.packet.length, &made));
+    const uint32_t result =
+        acked(&asked, lesungkap_get_create_cq_ack(asked.packet.body, asked.packet.length, &made));
     *cqn = made.cqn;
     return result;
 }
 
-uint32_t ask_register_mr(struct link *link, const struct lesungkap_register_mr *wanted, struct lesungkap_register_mr_ack *made)
+uint32_t ask_register_mr(struct link *link, const struct lesungkap_register_mr *wanted,
+                         struct lesungkap_register_mr_ack *made)
 {
     uint8_t command[LESUNGKAP_COMMAND_MOST_BYTES];
     struct asked asked;
     ask_command(link, command, lesungkap_put_register_mr(command, sizeof command, wanted), &asked);
-    return acked(&asked, lesungkap_get_register_mr_ack(asked.packet.body, asked.packet.length, made));
+    return acked(&asked,
+                 lesungkap_get_register_mr_ack(asked.packet.body, asked.packet.length, made));
 }
 
 uint32_t ask_create_qp(struct link *link, const struct lesungkap_create_qp *wanted, uint32_t *name)
@@ -212,7 +231,8 @@ uint32_t ask_create_qp(struct link *link, const struct lesungkap_create_qp *want
     struct asked asked;
     struct lesungkap_create_qp_ack made = {0};
     ask_command(link, command, lesungkap_put_create_qp(command, sizeof command, wanted), &asked);
-    const uint32_t result = acked(&asked, lesungkap_get_create_qp_ack(asked.packet.body, asked.packet.length, &made));
+    const uint32_t result =
+        acked(&asked, lesungkap_get_create_qp_ack(asked.packet.body, asked.packet.length, &made));
     *name = made.qpn;
     return result;
 }
@@ -221,7 +241,8 @@ uint32_t ask_modify_qp(struct link *link, const struct lesungkap_modify_qp *want
 {
     uint8_t command[LESUNGKAP_COMMAND_MOST_BYTES];
     struct asked asked;
-    return ask_command(link, command, lesungkap_put_modify_qp(command, sizeof command, wanted), &asked);
+    return ask_command(link, command, lesungkap_put_modify_qp(command, sizeof command, wanted),
+                       &asked);
 }
 
 uint32_t ask_destroy_pd(struct link *link, uint32_t pdn)
@@ -229,7 +250,8 @@ uint32_t ask_destroy_pd(struct link *link, uint32_t pdn)
     const struct lesungkap_destroy_pd data = {pdn};
     uint8_t command[LESUNGKAP_COMMAND_MOST_BYTES];
     struct asked asked;
-    return ask_command(link, command, lesungkap_put_destroy_pd(command, sizeof command, &data), &asked);
+    return ask_command(link, command, lesungkap_put_destroy_pd(command, sizeof command, &data),
+                       &asked);
 }
 
 uint32_t ask_destroy_cq(struct link *link, uint32_t cqn)
@@ -237,7 +259,8 @@ uint32_t ask_destroy_cq(struct link *link, uint32_t cqn)
     const struct lesungkap_destroy_cq data = {cqn};
     uint8_t command[LESUNGKAP_COMMAND_MOST_BYTES];
     struct asked asked;
-    return ask_command(link, command, lesungkap_put_destroy_cq(command, sizeof command, &data), &asked);
+    return ask_command(link, command, lesungkap_put_destroy_cq(command, sizeof command, &data),
+                       &asked);
 }
 
 uint32_t ask_deregister_mr(struct link *link, uint32_t mrn)
@@ -245,7 +268,8 @@ uint32_t ask_deregister_mr(struct link *link, uint32_t mrn)
     const struct lesungkap_deregister_mr data = {mrn};
     uint8_t command[LESUNGKAP_COMMAND_MOST_BYTES];
     struct asked asked;
-    return ask_command(link, command, lesungkap_put_deregister_mr(command, sizeof command, &data), &asked);
+    return ask_command(link, command, lesungkap_put_deregister_mr(command, sizeof command, &data),
+                       &asked);
 }
 
 uint32_t ask_destroy_qp(struct link *link, uint32_t name)
@@ -253,7 +277,8 @@ uint32_t ask_destroy_qp(struct link *link, uint32_t name)
     const struct lesungkap_destroy_qp data = {name};
     uint8_t command[LESUNGKAP_COMMAND_MOST_BYTES];
     struct asked asked;
-    return ask_command(link, command, lesungkap_put_destroy_qp(command, sizeof command, &data), &asked);
+    return ask_command(link, command, lesungkap_put_destroy_qp(command, sizeof command, &data),
+                       &asked);
 }
 
 /* ---- work */
@@ -263,7 +288,8 @@ uint32_t ask_send(struct link *link, uint32_t name, const struct lesungkap_send 
     uint8_t record[LESUNGKAP_SEND_MOST_BYTES];
     struct asked asked;
     const size_t length = lesungkap_put_send(record, sizeof record, send);
-    return length == 0 ? (uint32_t)LESUNGKAP_BAD_FIELD : ask(link, PACKET_SEND, qp_number(name), record, length, -1, &asked);
+    return length == 0 ? (uint32_t)LESUNGKAP_BAD_FIELD
+                       : ask(link, PACKET_SEND, qp_number(name), record, length, -1, &asked);
 }
 
 uint32_t ask_receive(struct link *link, uint32_t name, const struct lesungkap_receive *receive)
@@ -271,12 +297,17 @@ uint32_t ask_receive(struct link *link, uint32_t name, const struct lesungkap_re
     uint8_t record[LESUNGKAP_RECEIVE_MOST_BYTES];
     struct asked asked;
     const size_t length = lesungkap_put_receive(record, sizeof record, receive);
-    return length == 0 ? (uint32_t)LESUNGKAP_BAD_FIELD : ask(link, PACKET_RECEIVE, qp_number(name), record, length, -1, &asked);
+    return length == 0 ? (uint32_t)LESUNGKAP_BAD_FIELD
+                       : ask(link, PACKET_RECEIVE, qp_number(name), record, length, -1, &asked);
 }
 
-uint32_t ask_flush(struct link *link, uint32_t name) { return ask_plain(link, PACKET_FLUSH, qp_number(name), -1); }
+uint32_t ask_flush(struct link *link, uint32_t name)
+{
+    return ask_plain(link, PACKET_FLUSH, qp_number(name), -1);
+}
 
-uint32_t ask_poll(struct link *link, uint32_t cqn, struct lesungkap_completion *completion, unsigned *left)
+uint32_t ask_poll(struct link *link, uint32_t cqn, struct lesungkap_completion *completion,
+                  unsigned *left)
 {
     struct asked asked;
     ask(link, PACKET_POLL, cqn, NULL, 0, -1, &asked);
@@ -287,5 +318,6 @@ uint32_t ask_poll(struct link *link, uint32_t cqn, struct lesungkap_completion *
         return LINK_LOST;
     }
     *left = asked.packet.body[LESUNGKAP_COMPLETION_BYTES];
-    return acked(&asked, lesungkap_get_completion(asked.packet.body, asked.packet.length, completion));
+    return acked(&asked,
+                 lesungkap_get_completion(asked.packet.body, asked.packet.length, completion));
 }

@@ -1,4 +1,4 @@
-/* Protection domains, regions, completion queues and queue pairs. */
+/* Protection domains, regions and completion queues. */
 #include "verbs.h"
 
 #include <errno.h>
@@ -11,7 +11,7 @@ EXPORTED struct ibv_pd *ibv_alloc_pd(struct ibv_context *base)
     struct lk_context *context = context_of(base);
     struct ibv_pd *pd = calloc(1, sizeof *pd);
     if (pd == NULL) {
-        return fail(ENOMEM);
+        return no_object(ENOMEM);
     }
     pthread_mutex_lock(&context->lock);
     int why = join_monitor(context);
@@ -21,7 +21,7 @@ EXPORTED struct ibv_pd *ibv_alloc_pd(struct ibv_context *base)
     pthread_mutex_unlock(&context->lock);
     if (why != 0) {
         free(pd);
-        return fail(why);
+        return no_object(why);
     }
     pd->context = base;
     return pd;
@@ -39,15 +39,19 @@ EXPORTED int ibv_dealloc_pd(struct ibv_pd *pd)
 
 /* ---- regions */
 
-/* The card's access flags of a region: its bits are those of IBV_ACCESS_*. What is optional is left out, and atomics, which it has none of,
- * though they ask for LOCAL_WRITE too. */
+/* The card's access flags of a region: its bits are those of IBV_ACCESS_*. What is optional is left
+ * out, and atomics, of which it has none, though they ask for LOCAL_WRITE too. */
 static int region_access(unsigned access, uint32_t *wanted)
 {
-    *wanted = access & ~(unsigned)(IBV_ACCESS_OPTIONAL_RANGE | IBV_ACCESS_REMOTE_ATOMIC);
+    *wanted = rights_of(access);
+    if (access & ~(unsigned)(IBV_ACCESS_OPTIONAL_RANGE | IBV_ACCESS_REMOTE_ATOMIC) & ~*wanted) {
+        return EOPNOTSUPP;
+    }
     return (access & IBV_ACCESS_REMOTE_ATOMIC) && !(access & IBV_ACCESS_LOCAL_WRITE) ? EINVAL : 0;
 }
 
-static int share_and_register(struct lk_context *context, struct lk_mr *mr, uint64_t virt, unsigned access)
+static int share_and_register(struct lk_context *context, struct lk_mr *mr, uint64_t virt,
+                              unsigned access)
 {
     const uintptr_t address = (uintptr_t)mr->base.addr;
     struct lesungkap_register_mr_ack made = {0, 0, 0};
@@ -63,8 +67,9 @@ static int share_and_register(struct lk_context *context, struct lk_mr *mr, uint
     if (why != 0) {
         return why;
     }
-    const struct lesungkap_register_mr wanted = {mr->base.pd->handle, flags,
-                                                 mr->first_page * PACKET_PAGE + address % PACKET_PAGE, mr->base.length, virt};
+    const struct lesungkap_register_mr wanted = {
+        mr->base.pd->handle, flags, mr->first_page * PACKET_PAGE + address % PACKET_PAGE,
+        mr->base.length, virt};
     const uint32_t result = ask_register_mr(&context->link, &wanted, &made);
     if (result != LESUNGKAP_DONE) {
         pages_release(&context->pages, mr->first_page, mr->pages);
@@ -76,12 +81,13 @@ static int share_and_register(struct lk_context *context, struct lk_mr *mr, uint
     return 0;
 }
 
-EXPORTED struct ibv_mr *ibv_reg_mr_iova2(struct ibv_pd *pd, void *address, size_t length, uint64_t virt, unsigned access)
+EXPORTED struct ibv_mr *ibv_reg_mr_iova2(struct ibv_pd *pd, void *address, size_t length,
+                                         uint64_t virt, unsigned access)
 {
     struct lk_context *context = context_of(pd->context);
     struct lk_mr *mr = calloc(1, sizeof *mr);
     if (mr == NULL) {
-        return fail(ENOMEM);
+        return no_object(ENOMEM);
     }
     mr->base.context = pd->context;
     mr->base.pd = pd;
@@ -97,7 +103,7 @@ EXPORTED struct ibv_mr *ibv_reg_mr_iova2(struct ibv_pd *pd, void *address, size_
     contexts_unlock_all();
     if (why != 0) {
         free(mr);
-        return fail(why);
+        return no_object(why);
     }
     return &mr->base;
 }
@@ -107,7 +113,8 @@ EXPORTED struct ibv_mr *ibv_reg_mr(struct ibv_pd *pd, void *address, size_t leng
     return ibv_reg_mr_iova2(pd, address, length, (uintptr_t)address, (unsigned)access);
 }
 
-EXPORTED struct ibv_mr *ibv_reg_mr_iova(struct ibv_pd *pd, void *address, size_t length, uint64_t virt, int access)
+EXPORTED struct ibv_mr *ibv_reg_mr_iova(struct ibv_pd *pd, void *address, size_t length,
+                                        uint64_t virt, int access)
 {
     return ibv_reg_mr_iova2(pd, address, length, virt, (unsigned)access);
 }
@@ -133,7 +140,8 @@ EXPORTED int ibv_dereg_mr(struct ibv_mr *base)
 static int create_cq(struct lk_context *context, struct lk_cq *cq)
 {
     const struct lk_channel *channel = (const struct lk_channel *)cq->base.channel;
-    const int places = cq->base.cqe < LESUNGKAP_CQ_MOST_PLACES ? cq->base.cqe : LESUNGKAP_CQ_MOST_PLACES;
+    const int places =
+        cq->base.cqe < LESUNGKAP_CQ_MOST_PLACES ? cq->base.cqe : LESUNGKAP_CQ_MOST_PLACES;
     const int why = join_monitor(context);
     if (why != 0) {
         return why;
@@ -148,15 +156,23 @@ static int create_cq(struct lk_context *context, struct lk_cq *cq)
     return link_errno(result);
 }
 
-EXPORTED struct ibv_cq *ibv_create_cq(struct ibv_context *base, int cqe, void *cq_context, struct ibv_comp_channel *channel, int vector)
+static void free_cq(struct lk_cq *cq)
+{
+    pthread_cond_destroy(&cq->base.cond);
+    pthread_mutex_destroy(&cq->base.mutex);
+    free(cq);
+}
+
+EXPORTED struct ibv_cq *ibv_create_cq(struct ibv_context *base, int cqe, void *cq_context,
+                                      struct ibv_comp_channel *channel, int vector)
 {
     struct lk_context *context = context_of(base);
     if (cqe < 1 || cqe > MOST_CQE || vector < 0 || vector >= base->num_comp_vectors) {
-        return fail(EINVAL);
+        return no_object(EINVAL);
     }
     struct lk_cq *cq = calloc(1, sizeof *cq);
     if (cq == NULL) {
-        return fail(ENOMEM);
+        return no_object(ENOMEM);
     }
     cq->base.context = base;
     cq->base.channel = channel;
@@ -172,8 +188,8 @@ EXPORTED struct ibv_cq *ibv_create_cq(struct ibv_context *base, int cqe, void *c
     }
     pthread_mutex_unlock(&context->lock);
     if (why != 0) {
-        free(cq);
-        return fail(why);
+        free_cq(cq);
+        return no_object(why);
     }
     return &cq->base;
 }
@@ -186,7 +202,7 @@ EXPORTED int ibv_destroy_cq(struct ibv_cq *base)
     const uint32_t result = ask_destroy_cq(&context->link, cq->cqn);
     if (result == LESUNGKAP_DONE) {
         context->cqs[cq->cqn] = NULL;
-        free(cq);
+        free_cq(cq);
     }
     pthread_mutex_unlock(&context->lock);
     return link_errno(result);

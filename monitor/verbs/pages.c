@@ -1,7 +1,7 @@
 /* The program's pages that hold registered bytes lie in the client's memory file, mapped over the
- * program's own addresses. What was in them is copied before the mapping changes; other threads must
- * not write to them at that moment. Whole pages are shared with the monitor, which seals the file: it
- * is mapped once before that, and pages of that mapping are mapped again. */
+ * program's own addresses. What was in them is copied before the mapping changes; other threads
+ * must not write to them at that moment. Whole pages are shared with the monitor, which seals the
+ * file: it is mapped once before that, and pages of that mapping are mapped again. */
 #define _GNU_SOURCE
 #include "verbs.h"
 
@@ -65,8 +65,8 @@ static size_t place_of(const struct pages *pages, uintptr_t address)
     return n;
 }
 
-/* Whether `count` places from `place` on can be the pages from `address` on: each is free or that page,
- * which lies nowhere else. */
+/* Whether `count` places from `place` on can be the pages from `address` on: each is free or that
+ * page, which lies nowhere else. */
 static int fits(const struct pages *pages, size_t place, uintptr_t address, size_t count)
 {
     if (place > pages->count || count > pages->count - place) {
@@ -82,7 +82,8 @@ static int fits(const struct pages *pages, size_t place, uintptr_t address, size
     return 1;
 }
 
-/* Where a row of pages may lie, or the count: beside a page that is shared already, else anywhere. */
+/* Where a row of pages may lie, or the count: beside a page that is shared already, else anywhere.
+ */
 static size_t find_row(const struct pages *pages, uintptr_t address, size_t count)
 {
     for (size_t place = 0; place < pages->count; place++) {
@@ -98,7 +99,8 @@ int pages_hold(const struct pages *pages, uintptr_t address, size_t length)
     const uintptr_t from = address / PACKET_PAGE * PACKET_PAGE;
     for (size_t n = 0; n < pages->count; n++) {
         const struct page *page = pages->at + n;
-        if (page->uses > 0 && page->address >= from && page->address - from < address - from + length) {
+        if (page->uses > 0 && page->address >= from &&
+            page->address - from < address - from + length) {
             return 1;
         }
     }
@@ -116,7 +118,10 @@ size_t pages_used(const struct pages *pages)
 
 /* ---- mappings */
 
-static uint8_t *page_of(const struct pages *pages, size_t place) { return pages->all + place * PACKET_PAGE; }
+static uint8_t *page_of(const struct pages *pages, size_t place)
+{
+    return pages->all + place * PACKET_PAGE;
+}
 
 size_t pages_copy(const struct pages *pages, uint8_t *copies, uintptr_t *addresses)
 {
@@ -130,8 +135,9 @@ size_t pages_copy(const struct pages *pages, uint8_t *copies, uintptr_t *address
     return done;
 }
 
-/* Moves one page of the program into the file; 0 or an errno. The kernel reads the page, which may not
- * be there, and by a call of no name that a sanitizer knows: not all bytes of it are the program's. */
+/* Moves one page of the program into the file; 0 or an errno. The kernel reads the page, which may
+ * not be there, and by a call of no name that a sanitizer knows: not all bytes of it are the
+ * program's. */
 static int share_page(const struct pages *pages, size_t place, uintptr_t address)
 {
     void *page = (void *)address;
@@ -143,8 +149,8 @@ static int share_page(const struct pages *pages, size_t place, uintptr_t address
     return mremap(page_of(pages, place), 0, PACKET_PAGE, how, page) == MAP_FAILED ? errno : 0;
 }
 
-/* Gives a page back to the program alone, and clears it in the file; 0, or an errno where the page stays
- * shared. */
+/* Gives a page back to the program alone, and clears it in the file; 0, or an errno where the page
+ * stays shared. */
 static int unshare_page(const struct pages *pages, size_t place)
 {
     void *page = (void *)pages->at[place].address;

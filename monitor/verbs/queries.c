@@ -26,7 +26,8 @@ EXPORTED int ibv_query_device(struct ibv_context *base, struct ibv_device_attr *
     attr->hw_ver = card.hw_ver;
     attr->max_qp = LESUNGKAP_QP_COUNT;
     attr->max_qp_wr = MOST_WR;
-    attr->max_sge = (int)(card.max_send_sge < card.max_recv_sge ? card.max_send_sge : card.max_recv_sge);
+    attr->max_sge =
+        (int)(card.max_send_sge < card.max_recv_sge ? card.max_send_sge : card.max_recv_sge);
     attr->max_sge_rd = (int)card.max_sge_rd;
     attr->max_cq = LESUNGKAP_CQ_COUNT;
     attr->max_cqe = MOST_CQE;
@@ -41,8 +42,25 @@ EXPORTED int ibv_query_device(struct ibv_context *base, struct ibv_device_attr *
     return 0;
 }
 
-/* The symbol's struct is a beginning of struct ibv_port_attr, up to its flags; the caller has cleared the rest. */
-EXPORTED int ibv_query_port(struct ibv_context *base, uint8_t port, struct _compat_ibv_port_attr *compat)
+/* Of what is not in the first part, the device has only the count of ports. */
+int query_device_ex(struct ibv_context *base, const struct ibv_query_device_ex_input *input,
+                    struct ibv_device_attr_ex *attr, size_t size)
+{
+    if ((input != NULL && input->comp_mask != 0) || size < sizeof attr->orig_attr) {
+        return EINVAL;
+    }
+    memset(attr, 0, size);
+    if (size >=
+        offsetof(struct ibv_device_attr_ex, phys_port_cnt_ex) + sizeof attr->phys_port_cnt_ex) {
+        attr->phys_port_cnt_ex = PORT;
+    }
+    return ibv_query_device(base, &attr->orig_attr);
+}
+
+/* The symbol's struct is a beginning of struct ibv_port_attr, up to its flags; the caller has
+ * cleared the rest. */
+EXPORTED int ibv_query_port(struct ibv_context *base, uint8_t port,
+                            struct _compat_ibv_port_attr *compat)
 {
     struct ibv_port_attr *attr = (struct ibv_port_attr *)compat;
     struct lesungkap_query_port_ack card;
@@ -79,8 +97,7 @@ EXPORTED int ibv_query_gid(struct ibv_context *base, uint8_t port, int index, un
 {
     (void)base;
     if (port != PORT || index != 0) {
-        errno = EINVAL;
-        return -1;
+        return minus_one(EINVAL);
     }
     put_gid(gid);
     return 0;
@@ -93,8 +110,7 @@ EXPORTED int ibv_query_gid_type(struct ibv_context *base, uint8_t port, unsigned
 {
     (void)base;
     if (port != PORT || index != 0) {
-        errno = EINVAL;
-        return -1;
+        return minus_one(EINVAL);
     }
     *type = OLD_GID_TYPE_ROCE_V2;
     return 0;
@@ -124,8 +140,8 @@ EXPORTED int _ibv_query_gid_ex(struct ibv_context *base, uint32_t port, uint32_t
 }
 
 /* How many entries there are, or an errno below 0. */
-EXPORTED ssize_t _ibv_query_gid_table(struct ibv_context *base, struct ibv_gid_entry *entries, size_t most,
-                                      uint32_t flags, size_t size)
+EXPORTED ssize_t _ibv_query_gid_table(struct ibv_context *base, struct ibv_gid_entry *entries,
+                                      size_t most, uint32_t flags, size_t size)
 {
     (void)base;
     if (flags != 0 || most < 1) {
@@ -141,8 +157,7 @@ EXPORTED int ibv_query_pkey(struct ibv_context *base, uint8_t port, int index, _
 {
     (void)base;
     if (port != PORT || index != 0) {
-        errno = EINVAL;
-        return -1;
+        return minus_one(EINVAL);
     }
     *pkey = htons(DEFAULT_PKEY);
     return 0;
@@ -152,8 +167,7 @@ EXPORTED int ibv_get_pkey_index(struct ibv_context *base, uint8_t port, __be16 p
 {
     (void)base;
     if (port != PORT || pkey != htons(DEFAULT_PKEY)) {
-        errno = EINVAL;
-        return -1;
+        return minus_one(EINVAL);
     }
     return 0;
 }

@@ -81,7 +81,7 @@ struct lk_channel {
 
 struct lk_context {
     struct verbs_context extended; /* its last part is the ibv_context that the program has */
-    struct lk_context *next; /* of this process's */
+    struct lk_context *next;       /* of this process's */
     struct link link;
     struct pages pages;
     int joined;
@@ -101,8 +101,12 @@ static inline struct lk_context *context_of(struct ibv_context *context)
     return (struct lk_context *)(void *)((uint8_t *)context - at);
 }
 
-/* errno, and NULL. */
-void *fail(int why);
+/* An error is 0 or an errno in this library. libibverbs' calls tell it in three ways: as it is, or
+ * by NULL or -1 with errno. */
+void *no_object(int why);
+int minus_one(int why);
+/* One line on standard error. */
+void complain(const char *what, const char *why);
 
 /* ---- device.c */
 
@@ -136,9 +140,16 @@ int pages_hold(const struct pages *pages, uintptr_t address, size_t length);
 size_t pages_used(const struct pages *pages);
 /* Copies the pages that are shared, and where each lies; how many they are. */
 size_t pages_copy(const struct pages *pages, uint8_t *copies, uintptr_t *addresses);
-/* Puts the program's pages that hold these bytes into the file, in place and in a row; 0 or an errno. */
-int pages_share(struct pages *pages, uintptr_t address, size_t length, size_t *first, size_t *count);
+/* Puts the program's pages that hold these bytes into the file, in place and in a row; 0 or an
+ * errno. */
+int pages_share(struct pages *pages, uintptr_t address, size_t length, size_t *first,
+                size_t *count);
 void pages_release(struct pages *pages, size_t first, size_t count);
+
+/* ---- queries.c */
+
+int query_device_ex(struct ibv_context *base, const struct ibv_query_device_ex_input *input,
+                    struct ibv_device_attr_ex *attr, size_t size);
 
 /* ---- work.c */
 

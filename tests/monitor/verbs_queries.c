@@ -33,7 +33,7 @@ void extended_queries(void)
     open_side(&side);
     gids(side.context);
     EXPECT(verbs_get_ctx(side.context) != NULL && verbs_get_ctx(side.context)->sz == sizeof(struct verbs_context));
-    EXPECT(ibv_query_device_ex(side.context, NULL, &device) == 0 && device.orig_attr.max_qp == 8);
+    EXPECT(ibv_query_device_ex(side.context, NULL, &device) == 0 && device.orig_attr.max_qp == 8 && device.phys_port_cnt_ex == 1);
     EXPECT(ibv_query_port(side.context, 1, &port) == 0 && port.gid_tbl_len == 1);
     EXPECT(ibv_query_rt_values_ex(side.context, &values) == EOPNOTSUPP);
     EXPECT(ibv_create_cq_ex(side.context, &cq) == NULL && errno == EOPNOTSUPP);
@@ -53,7 +53,9 @@ void atomics_flag(void)
     open_side(&peer);
     EXPECT(ibv_dereg_mr(side.mr) == 0 && (side.mr = ibv_reg_mr(side.pd, side.buffer, SIZE, with)) != NULL);
     EXPECT(ibv_reg_mr(side.pd, side.buffer, SIZE, IBV_ACCESS_REMOTE_ATOMIC) == NULL && errno == EINVAL);
-    EXPECT(ibv_reg_mr(side.pd, side.buffer, SIZE, ALL | IBV_ACCESS_MW_BIND) == NULL && errno == EINVAL);
+    EXPECT(ibv_reg_mr(side.pd, side.buffer, SIZE, ALL | IBV_ACCESS_MW_BIND) == NULL && errno == EOPNOTSUPP);
+    errno = 0;
+    EXPECT(ibv_rereg_mr(side.mr, IBV_REREG_MR_CHANGE_ACCESS, NULL, NULL, 0, 0) == IBV_REREG_MR_ERR_CMD && errno == EOPNOTSUPP);
     ready(&side, peer.qp->qp_num, (unsigned)with);
     ready(&peer, side.qp->qp_num, (unsigned)with);
     const struct told told = told_by(&side);
