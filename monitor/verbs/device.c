@@ -117,6 +117,12 @@ static int open_context(struct lk_context *context, struct ibv_device *of, const
         complain(path, strerror(why));
         return why;
     }
+    const char *user = getenv("LESUNGKAP_USER");
+    if (user != NULL && !link_is_of(&context->link, user)) {
+        complain(path, "the monitor is not that of the user whom LESUNGKAP_USER names");
+        link_close(&context->link);
+        return EPERM;
+    }
     why = set_base(&context->extended, of, context->link.fd);
     if (why != 0) {
         link_close(&context->link);

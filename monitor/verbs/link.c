@@ -2,6 +2,8 @@
 #include "link.h"
 
 #include <errno.h>
+#include <pwd.h>
+#include <stdlib.h>
 #include <sys/socket.h>
 #include <sys/un.h>
 #include <unistd.h>
@@ -26,6 +28,20 @@ int link_open(struct link *link, const char *path)
     }
     pthread_mutex_init(&link->lock, NULL);
     return 0;
+}
+
+int link_is_of(const struct link *link, const char *user)
+{
+    struct ucred listener;
+    socklen_t size = sizeof listener;
+    char *end = NULL;
+    const struct passwd *entry = getpwnam(user);
+    const unsigned long number = strtoul(user, &end, 10);
+    const int is_number = *user >= '0' && *user <= '9' && *end == '\0';
+    if (getsockopt(link->fd, SOL_SOCKET, SO_PEERCRED, &listener, &size) != 0) {
+        return 0;
+    }
+    return entry != NULL ? listener.uid == entry->pw_uid : is_number && listener.uid == number;
 }
 
 void link_close(struct link *link)

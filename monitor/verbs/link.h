@@ -16,6 +16,8 @@ struct link {
 
 /* Connects to a monitor; 0 or an errno. */
 int link_open(struct link *link, const char *path);
+/* Whether who listens at the other end is this user, by name or number. */
+int link_is_of(const struct link *link, const char *user);
 void link_close(struct link *link);
 /* Leaves the connection to the parent, in a child: no request is answered any more. */
 void link_lose(struct link *link);
