@@ -63,7 +63,8 @@ static int share_and_register(struct lk_context *context, struct lk_mr *mr, uint
     if (why != 0) {
         return why;
     }
-    why = pages_share(&context->pages, address, mr->base.length, &mr->first_page, &mr->pages);
+    why = pages_share(&context->pages, address, mr->base.length,
+                      (flags & LESUNGKAP_LOCAL_WRITE) != 0, &mr->first_page, &mr->pages);
     if (why != 0) {
         return why;
     }

@@ -223,6 +223,7 @@ static const struct {
              {"shared pages", shared_pages},
              {"stack buffers", stack_buffers},
              {"two contexts", two_contexts},
+             {"other memory", other_memory},
              {"fork", forks},
              {"queries", extended_queries},
              {"atomics", atomics_flag},
