@@ -40,7 +40,12 @@ struct pages {
 };
 
 struct lk_cq {
-    struct ibv_cq base;
+    union {
+        struct ibv_cq base;
+        struct ibv_cq_ex ex; /* its first part is the same */
+    };
+    pthread_mutex_t polling; /* of an extended queue, from start_poll to end_poll */
+    struct ibv_wc polled;    /* then the completion whose fields are read */
     uint32_t cqn;
     int armed;
 };
@@ -173,6 +178,10 @@ int work_poll(struct ibv_cq *cq, int count, struct ibv_wc *wcs);
 
 struct ibv_qp *extended_create_qp(struct ibv_context *base, struct ibv_qp_init_attr_ex *attr);
 void extended_free(struct lk_qp *qp);
+
+/* ---- extended_cq.c */
+
+struct ibv_cq_ex *extended_create_cq(struct ibv_context *base, struct ibv_cq_init_attr_ex *attr);
 
 /* ---- limits.c: called with the context's lock, but for the first and the last */
 

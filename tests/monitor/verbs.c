@@ -235,6 +235,7 @@ static const struct {
              {"limits by events", limits_by_events},
              {"signals", interrupted_waits},
              {"extended", extended_queue_pairs},
+             {"extended completions", extended_completion_queues},
              {"lacks", lacks}};
 
 int main(int argc, char **argv)

@@ -64,5 +64,6 @@ void slow_peer(void);
 void limits_by_events(void);
 void interrupted_waits(void);
 void extended_queue_pairs(void);
+void extended_completion_queues(void);
 
 #endif
