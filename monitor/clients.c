@@ -1,14 +1,17 @@
-/* Connections: how clients come, bring their memory, are answered, and go. Nothing here waits for a client. */
+/* Connections: how clients come, bring their memory, are answered, and go. Nothing here waits for a
+ * client. */
 #define _GNU_SOURCE
 #include "monitor.h"
 
 #include <errno.h>
+#include <poll.h>
+#include <stdio.h>
 #include <sys/epoll.h>
 #include <sys/mman.h>
 #include <sys/socket.h>
 #include <unistd.h>
 
-enum { HUGE_PAGE = 2097152, DRAINED_MOST = 64 };
+enum { HUGE_PAGE = 2097152 };
 
 void clients_init(struct monitor *monitor)
 {
@@ -17,345 +20,351 @@ void clients_init(struct monitor *monitor)
     }
 }
 
-/* ---- errands */
+/* Lines are limited by operator, of clients with a seat by the seat. */
+static void complain_about(struct lines *lines, const struct user *user, pid_t pid,
+                           const char *what)
+{
+    char who[OPERATOR_NAME_BYTES + 48];
+    snprintf(who, sizeof who, "operator %s, process %d", user->name, (int)pid);
+    report(lines, who, what);
+}
+
+void complain(struct monitor *monitor, unsigned number, const char *what)
+{
+    const struct connection *connection = monitor->connections + number;
+    const int seat = connection->seat;
+    complain_about(seat != NO_SEAT ? monitor->seat_lines + seat : &connection->user->lines,
+                   connection->user, connection->pid, what);
+}
+
+/* ---- what is listened to */
+
+/* Clients with a seat are told of one by one, those without by their operator. */
+static int epoll_of(const struct monitor *monitor, const struct connection *connection)
+{
+    return connection->seat != NO_SEAT ? monitor->epoll : connection->user->unseated;
+}
 
 /* Which events of a connection are told; that its client has hung up always is. */
-static int hear(const struct monitor *monitor, unsigned number, int how, uint32_t which)
+int connection_listen_to(const struct monitor *monitor, unsigned number, int how, uint32_t which)
 {
+    const struct connection *connection = monitor->connections + number;
     struct epoll_event event = {.events = which, .data = {.u32 = number}};
-    return epoll_ctl(monitor->epoll, how, monitor->connections[number].fd, &event) == 0;
+    return epoll_ctl(epoll_of(monitor, connection), how, connection->fd, &event) == 0;
 }
 
-void unwanted(struct monitor *monitor, unsigned client, int fd)
+/* ---- the helper's jobs */
+
+static void ask_helper(struct monitor *monitor, const struct job *job, int fd)
 {
-    struct connection *connection = monitor->connections + client;
-    if (fd != NO_FD) {
-        connection->unwanted[connection->unwanted_count++] = fd;
+    if (!helper_ask(&monitor->helper, job, fd)) {
+        monitor->ended = 1;
     }
 }
 
-static void start(struct monitor *monitor, unsigned number)
+/* Has the connection's job done; nothing of it is read before the helper reports. */
+void connection_send_job(struct monitor *monitor, unsigned number)
 {
     struct connection *connection = monitor->connections + number;
-    connection->late = !errand_start(&connection->errand);
-    if (connection->late) {
-        monitor->late = 1;
-        complain("a client's files wait: there is no thread for them now", connection->pid);
-    }
-}
-
-void clients_start_late(struct monitor *monitor)
-{
-    monitor->late = 0;
-    for (unsigned n = 0; n < PLACES; n++) {
-        if (monitor->connections[n].late) {
-            start(monitor, n);
-        }
-    }
-}
-
-/* Sends a thread to seal the memory, to close the unwanted files and, if `from` is the connection, to read its next packet. */
-static void send_out(struct monitor *monitor, unsigned number, int from)
-{
-    struct connection *connection = monitor->connections + number;
-    struct errand *errand = &connection->errand;
-    errand->number = (uint8_t)number;
-    errand->reports = monitor->reports;
-    errand->from = from;
-    errand->file = NO_FD;
-    errand->sender = 0;
-    errand->memory = connection->memory;
-    errand->count = connection->unwanted_count;
-    memcpy(errand->files, connection->unwanted, sizeof errand->files);
-    connection->unwanted_count = 0;
-    connection->memory = NO_FD;
-    connection->out = 1;
+    connection->job.place = (uint8_t)number;
+    connection->busy = 1;
     if (connection->state == ASKS) {
         connection->state = WAITS;
-        hear(monitor, number, EPOLL_CTL_MOD, 0);
+        connection_listen_to(monitor, number, EPOLL_CTL_MOD, 0);
     }
-    start(monitor, number);
+    ask_helper(monitor, &connection->job, NO_FD);
+    connection->job = (struct job){0};
 }
 
-/* ---- coming and going */
-
-/* How many connections of this process are served. */
-static unsigned served(const struct monitor *monitor, pid_t pid)
+int connection_has_job(const struct job *job)
 {
-    unsigned count = 0;
-    for (unsigned n = 0; n < PLACES; n++) {
-        const struct connection *connection = monitor->connections + n;
-        count += (connection->state == ASKS || connection->state == WAITS) && connection->pid == pid;
-    }
-    return count;
+    return job->seal || job->keep || job->drop_file || job->drop_channels != 0;
 }
 
-/* A free place. The last one is taken only if none of the others will be free soon. */
-static unsigned free_place(const struct monitor *monitor)
+/* ---- going */
+
+static uint8_t *window_of(const struct monitor *monitor, int seat)
 {
-    unsigned leaving = 0;
-    for (unsigned n = 0; n < CONNECTIONS_MOST; n++) {
-        if (monitor->connections[n].state == FREE) {
-            return n;
-        }
-        leaving += monitor->connections[n].state == LEAVES;
-    }
-    return leaving == 0 && monitor->connections[CONNECTIONS_MOST].state == FREE ? CONNECTIONS_MOST : PLACES;
+    return monitor->card.memory + (size_t)seat * monitor->window;
 }
 
-static void welcome(struct monitor *monitor, unsigned place, int fd)
-{
-    struct ucred peer = {0, 0, 0};
-    socklen_t size = sizeof peer;
-    getsockopt(fd, SOL_SOCKET, SO_PEERCRED, &peer, &size);
-    const unsigned same = peer.pid == 0 ? 0 : served(monitor, peer.pid); /* 0: a process that can't be seen from here */
-    monitor->connections[place] = (struct connection){.state = ASKS, .fd = fd, .pid = peer.pid, .seat = NO_SEAT, .memory = NO_FD};
-    if (place == CONNECTIONS_MOST || same >= CONNECTIONS_OF_A_PROCESS || !hear(monitor, place, EPOLL_CTL_ADD, EPOLLIN | EPOLLRDHUP)) {
-        complain("a connection was refused: there are too many", peer.pid);
-        clients_drop(monitor, place);
-    }
-}
-
-/* One at a time: all who hung up before it came have been seen. */
-int clients_accept(struct monitor *monitor, int listener)
-{
-    const unsigned place = free_place(monitor);
-    if (place == PLACES) {
-        complain("newcomers wait: files of clients that have gone are not closed yet", 0);
-        return 0;
-    }
-    const int fd = accept4(listener, NULL, NULL, SOCK_CLOEXEC | SOCK_NONBLOCK);
-    if (fd >= 0) {
-        welcome(monitor, place, fd);
-    } else if (errno != EAGAIN && errno != ECONNABORTED && errno != EINTR) {
-        complain("newcomers wait for want of files or memory", 0);
-        return 0;
-    }
-    return 1;
-}
-
-static uint8_t *window_of(const struct monitor *monitor, int seat) { return monitor->card.memory + (size_t)seat * monitor->window; }
-
-/* Pages of the monitor's own in a window; whether they are there. */
+/* Nothing is behind a window that is nobody's; whether it is so. */
 static int free_window(const struct monitor *monitor, int seat)
 {
-    return mmap(window_of(monitor, seat), monitor->window, PROT_READ | PROT_WRITE, MAP_PRIVATE | MAP_ANONYMOUS | MAP_FIXED, -1, 0) != MAP_FAILED;
+    return mmap(window_of(monitor, seat), monitor->window, PROT_NONE,
+                MAP_PRIVATE | MAP_ANONYMOUS | MAP_NORESERVE | MAP_FIXED, -1, 0) != MAP_FAILED;
 }
 
-/* Whether nothing is left in a connection that nothing more comes to, once a few packets without files were taken. */
-static int is_drained(int from)
-{
-    uint8_t bytes[PACKET_MOST_BYTES];
-    int with_files = 0;
-    for (int n = 0; n < DRAINED_MOST && !with_files; n++) {
-        if (receive_packet(from, bytes, &with_files) < 0 && errno != ECONNRESET && errno != EINTR) { /* a reset is told before the packets */
-            return 1;
-        }
-    }
-    return 0;
-}
-
-/* Frees the place of one that has gone. Its connection is closed here if nothing else is closed with it, else all is by an errand. */
-static void leave(struct monitor *monitor, unsigned number)
+void connection_free_place(struct monitor *monitor, unsigned number)
 {
     struct connection *connection = monitor->connections + number;
-    if (connection->fd != NO_FD && connection->unwanted_count == 0 && is_drained(connection->fd)) {
-        close(connection->fd);
-    } else {
-        unwanted(monitor, number, connection->fd);
+    connection->state = FREE;
+    if (connection->user != NULL) {
+        connection->user->connections--;
     }
+    monitor->accept_after = monitor->accept_after > 0; /* now, there is a place */
+}
+
+/* Frees the place of one that has gone. Where nothing waits in its connection, to close it takes no
+ * time, and the helper need not report. */
+void connection_leave(struct monitor *monitor, unsigned number)
+{
+    struct connection *connection = monitor->connections + number;
+    struct job *job = &connection->job;
+    job->place = (uint8_t)number;
+    job->drop_connection = 1;
+    job->silent = !connection_has_job(job) && is_drained(connection->fd);
+    close(connection->fd);
     connection->fd = NO_FD;
-    if (connection->unwanted_count > 0) {
-        send_out(monitor, number, NO_FD);
+    if (job->silent) {
+        ask_helper(monitor, job, NO_FD);
+        connection_free_place(monitor, number);
     } else {
-        connection->state = FREE;
-        monitor->deaf = monitor->deaf > 0; /* no longer, there is a place */
+        connection_send_job(monitor, number);
     }
+}
+
+static int all_seats_free(const struct monitor *monitor)
+{
+    unsigned taken = 0;
+    for (unsigned n = 0; n < monitor->seats; n++) {
+        taken += monitor->taken[n];
+    }
+    return taken == 0;
+}
+
+/* Where no client is left and an operator has used a sixteenth of its keys, the card is reset, and
+ * all have their keys again. */
+static void renew(struct monitor *monitor)
+{
+    int used = 0;
+    for (unsigned n = 0; n < monitor->operator_count; n++) {
+        const struct user *user = monitor->operators + n;
+        used |= user->keys > 0 && user->keys >= operator_keys(monitor, user) / 16;
+    }
+    if (!used || !all_seats_free(monitor)) {
+        return;
+    }
+    monitor->ended |= !card_renew(&monitor->card);
+    for (unsigned n = 0; n < monitor->operator_count; n++) {
+        monitor->operators[n].keys = 0;
+    }
+}
+
+static void give_seat_back(struct monitor *monitor, unsigned number)
+{
+    struct connection *connection = monitor->connections + number;
+    struct tape *tape = &monitor->card.tape;
+    tape_who(tape, tape_records(tape), connection->user->name, connection->client, "gone");
+    connection->user->seated--;
+    if (free_window(monitor, connection->seat)) {
+        monitor->taken[connection->seat] = 0;
+    } else {
+        complain(monitor, number, "a window could not be freed, its seat stays taken");
+    }
+    connection->seat = NO_SEAT;
+    renew(monitor);
 }
 
 void clients_drop(struct monitor *monitor, unsigned number)
 {
     struct connection *connection = monitor->connections + number;
     destroy_all(monitor, number);
+    shutdown(connection->fd, SHUT_RDWR);
+    connection_listen_to(monitor, number, EPOLL_CTL_DEL, 0);
     if (connection->seat != NO_SEAT) {
-        if (!free_window(monitor, connection->seat)) {
-            complain("a window could not be freed, its seat stays taken", connection->pid);
-        } else {
-            monitor->taken[connection->seat] = 0;
-        }
+        give_seat_back(monitor, number);
     }
     connection->state = LEAVES;
-    shutdown(connection->fd, SHUT_RDWR);
-    hear(monitor, number, EPOLL_CTL_DEL, 0);
-    if (!connection->out) {
-        leave(monitor, number);
+    if (!connection->busy) {
+        connection_leave(monitor, number);
     }
+}
+
+/* ---- coming */
+
+/* A free place from `first` to the one before `end`, or `end`. */
+static unsigned find_place(const struct monitor *monitor, unsigned first, unsigned end)
+{
+    while (first < end && monitor->connections[first].state != FREE) {
+        first++;
+    }
+    return first;
+}
+
+/* Gives the helper its own descriptor of a connection. */
+static void take_place(struct monitor *monitor, unsigned place, int fd, const struct ucred *peer,
+                       struct user *user)
+{
+    const struct job take = {.place = (uint8_t)place, .take = 1};
+    monitor->connections[place] = (struct connection){
+        .state = ASKS, .fd = fd, .pid = peer->pid, .user = user, .seat = NO_SEAT};
+    ask_helper(monitor, &take, fd);
+}
+
+/* Closes a newcomer's connection. If something waits in it, that takes a place for as long as it
+ * takes. */
+static void refuse(struct monitor *monitor, int fd, const struct ucred *peer, struct user *user)
+{
+    const unsigned place = find_place(monitor, CONNECTIONS_MOST, PLACES);
+    char who[32];
+    if (user == NULL) {
+        snprintf(who, sizeof who, "user %u", (unsigned)peer->uid);
+        report(&monitor->strangers, who,
+               "a connection was refused: this user was not named (--operator)");
+    } else {
+        complain_about(&user->lines, user, peer->pid,
+                       "a connection was refused: this operator has too many");
+    }
+    shutdown(fd, SHUT_RDWR);
+    if (is_drained(fd)) {
+        close(fd);
+    } else {
+        take_place(monitor, place, fd, peer, NULL);
+        monitor->connections[place].state = LEAVES;
+        connection_leave(monitor, place);
+    }
+}
+
+/* Drops an operator's connections whose client has hung up. */
+static void drop_hung_up(struct monitor *monitor, const struct user *user)
+{
+    for (unsigned n = 0; n < CONNECTIONS_MOST; n++) {
+        const struct connection *connection = monitor->connections + n;
+        struct pollfd end = {.fd = connection->fd, .events = POLLRDHUP};
+        if (connection->user == user && (connection->state == ASKS || connection->state == WAITS) &&
+            poll(&end, 1, 0) == 1 && end.revents != 0) {
+            clients_drop(monitor, n);
+        }
+    }
+}
+
+static void welcome(struct monitor *monitor, int fd)
+{
+    struct ucred peer = {0, (uid_t)-1, (gid_t)-1};
+    socklen_t size = sizeof peer;
+    getsockopt(fd, SOL_SOCKET, SO_PEERCRED, &peer, &size);
+    struct user *user = operators_find(monitor, peer.uid);
+    if (user != NULL && user->connections >= operator_connections(user)) {
+        drop_hung_up(monitor, user);
+    }
+    const unsigned place = find_place(monitor, 0, CONNECTIONS_MOST);
+    if (user == NULL || user->connections >= operator_connections(user) ||
+        place == CONNECTIONS_MOST) {
+        refuse(monitor, fd, &peer, user);
+        return;
+    }
+    take_place(monitor, place, fd, &peer, user);
+    user->connections++;
+    if (!connection_listen_to(monitor, place, EPOLL_CTL_ADD, EPOLLIN | EPOLLRDHUP)) {
+        complain(monitor, place, "a connection was refused: it can't be listened to");
+        clients_drop(monitor, place);
+    }
+}
+
+int clients_accept(struct monitor *monitor, int listener)
+{
+    if (find_place(monitor, CONNECTIONS_MOST, PLACES) == PLACES) {
+        report(&monitor->lines, "newcomers",
+               "they wait: files of those that were refused are not closed yet");
+        return 0;
+    }
+    const int fd = accept4(listener, NULL, NULL, SOCK_CLOEXEC | SOCK_NONBLOCK);
+    if (fd >= 0) {
+        welcome(monitor, fd);
+    } else if (errno != EAGAIN && errno != ECONNABORTED && errno != EINTR) {
+        report(&monitor->lines, "newcomers", "they wait for want of files or memory");
+        return 0;
+    }
+    return 1;
 }
 
 /* ---- joining */
 
-/* The free seat with the most keys left. */
 static int free_seat(const struct monitor *monitor)
 {
-    int best = NO_SEAT;
-    for (int seat = 0; seat < monitor->seats; seat++) {
-        if (!monitor->taken[seat] && (best == NO_SEAT || monitor->keys[seat] < monitor->keys[best])) {
-            best = seat;
+    for (unsigned seat = 0; seat < monitor->seats; seat++) {
+        if (!monitor->taken[seat]) {
+            return (int)seat;
         }
     }
-    return best;
+    return NO_SEAT;
 }
 
-/* Maps the client's memory into a window. It is sealed after that, and before the answer: nobody makes holes in it, which who touches them would
- * have to wait for. */
-static uint32_t join(struct monitor *monitor, unsigned number, int fd)
+/* Why a client may not join with this memory; LESUNGKAP_DONE if it may. */
+static uint32_t join_refused(struct monitor *monitor, unsigned number,
+                             const struct report_of_job *with)
 {
     struct connection *connection = monitor->connections + number;
-    const struct stat *file = &connection->errand.stat;
-    const int seat = free_seat(monitor);
-    if (fd == NO_FD || !connection->errand.sealed) {
-        complain("a client's memory was refused: it is no memfd that is sealed against shrinking and growing", connection->pid);
+    if (with == NULL || with->file != MEMORY) {
+        complain(monitor, number,
+                 "its memory was refused: it is no memfd that is sealed against "
+                 "shrinking and growing");
         return LESUNGKAP_BAD_FIELD;
     }
     if (connection->seat != NO_SEAT) {
         return LESUNGKAP_IN_USE;
     }
-    if (file->st_size <= 0 || file->st_size % PACKET_PAGE != 0 || (uint64_t)file->st_size > monitor->window ||
-        (uint64_t)file->st_blocks * 512 > monitor->window + HUGE_PAGE) { /* bytes past its end, which take long to free */
+    const uint64_t blocks_most = (monitor->window + HUGE_PAGE) / 512; /* more take long to free */
+    if (with->file_bytes <= 0 || with->file_bytes % PACKET_PAGE != 0 ||
+        (uint64_t)with->file_bytes > monitor->window || (uint64_t)with->file_blocks > blocks_most) {
         return LESUNGKAP_RANGE;
     }
-    if (seat == NO_SEAT) {
-        complain("a client was refused: every seat is taken", connection->pid);
+    if (connection->user->seated >= connection->user->share || free_seat(monitor) == NO_SEAT) {
+        complain(monitor, number, "a client was refused: its operator's seats are taken");
         return LESUNGKAP_FULL;
     }
-    void *window = window_of(monitor, seat);
-    if (mmap(window, (size_t)file->st_size, PROT_READ | PROT_WRITE, MAP_SHARED | MAP_FIXED, fd, 0) == MAP_FAILED) {
-        complain("a client's memory was refused: it can't be mapped", connection->pid);
-        monitor->taken[seat] = !free_window(monitor, seat);
-        return LESUNGKAP_BAD_FIELD;
-    }
-    monitor->taken[seat] = 1;
-    monitor->clients++;
-    connection->memory = fd;
-    connection->seat = seat;
-    connection->window_bytes = (uint64_t)file->st_size;
     return LESUNGKAP_DONE;
 }
 
-static void window(const struct monitor *monitor, struct answer *answer)
-{
-    put_number(answer->body, 4, PACKET_VERSION);
-    put_number(answer->body + 4, 4, (uint32_t)monitor->window);
-    answer->length = PACKET_WINDOW_BYTES;
-    answer->result = LESUNGKAP_DONE;
-}
-
-/* ---- requests */
-
-/* Runs a request; *fd is NO_FD after it if it was kept. */
-static void run(struct monitor *monitor, unsigned client, const struct packet *packet, int *fd, struct answer *answer)
-{
-    const uint32_t number = packet->fourth;
-    switch (packet->third) {
-    case PACKET_CONTROL: request_control(monitor, client, packet, answer); return;
-    case PACKET_SEND: answer->result = work_send(monitor, client, number, packet->body, packet->length); return;
-    case PACKET_RECEIVE: answer->result = work_receive(monitor, client, number, packet->body, packet->length); return;
-    default: break;
-    }
-    if (packet->length > 0) {
-        answer->result = LESUNGKAP_BAD_TAPE_RECORD;
-        return;
-    }
-    switch (packet->third) {
-    case PACKET_POLL: work_poll(monitor, client, number, answer); return;
-    case PACKET_FLUSH: answer->result = work_flush(monitor, client, number); return;
-    case PACKET_WINDOW: window(monitor, answer); return;
-    case PACKET_JOIN: answer->result = join(monitor, client, *fd); return;
-    case PACKET_ARM: answer->result = events_arm(monitor, client, number); return;
-    case PACKET_CHANNEL:
-        answer->result = events_channel(monitor, client, number, *fd);
-        *fd = answer->result == LESUNGKAP_DONE ? NO_FD : *fd;
-        return;
-    default: answer->result = LESUNGKAP_BAD_TAPE_RECORD;
-    }
-}
-
-static int reply(int fd, const struct answer *answer)
-{
-    uint8_t bytes[PACKET_MOST_BYTES];
-    const struct packet packet = {(uint8_t)lesungkap_answer(answer->result), (uint8_t)lesungkap_status(answer->result), answer->body,
-                                  answer->length};
-    const size_t length = put_packet(bytes, LESUNGKAP_TAPE_ANSWER_MARK, &packet);
-    return send(fd, bytes, length, MSG_DONTWAIT | MSG_NOSIGNAL) == (ssize_t)length;
-}
-
-/* Gives the answer, and listens again. */
-static void finish(struct monitor *monitor, unsigned number)
+static void take_seat(struct monitor *monitor, unsigned number, int seat, uint64_t bytes)
 {
     struct connection *connection = monitor->connections + number;
-    if (!reply(connection->fd, &connection->answer)) {
-        if (errno == EAGAIN) {
-            complain("a client was dropped: it does not take its answers", connection->pid);
-        }
-        clients_drop(monitor, number);
-    } else if (connection->state == WAITS) {
-        connection->state = ASKS;
-        hear(monitor, number, EPOLL_CTL_MOD, EPOLLIN | EPOLLRDHUP);
-    }
+    struct tape *tape = &monitor->card.tape;
+    connection_listen_to(monitor, number, EPOLL_CTL_DEL, 0);
+    monitor->taken[seat] = 1;
+    connection->user->seated++;
+    connection->user->clients++;
+    connection->client = ++monitor->clients;
+    connection->seat = seat;
+    connection->window_bytes = bytes;
+    connection_listen_to(monitor, number, EPOLL_CTL_ADD,
+                         0); /* nothing is read until the helper has reported */
+    tape_who(tape, tape_records(tape), connection->user->name, connection->client,
+             "joined: process %d, memory from %" PRIu64 " on, %" PRIu64 " bytes",
+             (int)connection->pid, (uint64_t)seat * monitor->window, bytes);
 }
 
-/* Runs a packet's request. The answer waits until the files are closed that nobody wants any more: a client that has it, and closes its own,
- * has closed the last. */
-static void serve(struct monitor *monitor, unsigned number, const uint8_t *bytes, size_t length, int fd)
+/* Maps the client's memory into a window. It is filled and sealed after that, and before the
+ * answer: nobody makes holes in it, which who touches them would have to wait for. */
+uint32_t connection_join(struct monitor *monitor, unsigned number, const struct report_of_job *with,
+                         int fd)
 {
-    struct connection *connection = monitor->connections + number;
-    const uint64_t since = monitor->card.timed ? clock_now() : 0;
-    struct packet packet;
-    connection->answer = (struct answer){.result = LESUNGKAP_BAD_TAPE_RECORD};
-    if (length <= PACKET_MOST_BYTES && get_packet(bytes, length, LESUNGKAP_TAPE_CALL_MARK, &packet)) {
-        run(monitor, number, &packet, &fd, &connection->answer);
+    const uint32_t refused = join_refused(monitor, number, with);
+    if (refused != LESUNGKAP_DONE) {
+        return refused;
     }
-    unwanted(monitor, number, fd);
-    monitor->requests++;
-    monitor->nanoseconds += monitor->card.timed ? clock_now() - since : 0;
-    if (connection->unwanted_count > 0) {
-        send_out(monitor, number, NO_FD);
-    } else {
-        finish(monitor, number);
+    const int seat = free_seat(monitor);
+    const size_t bytes = (size_t)with->file_bytes;
+    if (mmap(window_of(monitor, seat), bytes, PROT_READ | PROT_WRITE, MAP_SHARED | MAP_FIXED, fd,
+             0) == MAP_FAILED) {
+        complain(monitor, number, "its memory was refused: it can't be mapped");
+        monitor->taken[seat] = !free_window(monitor, seat);
+        return LESUNGKAP_BAD_FIELD;
     }
+    take_seat(monitor, number, seat, bytes);
+    monitor->connections[number].job.seal = 1;
+    return LESUNGKAP_DONE;
 }
 
-void clients_serve(struct monitor *monitor, unsigned number)
+/* A window whose pages are there; what is left to do is that the kernel writes them down. */
+void connection_joined(const struct monitor *monitor, unsigned number)
 {
-    const int from = monitor->connections[number].fd;
-    uint8_t bytes[PACKET_MOST_BYTES];
-    int with_files;
-    const ssize_t length = receive_packet(from, bytes, &with_files);
-    if (with_files) {
-        send_out(monitor, number, from);
-    } else if (length >= 0) {
-        serve(monitor, number, bytes, (size_t)length, NO_FD);
-    } else if (errno != EAGAIN && errno != EINTR) {
-        clients_drop(monitor, number);
-    }
-}
-
-void clients_report(struct monitor *monitor, unsigned number)
-{
-    struct connection *connection = monitor->connections + number;
-    const struct errand *errand = &connection->errand;
-    connection->out = 0;
-    if (connection->state == LEAVES) {
-        unwanted(monitor, number, errand->file);
-        leave(monitor, number);
-    } else if (errand->failed) {
-        complain("a client was dropped: its memory can't be sealed against holes (F_SEAL_FUTURE_WRITE)", connection->pid);
-        clients_drop(monitor, number);
-    } else if (errand->from == NO_FD) {
-        finish(monitor, number);
-    } else if (errand->length >= 0) {
-        serve(monitor, number, errand->bytes, (size_t)errand->length, errand->file);
-    } else {
-        clients_drop(monitor, number);
-    }
+    const struct connection *connection = monitor->connections + number;
+#ifdef MADV_POPULATE_WRITE
+    madvise(window_of(monitor, connection->seat), connection->window_bytes, MADV_POPULATE_WRITE);
+#else
+    (void)monitor;
+    (void)connection;
+#endif
 }

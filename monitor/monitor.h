@@ -1,71 +1,63 @@
-/* The monitor's tables: connections with their seats and windows, who owns which object, names of queue pairs, held sends, events. */
+/* The monitor's tables: operators, connections with their seats and windows, who owns which object,
+ * names of queue pairs, held sends, events. */
 #ifndef LESUNGKAP_MONITOR_H
 #define LESUNGKAP_MONITOR_H
 
 #include "card.h"
+#include "helper.h"
 #include "packet.h"
+#include "report.h"
 
-#include <sys/stat.h>
 #include <sys/types.h>
 
 enum kind { PD, CQ, MR, QP, KINDS };
 
 enum {
-    CONNECTIONS_MOST = 64,
-    CONNECTIONS_OF_A_PROCESS = 4,
-    PLACES = CONNECTIONS_MOST + 1,         /* the last is for one that is refused, until it is closed */
-    UNWANTED_MOST = LESUNGKAP_CQ_COUNT + 2, /* a client's channels, the file that came with a packet, the connection */
-    SEATS_MOST = LESUNGKAP_QP_COUNT,
     OBJECTS_MOST = LESUNGKAP_MR_COUNT, /* of the largest table */
     KEYS_OF_A_SLOT = 255,
-    NO_SEAT = -1,
-    NO_FD = -1
+    OPERATOR_NAME_BYTES = 33,
+    NO_SEAT = -1
 };
 
 /* What a request is answered with. */
 struct answer {
     uint32_t result;
     size_t length;
-    uint8_t body[LESUNGKAP_ACK_MOST_BYTES];
+    uint8_t body[LESUNGKAP_TAPE_MOST_BODY];
 };
 
-/* What a thread does for a connection, as its client may make it wait: it seals memory against holes, closes files, or reads a packet that came
- * with files. Then it reports the connection's number. */
-struct errand {
-    uint8_t number;
-    int reports; /* where the number is written */
-
-    int memory; /* to be sealed, one of the files; or NO_FD */
-    int failed; /* it can't be */
-    int files[UNWANTED_MOST];
-    unsigned count;
-
-    int from; /* the connection if a packet is read, NO_FD if not */
-    pid_t sender;
-    ssize_t length;
-    uint8_t bytes[PACKET_MOST_BYTES];
-    int file;   /* the first that came with it, or NO_FD */
-    int sealed; /* it is memory that can't shrink or grow */
-    struct stat stat;
+/* A user that may come, with its share of the card. What it uses up it takes from nobody else. */
+struct user {
+    uid_t uid;
+    char name[OPERATOR_NAME_BYTES];
+    unsigned share;                     /* how many seats it may have */
+    unsigned seated;                    /* and has */
+    unsigned connections;               /* it has, those that leave too */
+    unsigned keys;                      /* handed out to it since the card's reset */
+    uint64_t named[LESUNGKAP_QP_COUNT]; /* how often it was given each number of a queue pair */
+    int unseated;                       /* epoll: its connections without a seat */
+    uint64_t clients;                   /* that have joined */
+    uint64_t requests;
+    struct lines lines; /* about those of its connections */
 };
 
-/* A connection is served; or waits for its errand, and nothing of it is read; or its client has gone and its files have not. */
+/* A connection is served; or waits for the helper, and nothing of it is read; or its client has
+ * gone and its files have not. */
 enum state { FREE, ASKS, WAITS, LEAVES };
 
 struct connection {
     enum state state;
     int fd;
     pid_t pid;
+    struct user *user;     /* NULL: of one that was refused */
     int seat;              /* its window is the seat's part of the memory */
-    uint64_t window_bytes; /* of it, those that its file fills */
+    uint64_t client;       /* counts those who have joined */
+    uint64_t window_bytes; /* of its window, those that its memory fills */
     unsigned has[KINDS];
-    int memory;                  /* for its next errand to seal, or NO_FD */
-    int unwanted[UNWANTED_MOST]; /* and files to close */
-    unsigned unwanted_count;
-    int out;              /* its errand is not done */
-    int late;             /* and has no thread yet */
-    struct answer answer; /* waits for the errand */
-    struct errand errand;
+    int busy;             /* the helper has a job of it */
+    struct job job;       /* the helper's next */
+    pid_t sender;         /* of the packet that came with a file */
+    struct answer answer; /* waits for the helper */
 };
 
 /* Sends of a queue pair that wait, the oldest first. */
@@ -78,10 +70,12 @@ struct held {
     } at[PACKET_HELD_MOST];
 };
 
-/* What a queue pair's number stands for: given is how often it was handed out, 0 while nobody has it. */
+/* What a queue pair's number stands for: given counts how often it was handed out, and is 0 while
+ * nobody has it. */
 struct queue_pair {
     uint64_t given;
     uint64_t given_before;
+    uint32_t name;
     uint32_t peer;       /* its destination's number */
     uint64_t peer_given; /* and what that stood for; 0: no destination */
 };
@@ -94,56 +88,85 @@ struct events {
 
 struct monitor {
     struct card card;
-    int seats;
+    struct helper helper;
+    unsigned seats;
     uint64_t window; /* bytes of each seat */
     uint8_t taken[SEATS_MOST];
-    unsigned keys[SEATS_MOST]; /* handed out to those who had the seat, since the reset */
+    struct lines seat_lines[SEATS_MOST]; /* about who has the seat */
+    struct user operators[OPERATORS_MOST];
+    unsigned operator_count;
     struct connection connections[PLACES];
     uint8_t owner[KINDS][OBJECTS_MOST]; /* connection + 1; 0: nobody */
     struct queue_pair pairs[LESUNGKAP_QP_COUNT];
     struct held held[LESUNGKAP_QP_COUNT];
     struct events events[LESUNGKAP_CQ_COUNT];
-    uint32_t turn;  /* queue pair whose held send is tried first */
-    int changed;    /* a held send may be able to run */
-    int epoll;
-    int reports;   /* where errands report */
-    uint64_t deaf; /* to newcomers, until then by the clock; 0: not */
-    int late;      /* an errand has no thread yet */
+    uint32_t turn;         /* queue pair whose held send is tried first */
+    int changed;           /* a held send may be able to run */
+    int ended;             /* service ends, for want of the tape or of the helper */
+    int epoll;             /* of clients with a seat, and of all else */
+    uint64_t accept_after; /* newcomers wait until then, by the clock; 0: they don't */
+    uint64_t clients;      /* that have joined */
     uint64_t requests;
     uint64_t nanoseconds; /* from request to answer, if timed */
-    uint64_t clients;     /* that have joined */
+    struct lines lines;   /* about nobody in particular */
+    struct lines strangers;
 };
 
-/* ---- clients.c: connections */
+/* ---- operators.c: who may come */
+
+/* Names an operator by a word USER[:SEATS]; says what is wrong and returns 0. */
+int operators_add(struct monitor *monitor, const char *word);
+/* Shares the seats out once all are named; where none is, the monitor's own user has them all. */
+int operators_share(struct monitor *monitor);
+struct user *operators_find(struct monitor *monitor, uid_t uid);
+/* How many connections and keys an operator may have. */
+unsigned operator_connections(const struct user *user);
+unsigned operator_keys(const struct monitor *monitor, const struct user *user);
+/* The name of a queue pair that this operator gets now: nobody else gets it as long as the monitor
+ * runs. */
+uint32_t operator_name(struct monitor *monitor, struct user *user, uint32_t qpn);
+
+/* ---- clients.c: how they come, join and go */
 
 void clients_init(struct monitor *monitor);
 /* Takes a newcomer; 0 where none can be taken now. */
 int clients_accept(struct monitor *monitor, int listener);
-/* Reads and answers one request. */
-void clients_serve(struct monitor *monitor, unsigned number);
 /* Destroys what a connection has and frees its place, once its files are closed. */
 void clients_drop(struct monitor *monitor, unsigned number);
-/* Goes on where a connection's errand is done. */
-void clients_report(struct monitor *monitor, unsigned number);
-/* Starts the errands that had no thread. */
-void clients_start_late(struct monitor *monitor);
-/* Has a file closed before the client is answered, or NO_FD. */
-void unwanted(struct monitor *monitor, unsigned client, int fd);
+/* One line about a client, on standard error. */
+void complain(struct monitor *monitor, unsigned number, const char *what);
 
-/* ---- files.c: what clients pass */
+/* Which events of a connection are told; that its client has hung up always is. */
+int connection_listen_to(const struct monitor *monitor, unsigned number, int how, uint32_t which);
+/* Has the connection's job done, if there is one; nothing of it is read before the helper reports.
+ */
+int connection_has_job(const struct job *job);
+void connection_send_job(struct monitor *monitor, unsigned number);
+/* Has the connection of one that has gone closed, and frees its place. */
+void connection_leave(struct monitor *monitor, unsigned number);
+void connection_free_place(struct monitor *monitor, unsigned number);
+/* Maps a client's memory into a window, and what is to be done after the helper has sealed it. */
+uint32_t connection_join(struct monitor *monitor, unsigned number, const struct report_of_job *with,
+                         int fd);
+void connection_joined(const struct monitor *monitor, unsigned number);
 
-/* Whether a file can be a client's channel: a connected Unix socket of packets, made by this process; it is shut for reading then. */
-int becomes_channel(int fd, pid_t pid);
-/* Takes a packet if it came without files. Its whole length; -1 with errno where there is none, EPIPE at the end. */
-ssize_t receive_packet(int from, uint8_t bytes[PACKET_MOST_BYTES], int *with_files);
-/* Sends a thread on an errand; 0 where there is none now. */
-int errand_start(struct errand *errand);
+/* ---- serve.c: requests */
+
+/* Reads and answers one request. */
+void clients_serve(struct monitor *monitor, unsigned number);
+/* The same for one of an operator's connections without a seat; one that has hung up goes. */
+void clients_serve_unseated(struct monitor *monitor, struct user *user);
+/* Goes on where the helper has done a connection's job. */
+void clients_report(struct monitor *monitor);
 
 /* ---- requests.c: who may do what */
 
 int owns(const struct monitor *monitor, unsigned client, enum kind kind, uint32_t number);
+/* How many objects of a kind a seat may have. */
+unsigned seat_share(const struct monitor *monitor, enum kind kind);
 /* Runs a control command if the client may. */
-void request_control(struct monitor *monitor, unsigned client, const struct packet *packet, struct answer *answer);
+void request_control(struct monitor *monitor, unsigned client, const struct packet *packet,
+                     struct answer *answer);
 /* Destroys all objects of a client: queue pairs, regions, completion queues, domains. */
 void destroy_all(struct monitor *monitor, unsigned client);
 /* Whether the queue pair's destination is another than it was joined with, or none. */
@@ -151,24 +174,35 @@ int peer_gone(const struct monitor *monitor, uint32_t qpn);
 
 /* ---- work.c: work requests, polls, events */
 
-uint32_t work_send(struct monitor *monitor, unsigned client, uint32_t qpn, const uint8_t *record, size_t length);
-uint32_t work_receive(struct monitor *monitor, unsigned client, uint32_t qpn, const uint8_t *record, size_t length);
+uint32_t work_send(struct monitor *monitor, unsigned client, uint32_t qpn, const uint8_t *record,
+                   size_t length);
+uint32_t work_receive(struct monitor *monitor, unsigned client, uint32_t qpn, const uint8_t *record,
+                      size_t length);
 uint32_t work_flush(struct monitor *monitor, unsigned client, uint32_t qpn);
 void work_poll(struct monitor *monitor, unsigned client, uint32_t cqn, struct answer *answer);
+/* Says what a queue pair's oldest held send waits for (waits.c). */
+void work_waits(struct monitor *monitor, unsigned client, uint32_t qpn, struct answer *answer);
 /* Gives each queue pair's oldest held send one try. */
 void work_turn(struct monitor *monitor);
 void work_forget(struct monitor *monitor, uint32_t qpn);
 
-uint32_t events_channel(struct monitor *monitor, unsigned client, uint32_t cqn, int fd);
+/* Takes the socket if it answers LESUNGKAP_DONE: *fd is NO_FD then. */
+uint32_t events_channel(struct monitor *monitor, unsigned client, uint32_t cqn, int *fd);
 uint32_t events_arm(struct monitor *monitor, unsigned client, uint32_t cqn);
 void events_forget(struct monitor *monitor, unsigned client, uint32_t cqn);
 /* Around a call that may put completions. */
 void events_before(struct monitor *monitor);
 void events_after(struct monitor *monitor);
 
-/* ---- main.c */
+/* ---- show.c: statistics */
 
-/* One line on standard error, at most ten in a second. */
-void complain(const char *what, pid_t pid);
+/* Writes line `number` of what this operator may see, or of all if it is NULL; its length, or 0
+ * behind the last. */
+size_t show_line(const struct monitor *monitor, const struct user *asks, unsigned number,
+                 char *text, size_t size);
+/* All lines on standard output, if somebody reads it. */
+void show_all(const struct monitor *monitor);
+/* Asks the monitor of this socket for its lines and prints them: the exit status. */
+int show_of(const char *socket);
 
 #endif

@@ -1,5 +1,6 @@
-/* Packets between lesungkap-monitor and its clients (docs/MONITOR.md). A packet is a record of a tape (lesungkap_tape.h): a request is a
- * call's record, its answer an answer's. Kinds 1 to 5 are the tape's calls; the others below are the monitor's own.
+/* Packets between lesungkap-monitor and its clients (docs/MONITOR.md). A packet is a record of a
+ * tape (lesungkap_tape.h): a request is a call's record, its answer an answer's. Kinds 1 to 5 are
+ * the tape's calls; the others below are the monitor's own.
  */
 #ifndef LESUNGKAP_PACKET_H
 #define LESUNGKAP_PACKET_H
@@ -13,17 +14,32 @@ enum {
     PACKET_RECEIVE = LESUNGKAP_TAPE_RECEIVE,
     PACKET_POLL = LESUNGKAP_TAPE_POLL,
     PACKET_FLUSH = LESUNGKAP_TAPE_FLUSH,
-    PACKET_WINDOW = 16,  /* how much memory a client may bring; the answer's body: version and bytes, 4 each */
+    PACKET_WINDOW = 16,  /* how much memory a client may bring; the answer's body: version and
+                            bytes, 4 each */
     PACKET_JOIN = 17,    /* with the file of the client's memory */
     PACKET_CHANNEL = 18, /* number: a completion queue; with the socket that its events go to */
     PACKET_ARM = 19,     /* number: a completion queue, whose next completion gives an event */
+    PACKET_SHOW = 20,    /* number: a line of the statistics; the answer's body: its text */
+    PACKET_WAITS = 21,   /* number: a queue pair; the answer's body: where its oldest held send lies
+                            and what it waits for, 4 each */
 
     PACKET_MOST_BYTES = LESUNGKAP_TAPE_HEADER_BYTES + LESUNGKAP_TAPE_MOST_BODY,
     PACKET_WINDOW_BYTES = 8,
-    PACKET_POLL_BYTES = LESUNGKAP_COMPLETION_BYTES + 1, /* last: how many completions are left in the queue, at most 255 */
+    PACKET_POLL_BYTES = LESUNGKAP_COMPLETION_BYTES + 1, /* last: how many completions are left */
+    PACKET_WAITS_BYTES = 8,
     PACKET_PAGE = 4096,
     PACKET_HELD_MOST = 1024, /* sends that wait on a queue pair */
-    PACKET_NAME_SHIFT = 8    /* of a queue pair's name: its number below, how often the number was given above, in 16 bits */
+    PACKET_NAME_SHIFT = 8    /* of a queue pair's name: its number below, above it whose it is and
+                                how often he was given it, in 16 bits */
+};
+
+/* What a held send waits for. */
+enum {
+    PACKET_WAITS_FOR_NOTHING = 0, /* none is held */
+    PACKET_WAITS_FOR_PEER = 1,    /* it is not ready */
+    PACKET_WAITS_FOR_RECEIVE = 2, /* of the peer's */
+    PACKET_WAITS_FOR_PLACE = 3,   /* of a completion */
+    PACKET_WAITS_FOR_GONE = 4     /* its destination is no more */
 };
 
 /* A packet's parts: kind and number of a request, answer and status of an answer. */
@@ -67,7 +83,8 @@ static inline size_t put_packet(uint8_t *bytes, unsigned mark, const struct pack
 }
 
 /* Whether the bytes are one whole packet of this mark; its body points into them. */
-static inline int get_packet(const uint8_t *bytes, size_t length, unsigned mark, struct packet *packet)
+static inline int get_packet(const uint8_t *bytes, size_t length, unsigned mark,
+                             struct packet *packet)
 {
     if (length < LESUNGKAP_TAPE_HEADER_BYTES || get_number(bytes, 2) != mark) {
         return 0;
@@ -76,9 +93,13 @@ static inline int get_packet(const uint8_t *bytes, size_t length, unsigned mark,
     packet->fourth = bytes[LESUNGKAP_TAPE_NUMBER_AT];
     packet->body = bytes + LESUNGKAP_TAPE_HEADER_BYTES;
     packet->length = get_number(bytes + LESUNGKAP_TAPE_LENGTH_AT, 2);
-    return packet->length <= LESUNGKAP_TAPE_MOST_BODY && length == LESUNGKAP_TAPE_HEADER_BYTES + packet->length;
+    return packet->length <= LESUNGKAP_TAPE_MOST_BODY &&
+           length == LESUNGKAP_TAPE_HEADER_BYTES + packet->length;
 }
 
-static inline uint32_t qp_number(uint32_t name) { return name & ((1u << PACKET_NAME_SHIFT) - 1); }
+static inline uint32_t qp_number(uint32_t name)
+{
+    return name & ((1u << PACKET_NAME_SHIFT) - 1);
+}
 
 #endif

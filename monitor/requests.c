@@ -1,8 +1,10 @@
-/* Who may do what: each control command is looked at before the card sees it. An object that is another's is answered as one that does not
- * exist, a region outside the client's window as one outside the memory, and what is over a client's share as a full table. */
+/* Who may do what: each control command is looked at before the card sees it. An object that is
+ * another's is answered as one that does not exist, a region outside the client's window as one
+ * outside the memory, and what is over a client's share as a full table. */
 #include "monitor.h"
 
-static const unsigned counts[KINDS] = {LESUNGKAP_PD_COUNT, LESUNGKAP_CQ_COUNT, LESUNGKAP_MR_COUNT, LESUNGKAP_QP_COUNT};
+static const unsigned counts[KINDS] = {LESUNGKAP_PD_COUNT, LESUNGKAP_CQ_COUNT, LESUNGKAP_MR_COUNT,
+                                       LESUNGKAP_QP_COUNT};
 
 /* ---- ownership */
 
@@ -11,29 +13,48 @@ int owns(const struct monitor *monitor, unsigned client, enum kind kind, uint32_
     return number < counts[kind] && monitor->owner[kind][number] == client + 1;
 }
 
-/* How many a client may have. The card takes for a region the lowest free slot, whoever dropped the one before, and retires a slot when its
- * last key was dropped: half of the slots are shared out as regions, the keys of the other half may be used up. So there is always a slot
- * for one who is within both. */
-static unsigned share_of(const struct monitor *monitor, enum kind kind) { return counts[kind] / (unsigned)monitor->seats / (kind == MR ? 2 : 1); }
-
-static unsigned keys_of_a_seat(const struct monitor *monitor) { return share_of(monitor, MR) * KEYS_OF_A_SLOT; }
+/* The card takes for a region the lowest free slot, whoever dropped the one before, and retires a
+ * slot when its last key was dropped: half of the slots are shared out as regions, the keys of the
+ * other half may be used up. So there is always a slot for one who is within both. */
+unsigned seat_share(const struct monitor *monitor, enum kind kind)
+{
+    return counts[kind] / monitor->seats / (kind == MR ? 2 : 1);
+}
 
 static int within_share(const struct monitor *monitor, unsigned client, enum kind kind)
 {
     const struct connection *connection = monitor->connections + client;
-    return connection->seat != NO_SEAT && connection->has[kind] < share_of(monitor, kind) &&
-           (kind != MR || monitor->keys[connection->seat] < keys_of_a_seat(monitor));
+    const struct user *user = connection->user;
+    return connection->seat != NO_SEAT && connection->has[kind] < seat_share(monitor, kind) &&
+           (kind != MR || user->keys < operator_keys(monitor, user));
+}
+
+static void take_key(struct monitor *monitor, unsigned client)
+{
+    struct user *user = monitor->connections[client].user;
+    if (++user->keys == operator_keys(monitor, user)) {
+        complain(monitor, client,
+                 "this operator has used up its keys: it registers no more until no client is "
+                 "left, of any "
+                 "operator");
+    }
 }
 
 static void take(struct monitor *monitor, unsigned client, enum kind kind, uint32_t number)
 {
+    static const char *const names[KINDS] = {"PD", "CQ", "MR", "QP"};
+    struct connection *connection = monitor->connections + client;
+    struct tape *tape = &monitor->card.tape;
     monitor->owner[kind][number] = (uint8_t)(client + 1);
-    monitor->connections[client].has[kind]++;
-    if (kind == MR && ++monitor->keys[monitor->connections[client].seat] == keys_of_a_seat(monitor)) {
-        complain("a client has used up its seat's keys: it registers no more until the monitor is started anew", monitor->connections[client].pid);
+    connection->has[kind]++;
+    tape_who(tape, tape_records(tape) - 1, connection->user->name, connection->client, "made %s %u",
+             names[kind], (unsigned)number);
+    if (kind == MR) {
+        take_key(monitor, client);
     } else if (kind == QP) {
         struct queue_pair *pair = monitor->pairs + number;
         pair->given = ++pair->given_before;
+        pair->name = operator_name(monitor, connection->user, number);
         pair->peer_given = 0;
     }
 }
@@ -52,16 +73,14 @@ static void give_back(struct monitor *monitor, unsigned client, enum kind kind, 
 
 /* ---- names of queue pairs */
 
-static uint32_t name_of(const struct monitor *monitor, uint32_t qpn)
-{
-    return qpn | (uint32_t)(monitor->pairs[qpn].given & 0xffff) << PACKET_NAME_SHIFT;
-}
-
 /* The number that a name stands for, or LESUNGKAP_NO_QP. */
 static uint32_t named(const struct monitor *monitor, uint32_t name)
 {
     const uint32_t qpn = qp_number(name);
-    return qpn < LESUNGKAP_QP_COUNT && monitor->pairs[qpn].given > 0 && name_of(monitor, qpn) == name ? qpn : LESUNGKAP_NO_QP;
+    return qpn < LESUNGKAP_QP_COUNT && monitor->pairs[qpn].given > 0 &&
+                   monitor->pairs[qpn].name == name
+               ? qpn
+               : LESUNGKAP_NO_QP;
 }
 
 int peer_gone(const struct monitor *monitor, uint32_t qpn)
@@ -70,11 +89,13 @@ int peer_gone(const struct monitor *monitor, uint32_t qpn)
     return pair->peer_given != 0 && monitor->pairs[pair->peer].given != pair->peer_given;
 }
 
-/* Whether `other` names the number of `qpn` for a queue pair that had it before: these two must not be joined. */
+/* Whether `other` names the number of `qpn` for a queue pair that had it before: these two must not
+ * be joined. */
 static int names_a_former(const struct monitor *monitor, uint32_t other, uint32_t qpn)
 {
     const struct queue_pair *pair = monitor->pairs + other;
-    return pair->peer_given != 0 && pair->peer == qpn && pair->peer_given != monitor->pairs[qpn].given;
+    return pair->peer_given != 0 && pair->peer == qpn &&
+           pair->peer_given != monitor->pairs[qpn].given;
 }
 
 /* ---- commands */
@@ -102,16 +123,55 @@ static unsigned get_destroy(const uint8_t *command, size_t length, enum kind kin
     struct lesungkap_destroy_pd pd = {0};
     unsigned answer;
     switch (kind) {
-    case QP: answer = lesungkap_get_destroy_qp(command, length, &qp); break;
-    case MR: answer = lesungkap_get_deregister_mr(command, length, &mr); break;
-    case CQ: answer = lesungkap_get_destroy_cq(command, length, &cq); break;
-    default: answer = lesungkap_get_destroy_pd(command, length, &pd);
+    case QP:
+        answer = lesungkap_get_destroy_qp(command, length, &qp);
+        *number = qp.qpn;
+        return answer;
+    case MR:
+        answer = lesungkap_get_deregister_mr(command, length, &mr);
+        *number = mr.mrn;
+        return answer;
+    case CQ:
+        answer = lesungkap_get_destroy_cq(command, length, &cq);
+        *number = cq.cqn;
+        return answer;
+    default:
+        answer = lesungkap_get_destroy_pd(command, length, &pd);
+        *number = pd.pdn;
+        return answer;
     }
-    *number = qp.qpn | mr.mrn | cq.cqn | pd.pdn;
-    return answer;
 }
 
-static uint32_t run(struct monitor *monitor, const uint8_t *command, size_t length, struct answer *answer)
+/* The number of what a command has made, from its ack. */
+static unsigned get_made(const struct answer *answer, enum kind kind, uint32_t *number)
+{
+    struct lesungkap_create_qp_ack qp = {0};
+    struct lesungkap_register_mr_ack mr = {0};
+    struct lesungkap_create_cq_ack cq = {0};
+    struct lesungkap_create_pd_ack pd = {0};
+    unsigned test;
+    switch (kind) {
+    case QP:
+        test = lesungkap_get_create_qp_ack(answer->body, answer->length, &qp);
+        *number = qp.qpn;
+        return test;
+    case MR:
+        test = lesungkap_get_register_mr_ack(answer->body, answer->length, &mr);
+        *number = mr.mrn;
+        return test;
+    case CQ:
+        test = lesungkap_get_create_cq_ack(answer->body, answer->length, &cq);
+        *number = cq.cqn;
+        return test;
+    default:
+        test = lesungkap_get_create_pd_ack(answer->body, answer->length, &pd);
+        *number = pd.pdn;
+        return test;
+    }
+}
+
+static uint32_t run(struct monitor *monitor, const uint8_t *command, size_t length,
+                    struct answer *answer)
 {
     events_before(monitor);
     answer->result = card_control(&monitor->card, command, length, answer->body);
@@ -121,23 +181,33 @@ static uint32_t run(struct monitor *monitor, const uint8_t *command, size_t leng
     return answer->result;
 }
 
-/* A command that makes an object, whose number is the first of its ack. */
-static void create(struct monitor *monitor, unsigned client, enum kind kind, const uint8_t *command, size_t length, struct answer *answer)
+/* A command that changes nothing. */
+static void query(struct monitor *monitor, const uint8_t *command, size_t length,
+                  struct answer *answer)
 {
-    struct lesungkap_create_pd_ack made;
+    answer->result = card_control(&monitor->card, command, length, answer->body);
+    answer->length = lesungkap_ack_written(answer->result, command);
+}
+
+/* A command that makes an object. */
+static void create(struct monitor *monitor, unsigned client, enum kind kind, const uint8_t *command,
+                   size_t length, struct answer *answer)
+{
+    uint32_t number;
     if (!within_share(monitor, client, kind)) {
         answer->result = LESUNGKAP_FULL;
     } else if (run(monitor, command, length, answer) == LESUNGKAP_DONE &&
-               lesungkap_get_create_pd_ack(answer->body, answer->length, &made) == LESUNGKAP_DONE) {
-        take(monitor, client, kind, made.pdn);
+               get_made(answer, kind, &number) == LESUNGKAP_DONE) {
+        take(monitor, client, kind, number);
         if (kind == QP) {
-            const struct lesungkap_create_qp_ack ack = {name_of(monitor, made.pdn)};
+            const struct lesungkap_create_qp_ack ack = {monitor->pairs[number].name};
             lesungkap_put_create_qp_ack(answer->body, sizeof answer->body, &ack);
         }
     }
 }
 
-static void destroy(struct monitor *monitor, unsigned client, enum kind kind, const struct packet *packet, struct answer *answer)
+static void destroy(struct monitor *monitor, unsigned client, enum kind kind,
+                    const struct packet *packet, struct answer *answer)
 {
     uint32_t number = 0;
     uint8_t own[LESUNGKAP_COMMAND_MOST_BYTES];
@@ -148,12 +218,14 @@ static void destroy(struct monitor *monitor, unsigned client, enum kind kind, co
     number = kind == QP ? named(monitor, number) : number;
     if (!owns(monitor, client, kind, number)) {
         answer->result = LESUNGKAP_NOT_LIVE;
-    } else if (run(monitor, own, put_destroy(own, sizeof own, kind, number), answer) == LESUNGKAP_DONE) {
+    } else if (run(monitor, own, put_destroy(own, sizeof own, kind, number), answer) ==
+               LESUNGKAP_DONE) {
         give_back(monitor, client, kind, number);
     }
 }
 
-static void register_mr(struct monitor *monitor, unsigned client, const struct packet *packet, struct answer *answer)
+static void register_mr(struct monitor *monitor, unsigned client, const struct packet *packet,
+                        struct answer *answer)
 {
     const struct connection *connection = monitor->connections + client;
     struct lesungkap_register_mr data;
@@ -164,7 +236,8 @@ static void register_mr(struct monitor *monitor, unsigned client, const struct p
     }
     if (!owns(monitor, client, PD, data.pdn)) {
         answer->result = LESUNGKAP_NOT_LIVE;
-    } else if (data.start > connection->window_bytes || data.length > connection->window_bytes - data.start) {
+    } else if (data.start > connection->window_bytes ||
+               data.length > connection->window_bytes - data.start) {
         answer->result = LESUNGKAP_RANGE;
     } else {
         data.start += (uint64_t)connection->seat * monitor->window;
@@ -172,14 +245,16 @@ static void register_mr(struct monitor *monitor, unsigned client, const struct p
     }
 }
 
-static void create_qp(struct monitor *monitor, unsigned client, const struct packet *packet, struct answer *answer)
+static void create_qp(struct monitor *monitor, unsigned client, const struct packet *packet,
+                      struct answer *answer)
 {
     struct lesungkap_create_qp data;
     answer->result = lesungkap_get_create_qp(packet->body, packet->length, &data);
     if (answer->result != LESUNGKAP_DONE) {
         return;
     }
-    if (!owns(monitor, client, PD, data.pdn) || !owns(monitor, client, CQ, data.send_cqn) || !owns(monitor, client, CQ, data.receive_cqn)) {
+    if (!owns(monitor, client, PD, data.pdn) || !owns(monitor, client, CQ, data.send_cqn) ||
+        !owns(monitor, client, CQ, data.receive_cqn)) {
         answer->result = LESUNGKAP_NOT_LIVE;
     } else {
         create(monitor, client, QP, packet->body, packet->length, answer);
@@ -187,7 +262,8 @@ static void create_qp(struct monitor *monitor, unsigned client, const struct pac
 }
 
 /* Puts the destination's number in its name's place; the answer if it can't be one. */
-static unsigned resolve(struct monitor *monitor, struct lesungkap_modify_qp *data, struct queue_pair *joined)
+static unsigned resolve(struct monitor *monitor, struct lesungkap_modify_qp *data,
+                        struct queue_pair *joined)
 {
     if (!(data->mask & LESUNGKAP_MASK_DESTINATION)) {
         return LESUNGKAP_DONE;
@@ -204,7 +280,8 @@ static unsigned resolve(struct monitor *monitor, struct lesungkap_modify_qp *dat
     return LESUNGKAP_DONE;
 }
 
-static void modify_qp(struct monitor *monitor, unsigned client, const struct packet *packet, struct answer *answer)
+static void modify_qp(struct monitor *monitor, unsigned client, const struct packet *packet,
+                      struct answer *answer)
 {
     struct lesungkap_modify_qp data;
     uint8_t own[LESUNGKAP_COMMAND_MOST_BYTES];
@@ -222,7 +299,8 @@ static void modify_qp(struct monitor *monitor, unsigned client, const struct pac
     if (answer->result != LESUNGKAP_DONE) {
         return;
     }
-    if (run(monitor, own, lesungkap_put_modify_qp(own, sizeof own, &data), answer) == LESUNGKAP_DONE) {
+    if (run(monitor, own, lesungkap_put_modify_qp(own, sizeof own, &data), answer) ==
+        LESUNGKAP_DONE) {
         monitor->pairs[data.qpn] = joined;
         if (data.state == LESUNGKAP_QP_RESET) {
             monitor->pairs[data.qpn].peer_given = 0;
@@ -231,7 +309,8 @@ static void modify_qp(struct monitor *monitor, unsigned client, const struct pac
     }
 }
 
-void request_control(struct monitor *monitor, unsigned client, const struct packet *packet, struct answer *answer)
+void request_control(struct monitor *monitor, unsigned client, const struct packet *packet,
+                     struct answer *answer)
 {
     const uint8_t *command = packet->body;
     const size_t length = packet->length;
@@ -245,7 +324,7 @@ void request_control(struct monitor *monitor, unsigned client, const struct pack
     }
     switch (command[LESUNGKAP_COMMAND_NUMBER_AT]) {
     case LESUNGKAP_QUERY_DEVICE:
-    case LESUNGKAP_QUERY_PORT: run(monitor, command, length, answer); break;
+    case LESUNGKAP_QUERY_PORT: query(monitor, command, length, answer); break;
     case LESUNGKAP_CREATE_PD: create(monitor, client, PD, command, length, answer); break;
     case LESUNGKAP_CREATE_CQ: create(monitor, client, CQ, command, length, answer); break;
     case LESUNGKAP_REGISTER_MR: register_mr(monitor, client, packet, answer); break;
@@ -269,8 +348,10 @@ void destroy_all(struct monitor *monitor, unsigned client)
     for (unsigned n = 0; n < KINDS; n++) {
         for (uint32_t number = 0; number < counts[order[n]]; number++) {
             if (owns(monitor, client, order[n], number)) {
-                if (run(monitor, command, put_destroy(command, sizeof command, order[n], number), &answer) != LESUNGKAP_DONE) {
-                    complain("an object of a client that has gone could not be destroyed", monitor->connections[client].pid);
+                if (run(monitor, command, put_destroy(command, sizeof command, order[n], number),
+                        &answer) != LESUNGKAP_DONE) {
+                    complain(monitor, client,
+                             "an object of a client that has gone could not be destroyed");
                 }
                 give_back(monitor, client, order[n], number);
             }

@@ -1,9 +1,10 @@
-/* Work requests, polls and events. A send that the card holds waits here, in the order of its queue pair, and is tried again in turn; on a
- * queue pair in error the card flushes it then. */
+/* Work requests, polls and events. A send that the card holds waits here, in the order of its queue
+ * pair, and is tried again in turn; on a queue pair in error the card flushes it then. */
 #define _GNU_SOURCE
 #include "monitor.h"
 
 #include <sys/socket.h>
+#include <unistd.h>
 
 /* ---- events */
 
@@ -16,7 +17,8 @@ void events_before(struct monitor *monitor)
     }
 }
 
-/* The event is the number of the queue. It is lost where the client's socket is full or is gone: that client does not listen. */
+/* The event is the number of the queue. It is lost where the client's socket is full or is gone:
+ * that client does not listen. */
 static void notify(struct events *events, uint32_t cqn)
 {
     const uint8_t number = (uint8_t)cqn;
@@ -36,25 +38,31 @@ void events_after(struct monitor *monitor)
     }
 }
 
+/* The helper closes its descriptor too, and as the last. */
 void events_forget(struct monitor *monitor, unsigned client, uint32_t cqn)
 {
     struct events *events = monitor->events + cqn;
-    unwanted(monitor, client, events->channel);
+    if (events->channel != NO_FD) {
+        close(events->channel);
+        monitor->connections[client].job.drop_channels |= (uint64_t)1 << cqn;
+    }
     events->channel = NO_FD;
     events->armed = 0;
 }
 
-/* Takes the socket if it answers LESUNGKAP_DONE. */
-uint32_t events_channel(struct monitor *monitor, unsigned client, uint32_t cqn, int fd)
+uint32_t events_channel(struct monitor *monitor, unsigned client, uint32_t cqn, int *fd)
 {
+    struct connection *connection = monitor->connections + client;
     if (!owns(monitor, client, CQ, cqn)) {
         return LESUNGKAP_NOT_LIVE;
     }
-    if (fd == NO_FD || !becomes_channel(fd, monitor->connections[client].errand.sender)) {
+    if (*fd == NO_FD || !becomes_channel(*fd, connection->sender)) {
         return LESUNGKAP_BAD_FIELD;
     }
     events_forget(monitor, client, cqn);
-    monitor->events[cqn].channel = fd;
+    monitor->events[cqn].channel = *fd;
+    connection->job.keep = (uint8_t)(cqn + 1);
+    *fd = NO_FD;
     return LESUNGKAP_DONE;
 }
 
@@ -69,10 +77,13 @@ uint32_t events_arm(struct monitor *monitor, unsigned client, uint32_t cqn)
 
 /* ---- sends */
 
-static uint32_t send_once(struct monitor *monitor, uint32_t qpn, const uint8_t *record, size_t length)
+/* A send that is made for the first time, or again. */
+static uint32_t send_once(struct monitor *monitor, uint32_t qpn, const uint8_t *record,
+                          size_t length, int again)
 {
     events_before(monitor);
-    uint32_t result = card_send(&monitor->card, qpn, record, length);
+    uint32_t result = again ? card_send_again(&monitor->card, qpn, record, length)
+                            : card_send(&monitor->card, qpn, record, length);
     if (lesungkap_answer(result) == LESUNGKAP_HELD_PEER && peer_gone(monitor, qpn)) {
         card_break(&monitor->card, qpn);
         result = card_send(&monitor->card, qpn, record, length);
@@ -80,11 +91,6 @@ static uint32_t send_once(struct monitor *monitor, uint32_t qpn, const uint8_t *
     events_after(monitor);
     monitor->changed |= lesungkap_answer(result) == LESUNGKAP_DONE;
     return result;
-}
-
-static int is_held(uint32_t result)
-{
-    return lesungkap_answer(result) == LESUNGKAP_HELD_PEER || lesungkap_answer(result) == LESUNGKAP_HELD_PLACE;
 }
 
 static uint32_t hold(struct held *held, const uint8_t *record, size_t length, uint32_t result)
@@ -104,7 +110,8 @@ static void drop_first(struct held *held)
     held->count--;
 }
 
-uint32_t work_send(struct monitor *monitor, unsigned client, uint32_t qpn, const uint8_t *record, size_t length)
+uint32_t work_send(struct monitor *monitor, unsigned client, uint32_t qpn, const uint8_t *record,
+                   size_t length)
 {
     struct lesungkap_send send;
     if (!owns(monitor, client, QP, qpn)) {
@@ -118,14 +125,15 @@ uint32_t work_send(struct monitor *monitor, unsigned client, uint32_t qpn, const
     if (held->count > 0) {
         return hold(held, record, length, LESUNGKAP_HELD_PLACE);
     }
-    const uint32_t result = send_once(monitor, qpn, record, length);
+    const uint32_t result = send_once(monitor, qpn, record, length, 0);
     return is_held(result) ? hold(held, record, length, result) : result;
 }
 
 static void try_first(struct monitor *monitor, uint32_t qpn)
 {
     struct held *held = monitor->held + qpn;
-    const uint32_t result = send_once(monitor, qpn, held->at[held->first].record, held->at[held->first].length);
+    const uint32_t result =
+        send_once(monitor, qpn, held->at[held->first].record, held->at[held->first].length, 1);
     if (!is_held(result)) {
         drop_first(held);
     }
@@ -143,11 +151,15 @@ void work_turn(struct monitor *monitor)
     monitor->turn = (monitor->turn + 1) % LESUNGKAP_QP_COUNT;
 }
 
-void work_forget(struct monitor *monitor, uint32_t qpn) { monitor->held[qpn].count = 0; }
+void work_forget(struct monitor *monitor, uint32_t qpn)
+{
+    monitor->held[qpn].count = 0;
+}
 
 /* ---- receives, flushes, polls */
 
-uint32_t work_receive(struct monitor *monitor, unsigned client, uint32_t qpn, const uint8_t *record, size_t length)
+uint32_t work_receive(struct monitor *monitor, unsigned client, uint32_t qpn, const uint8_t *record,
+                      size_t length)
 {
     if (!owns(monitor, client, QP, qpn)) {
         return LESUNGKAP_NOT_LIVE;

@@ -1,25 +1,27 @@
-/* Posting and polling. A send goes to the monitor at once, which holds it where the card can't take it yet. A receive that the card has no
- * room for waits here, and follows when one has been completed. Of a queue pair in error, the card's receives are flushed by request, and
- * those that wait here follow one by one: the card flushes each as it is posted. */
+/* Posting and polling. A send goes to the monitor at once, which holds it where the card can't take
+ * it yet. A receive that the card has no room for waits here, and follows when one has been
+ * completed. Of a queue pair in error, the card's receives are flushed by request, and those that
+ * wait here follow one by one: the card flushes each as it is posted. */
 #include "verbs.h"
 
 #include <errno.h>
 
 /* ---- sends */
 
-/* Copies what the entries point to; 0 where it is too much. */
-static int gather(const struct ibv_send_wr *wr, uint8_t bytes[LESUNGKAP_MOST_INLINE], uint32_t *length)
+/* Copies what the entries point to; 0, or an errno where it is too much. */
+static int gather(const struct ibv_send_wr *wr, uint8_t bytes[LESUNGKAP_MOST_INLINE],
+                  uint32_t *length)
 {
     *length = 0;
     for (int n = 0; n < wr->num_sge; n++) {
         const struct ibv_sge *sge = wr->sg_list + n;
         if (sge->length > LESUNGKAP_MOST_INLINE - *length) {
-            return 0;
+            return EINVAL;
         }
         memcpy(bytes + *length, (const void *)(uintptr_t)sge->addr, sge->length);
         *length += sge->length;
     }
-    return 1;
+    return 0;
 }
 
 static void copy_entries(struct lesungkap_sge *to, const struct ibv_sge *from, uint32_t count)
@@ -30,13 +32,16 @@ static void copy_entries(struct lesungkap_sge *to, const struct ibv_sge *from, u
 }
 
 /* The card's record of a request; 0 or an errno. */
-static int put_request(const struct lk_qp *qp, const struct ibv_send_wr *wr, struct lesungkap_send *send, uint8_t *bytes)
+static int put_request(const struct lk_qp *qp, const struct ibv_send_wr *wr,
+                       struct lesungkap_send *send, uint8_t *bytes)
 {
-    const unsigned flags = LESUNGKAP_FLAG_FENCE | LESUNGKAP_FLAG_SIGNALED | LESUNGKAP_FLAG_SOLICITED | LESUNGKAP_FLAG_INLINE;
+    const unsigned flags = LESUNGKAP_FLAG_FENCE | LESUNGKAP_FLAG_SIGNALED |
+                           LESUNGKAP_FLAG_SOLICITED | LESUNGKAP_FLAG_INLINE;
     if (wr->opcode > IBV_WR_RDMA_READ) {
         return EOPNOTSUPP;
     }
-    if (wr->num_sge < 0 || (unsigned)wr->num_sge > qp->init.cap.max_send_sge || (wr->send_flags & ~flags)) {
+    if (wr->num_sge < 0 || (unsigned)wr->num_sge > qp->init.cap.max_send_sge ||
+        (wr->send_flags & ~flags)) {
         return EINVAL;
     }
     memset(send, 0, sizeof *send);
@@ -52,14 +57,14 @@ static int put_request(const struct lk_qp *qp, const struct ibv_send_wr *wr, str
     }
     if (wr->send_flags & IBV_SEND_INLINE) {
         send->inline_bytes = bytes;
-        return gather(wr, bytes, &send->count) ? 0 : EINVAL;
+        return gather(wr, bytes, &send->count);
     }
     send->count = (uint32_t)wr->num_sge;
     copy_entries(send->sges, wr->sg_list, send->count);
     return 0;
 }
 
-static int post_one(struct lk_context *context, const struct lk_qp *qp, const struct ibv_send_wr *wr)
+static int post_one(struct lk_context *context, struct lk_qp *qp, const struct ibv_send_wr *wr)
 {
     uint8_t bytes[LESUNGKAP_MOST_INLINE];
     struct lesungkap_send send;
@@ -69,9 +74,9 @@ static int post_one(struct lk_context *context, const struct lk_qp *qp, const st
     }
     const uint32_t result = ask_send(&context->link, qp->base.qp_num, &send);
     switch (lesungkap_answer(result)) {
-    case LESUNGKAP_DONE:
+    case LESUNGKAP_DONE: return 0;
     case LESUNGKAP_HELD_PEER:
-    case LESUNGKAP_HELD_PLACE: return 0;
+    case LESUNGKAP_HELD_PLACE: limits_begin(context, qp); return 0;
     default: return link_errno(result);
     }
 }
@@ -107,7 +112,8 @@ static uint32_t give_first(struct lk_context *context, struct lk_qp *qp)
 static uint32_t top_up(struct lk_context *context, struct lk_qp *qp)
 {
     uint32_t result = LESUNGKAP_DONE;
-    while (qp->waiting > 0 && qp->in_card < LESUNGKAP_QP_MOST_RECEIVES && !qp->broken && lesungkap_answer(result) == LESUNGKAP_DONE) {
+    while (qp->waiting > 0 && qp->in_card < LESUNGKAP_QP_MOST_RECEIVES && !qp->broken &&
+           lesungkap_answer(result) == LESUNGKAP_DONE) {
         result = give_first(context, qp);
     }
     return result;
@@ -115,13 +121,15 @@ static uint32_t top_up(struct lk_context *context, struct lk_qp *qp)
 
 static int receive_one(struct lk_context *context, struct lk_qp *qp, const struct ibv_recv_wr *wr)
 {
-    if (wr->num_sge < 0 || (unsigned)wr->num_sge > qp->init.cap.max_recv_sge || qp->base.state == IBV_QPS_RESET) {
+    if (wr->num_sge < 0 || (unsigned)wr->num_sge > qp->init.cap.max_recv_sge ||
+        qp->base.state == IBV_QPS_RESET) {
         return EINVAL;
     }
     if (qp->waiting + qp->in_card >= qp->init.cap.max_recv_wr) {
         return ENOMEM;
     }
-    struct lesungkap_receive *receive = qp->receives + (qp->first + qp->waiting) % qp->init.cap.max_recv_wr;
+    struct lesungkap_receive *receive =
+        qp->receives + (qp->first + qp->waiting) % qp->init.cap.max_recv_wr;
     memset(receive, 0, sizeof *receive);
     receive->wr_id = wr->wr_id;
     receive->count = (uint32_t)wr->num_sge;
@@ -174,21 +182,35 @@ static enum ibv_wc_opcode opcode_of(unsigned opcode)
     }
 }
 
-/* A completion has no mark of an immediate: a write's is always there, a send's where it isn't 0. */
-static void put_wc(const struct lk_context *context, const struct lesungkap_completion *done, struct ibv_wc *wc)
+static int is_receive(const struct lesungkap_completion *done)
+{
+    return done->opcode == LESUNGKAP_COMPLETED_RECEIVE ||
+           done->opcode == LESUNGKAP_COMPLETED_RECEIVE_OF_WRITE;
+}
+
+/* A completion has no mark of an immediate: a write's is always there, a send's where it isn't 0.
+ */
+static void put_wc(struct lk_context *context, const struct lesungkap_completion *done,
+                   struct ibv_wc *wc)
 {
     const int write = done->opcode == LESUNGKAP_COMPLETED_RECEIVE_OF_WRITE;
+    struct lk_qp *qp = context->qps[qp_number(done->qpn)];
     memset(wc, 0, sizeof *wc);
     wc->wr_id = done->wr_id;
     wc->status = status_of(done->status);
+    if (qp != NULL && done->status == LESUNGKAP_FLUSHED && !is_receive(done)) {
+        wc->status = limits_status(context, qp);
+    }
     wc->opcode = opcode_of(done->opcode);
     wc->byte_len = done->byte_length;
     wc->qp_num = context->names[qp_number(done->qpn)];
     wc->imm_data = done->immediate;
-    wc->wc_flags = done->status == LESUNGKAP_SUCCESS && (write || done->immediate != 0) ? IBV_WC_WITH_IMM : 0;
+    wc->wc_flags =
+        done->status == LESUNGKAP_SUCCESS && (write || done->immediate != 0) ? IBV_WC_WITH_IMM : 0;
 }
 
-/* What a completion says of its queue pair: a failure leaves it in error, a receive makes room for the next. */
+/* What a completion says of its queue pair: a failure leaves it in error, a receive makes room for
+ * the next, and after a send the time of the next begins. */
 static void note(struct lk_context *context, const struct lesungkap_completion *done)
 {
     struct lk_qp *qp = context->qps[qp_number(done->qpn)];
@@ -198,16 +220,20 @@ static void note(struct lk_context *context, const struct lesungkap_completion *
     if (done->status != LESUNGKAP_SUCCESS) {
         qp->broken = 1;
     }
-    if (done->opcode == LESUNGKAP_COMPLETED_RECEIVE || done->opcode == LESUNGKAP_COMPLETED_RECEIVE_OF_WRITE) {
+    if (is_receive(done)) {
         qp->in_card -= qp->in_card > 0;
         top_up(context, qp);
+    } else {
+        qp->limits.seen = 0;
     }
 }
 
-/* Has the card flush the next receive of a queue pair in error: its own first, then those that wait here. */
+/* Has the card flush the next receive of a queue pair in error: its own first, then those that wait
+ * here. */
 static uint32_t flush_next(struct lk_context *context, struct lk_qp *qp)
 {
-    uint32_t result = qp->drained ? (uint32_t)LESUNGKAP_NOTHING : ask_flush(&context->link, qp->base.qp_num);
+    uint32_t result =
+        qp->drained ? (uint32_t)LESUNGKAP_NOTHING : ask_flush(&context->link, qp->base.qp_num);
     if (result == LESUNGKAP_NOTHING) {
         qp->drained = 1;
         qp->in_card = 0;
@@ -219,12 +245,14 @@ static uint32_t flush_next(struct lk_context *context, struct lk_qp *qp)
     return result;
 }
 
-static uint32_t poll_flushed(struct lk_context *context, const struct lk_cq *cq, struct lesungkap_completion *done)
+static uint32_t poll_flushed(struct lk_context *context, const struct lk_cq *cq,
+                             struct lesungkap_completion *done)
 {
     unsigned left;
     for (unsigned n = 0; n < NUMBERS; n++) {
         struct lk_qp *qp = context->qps[n];
-        if (qp != NULL && qp->broken && qp->base.recv_cq == &cq->base && lesungkap_answer(flush_next(context, qp)) == LESUNGKAP_DONE) {
+        if (qp != NULL && qp->broken && qp->base.recv_cq == &cq->base &&
+            lesungkap_answer(flush_next(context, qp)) == LESUNGKAP_DONE) {
             return ask_poll(&context->link, cq->cqn, done, &left);
         }
     }

@@ -3,9 +3,12 @@
 
 #include <fcntl.h>
 #include <sched.h>
+#include <signal.h>
 #include <stdio.h>
 #include <stdlib.h>
 #include <sys/mman.h>
+#include <sys/socket.h>
+#include <time.h>
 #include <unistd.h>
 
 void expect(int holds, const char *what, const char *file, int line)
@@ -107,4 +110,30 @@ struct lesungkap_completion client_completion(struct client *client)
     }
     EXPECT(result == LESUNGKAP_DONE);
     return done;
+}
+
+pid_t stop_monitor(const struct link *link)
+{
+    struct ucred monitor;
+    socklen_t size = sizeof monitor;
+    usleep(100000); /* until it waits for requests */
+    EXPECT(getsockopt(link->fd, SOL_SOCKET, SO_PEERCRED, &monitor, &size) == 0 && kill(monitor.pid, SIGSTOP) == 0);
+    usleep(100000); /* until it has stopped */
+    return monitor.pid;
+}
+
+double stamped(const struct link *link)
+{
+    uint8_t bytes[PACKET_MOST_BYTES];
+    union {
+        struct cmsghdr aligned;
+        char bytes[CMSG_SPACE(sizeof(struct timespec))];
+    } control;
+    struct iovec part = {bytes, sizeof bytes};
+    struct msghdr message = {.msg_iov = &part, .msg_iovlen = 1, .msg_control = &control, .msg_controllen = sizeof control};
+    struct timespec stamp;
+    EXPECT(recvmsg(link->fd, &message, 0) > 0 && CMSG_FIRSTHDR(&message) != NULL);
+    EXPECT(CMSG_FIRSTHDR(&message)->cmsg_type == SO_TIMESTAMPNS);
+    memcpy(&stamp, CMSG_DATA(CMSG_FIRSTHDR(&message)), sizeof stamp);
+    return (double)(stamp.tv_sec % 100000) + (double)stamp.tv_nsec / 1e9;
 }

@@ -5,6 +5,7 @@
 #include "../../monitor/verbs/link.h"
 
 #include <fcntl.h>
+#include <sys/types.h>
 
 enum { CLIENT_VIRT = 0x10000000, SEALS = F_SEAL_SHRINK | F_SEAL_GROW };
 
@@ -38,5 +39,10 @@ uint32_t client_send(struct client *client, uint8_t opcode, uint64_t at, uint32_
 uint32_t client_receive(struct client *client, uint64_t at, uint32_t length);
 /* Waits for the next completion. */
 struct lesungkap_completion client_completion(struct client *client);
+
+/* Stops the monitor, so that what comes in the meantime comes at once; its process, for SIGCONT. */
+pid_t stop_monitor(const struct link *link);
+/* When the next answer was given, by the kernel's clock; the link has SO_TIMESTAMPNS. */
+double stamped(const struct link *link);
 
 #endif

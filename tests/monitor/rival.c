@@ -1,6 +1,8 @@
 /* What a client may not do, and what it may not see. Each case is a function; a line for each, and the first that isn't so ends the program.
  *
- * usage: rival SOCKET [CASE]      of a monitor for four clients; all cases, or this one
+ * usage: rival SOCKET [CASE]                       of a monitor for four clients; all cases, or this one
+ *        rival SOCKET "a file that never closes"   passes one, says so, and lives until it is killed
+ *        rival SOCKET "until the end"              asks until the monitor has gone; how many calls were answered
  */
 #define _GNU_SOURCE
 #include "rival.h"
@@ -11,10 +13,11 @@
 #include <stdio.h>
 #include <sys/mman.h>
 #include <sys/socket.h>
+#include <sys/stat.h>
 #include <time.h>
 #include <unistd.h>
 
-enum { SHARE_OF_REGIONS = LESUNGKAP_MR_COUNT / 4 / 2, SHARE_OF_KEYS = SHARE_OF_REGIONS * 255 };
+enum { SHARE_OF_REGIONS = LESUNGKAP_MR_COUNT / 4 / 2, REGISTRATIONS = 3000, TIMES = 1000 };
 
 const char *path;
 
@@ -94,7 +97,7 @@ static void others_objects(void)
     struct client a, b;
     struct lesungkap_completion done;
     struct lesungkap_register_mr_ack mr;
-    uint32_t name;
+    uint32_t name, oldest, what;
     unsigned left;
     client_open(&a, path, 8);
     client_open(&b, path, 8);
@@ -109,6 +112,7 @@ static void others_objects(void)
         EXPECT(n == b.cqn || ask_arm(&b.link, n) == LESUNGKAP_NOT_LIVE);
         EXPECT(n == b.cqn || ask_channel(&b.link, n, -1) == LESUNGKAP_NOT_LIVE);
         EXPECT(n == qp_number(b.qp) || ask_flush(&b.link, n) == LESUNGKAP_NOT_LIVE);
+        EXPECT(n == qp_number(b.qp) || ask_waits(&b.link, n, &oldest, &what) == LESUNGKAP_NOT_LIVE);
         EXPECT(n == b.pdn || ask_register_mr(&b.link, &region, &mr) == LESUNGKAP_NOT_LIVE);
         EXPECT(n == b.pdn || ask_create_qp(&b.link, &pd, &name) == LESUNGKAP_NOT_LIVE);
         EXPECT(n == b.cqn || ask_create_qp(&b.link, &cq, &name) == LESUNGKAP_NOT_LIVE);
@@ -223,65 +227,48 @@ static void flood(void)
     client_close(&a);
 }
 
-/* When the next answer was given, by the kernel's clock. */
-static double stamped(const struct link *link)
-{
-    uint8_t bytes[PACKET_MOST_BYTES];
-    union {
-        struct cmsghdr aligned;
-        char bytes[CMSG_SPACE(sizeof(struct timespec))];
-    } control;
-    struct iovec part = {bytes, sizeof bytes};
-    struct msghdr message = {.msg_iov = &part, .msg_iovlen = 1, .msg_control = &control, .msg_controllen = sizeof control};
-    struct timespec stamp;
-    EXPECT(recvmsg(link->fd, &message, 0) > 0 && CMSG_FIRSTHDR(&message) != NULL);
-    EXPECT(CMSG_FIRSTHDR(&message)->cmsg_type == SO_TIMESTAMPNS);
-    memcpy(&stamp, CMSG_DATA(CMSG_FIRSTHDR(&message)), sizeof stamp);
-    return (double)(stamp.tv_sec % 100000) + (double)stamp.tv_nsec / 1e9;
-}
-
 /* Three clients have a hundred requests waiting when a fourth asks once: it is answered before any of them gets its third answer. */
 static void in_turn(void)
 {
-    struct link links[4];
+    struct client clients[4];
     const int yes = 1;
     const uint8_t byte = 0;
     for (int n = 0; n < 4; n++) {
-        EXPECT(link_open(links + n, path) == 0 && setsockopt(links[n].fd, SOL_SOCKET, SO_TIMESTAMPNS, &yes, sizeof yes) == 0);
-        EXPECT(link_send(links + n, &byte, 1, -1) && stamped(links + n) > 0);
+        client_join(clients + n, path);
+        EXPECT(setsockopt(clients[n].link.fd, SOL_SOCKET, SO_TIMESTAMPNS, &yes, sizeof yes) == 0);
     }
-    const pid_t monitor = stop_monitor(links);
+    const pid_t monitor = stop_monitor(&clients[0].link);
     for (int n = 0; n < 301; n++) {
-        EXPECT(link_send(links + n / 100, &byte, 1, -1));
+        EXPECT(link_send(&clients[n / 100].link, &byte, 1, -1));
     }
     EXPECT(kill(monitor, SIGCONT) == 0);
-    const double asked_once = stamped(links + 3);
+    const double asked_once = stamped(&clients[3].link);
     for (int n = 0; n < 3; n++) {
-        stamped(links + n);
-        stamped(links + n);
-        EXPECT(asked_once <= stamped(links + n));
-        link_close(links + n);
+        stamped(&clients[n].link);
+        stamped(&clients[n].link);
+        EXPECT(asked_once <= stamped(&clients[n].link));
+        client_close(clients + n);
     }
-    link_close(links + 3);
+    client_close(clients + 3);
 }
 
-/* A fifth connection of a process is refused, and one that has hung up is not counted. */
+/* One connection more than an operator may have is refused, and one that has hung up is not counted. */
 static void connections(void)
 {
-    struct link links[5], last;
+    struct link links[CONNECTIONS + 1], last;
     uint32_t bytes;
     for (int m = 0; m < 20; m++) {
-        for (int n = 0; n < 5; n++) {
+        for (int n = 0; n <= CONNECTIONS; n++) {
             EXPECT(link_open(links + n, path) == 0);
-            EXPECT(ask_window(links + n, &bytes) == (n < 4 ? LESUNGKAP_DONE : LINK_LOST));
+            EXPECT(ask_window(links + n, &bytes) == (n < CONNECTIONS ? LESUNGKAP_DONE : LINK_LOST));
         }
-        for (int n = 0; n < 5; n++) {
+        for (int n = 0; n <= CONNECTIONS; n++) {
             link_close(links + n);
         }
     }
     EXPECT(link_open(links, path) == 0);
     const pid_t monitor = stop_monitor(links);
-    for (int n = 0; n < 20; n++) {
+    for (int n = 0; n < 2 * CONNECTIONS; n++) {
         EXPECT(link_open(&last, path) == 0);
         link_close(&last);
     }
@@ -290,47 +277,77 @@ static void connections(void)
     link_close(links);
 }
 
-/* Registers and drops the same byte, so many times or until it is refused; how often it was done. */
-static int use_keys(struct client *client, int times)
+/* A client's memory is filled when it has joined: the monitor waits for no page of it later. */
+static void filled_memory(void)
 {
-    const struct lesungkap_register_mr region = {client->pdn, 1, 0, 1, 0};
-    struct lesungkap_register_mr_ack mr;
-    for (int n = 0; n < times; n++) {
-        const uint32_t result = ask_register_mr(&client->link, &region, &mr);
-        EXPECT(result == LESUNGKAP_DONE || result == LESUNGKAP_FULL);
-        if (result == LESUNGKAP_FULL) {
-            return n;
-        }
-        EXPECT(ask_deregister_mr(&client->link, mr.mrn) == LESUNGKAP_DONE);
-    }
-    return times;
+    struct client a;
+    struct stat stat;
+    client_join(&a, path);
+    EXPECT(fstat(a.memory_file, &stat) == 0 && (uint64_t)stat.st_blocks * 512 >= a.bytes);
+    client_close(&a);
 }
 
-/* Three clients with every region that they may have use up every key that they may: each gets its share, and the fourth has all of its own
- * left. A newcomer gets a seat that has keys left. */
+/* No key is handed out twice. */
 static void keys(void)
 {
-    struct client clients[4], newcomer;
+    static uint32_t seen[REGISTRATIONS];
+    struct client a;
     struct lesungkap_register_mr_ack mr;
-    for (int n = 0; n < 4; n++) {
-        client_join(clients + n, path);
-        EXPECT(ask_create_pd(&clients[n].link, &clients[n].pdn) == LESUNGKAP_DONE);
-    }
-    for (int n = 0; n < 3; n++) {
-        const struct lesungkap_register_mr region = {clients[n].pdn, 1, 0, 1, 0};
-        for (int m = 1; m < SHARE_OF_REGIONS; m++) {
-            EXPECT(ask_register_mr(&clients[n].link, &region, &mr) == LESUNGKAP_DONE);
+    client_join(&a, path);
+    EXPECT(ask_create_pd(&a.link, &a.pdn) == LESUNGKAP_DONE);
+    const struct lesungkap_register_mr region = {a.pdn, 1, 0, 1, 0};
+    for (int n = 0; n < REGISTRATIONS; n++) {
+        EXPECT(ask_register_mr(&a.link, &region, &mr) == LESUNGKAP_DONE && ask_deregister_mr(&a.link, mr.mrn) == LESUNGKAP_DONE);
+        seen[n] = mr.rkey;
+        for (int m = 0; m < n; m++) {
+            EXPECT(seen[m] != mr.rkey);
         }
-        const int used = use_keys(clients + n, SHARE_OF_KEYS);
-        EXPECT(used > 0 && used <= SHARE_OF_KEYS - SHARE_OF_REGIONS + 1);
     }
-    EXPECT(use_keys(clients + 3, 2 * SHARE_OF_REGIONS) == 2 * SHARE_OF_REGIONS);
-    client_close(clients + 3);
-    client_close(clients + 0);
-    client_open(&newcomer, path, 8);
-    client_close(&newcomer);
-    client_close(clients + 1);
-    client_close(clients + 2);
+    client_close(&a);
+}
+
+/* Two clients' sends wait for each other while one makes requests that are done and don't help them: the tape does not
+ * grow by tries of the sends. */
+static void held_and_tried(void)
+{
+    struct client a, b;
+    struct lesungkap_query_port_ack port;
+    struct lesungkap_register_mr_ack mr;
+    uint8_t bytes[LESUNGKAP_MOST_INLINE] = {0};
+    struct lesungkap_send send;
+    memset(&send, 0, sizeof send);
+    send.opcode = LESUNGKAP_SEND;
+    send.flags = LESUNGKAP_FLAG_INLINE;
+    send.count = sizeof bytes;
+    send.inline_bytes = bytes;
+    client_open(&a, path, 8);
+    client_open(&b, path, 8);
+    client_ready(&a, b.qp);
+    client_ready(&b, a.qp);
+    EXPECT(lesungkap_answer(ask_send(&a.link, a.qp, &send)) == LESUNGKAP_HELD_PEER);
+    EXPECT(lesungkap_answer(ask_send(&b.link, b.qp, &send)) == LESUNGKAP_HELD_PEER);
+    const struct lesungkap_register_mr region = {a.pdn, 1, 0, 1, 0};
+    for (int n = 0; n < TIMES; n++) {
+        EXPECT(ask_query_port(&a.link, &port) == LESUNGKAP_DONE);
+        EXPECT(ask_register_mr(&a.link, &region, &mr) == LESUNGKAP_DONE && ask_deregister_mr(&a.link, mr.mrn) == LESUNGKAP_DONE);
+    }
+    client_close(&a);
+    client_close(&b);
+}
+
+/* Asks until nobody answers any more, and says how many calls were answered. */
+static void until_the_end(void)
+{
+    struct client a;
+    struct lesungkap_register_mr_ack mr;
+    unsigned answered = 1;
+    client_join(&a, path);
+    EXPECT(ask_create_pd(&a.link, &a.pdn) == LESUNGKAP_DONE);
+    const struct lesungkap_register_mr region = {a.pdn, 1, 0, 1, 0};
+    while (ask_register_mr(&a.link, &region, &mr) == LESUNGKAP_DONE && ++answered && ask_deregister_mr(&a.link, mr.mrn) == LESUNGKAP_DONE) {
+        answered++;
+    }
+    printf("%u\n", answered);
 }
 
 int main(int count, char **words)
@@ -341,13 +358,21 @@ int main(int count, char **words)
     } cases[] = {{"bad memory", bad_memory},           {"memory after joining", memory_after_joining},
                  {"others' objects", others_objects},  {"window and share", window_and_share},
                  {"a former number", former_number},   {"held sends", held_in_order},
-                 {"odd packets", odd_packets},         {"slow files", slow_files},
-                 {"stuck channels", stuck_channels},   {"a flood", flood},
-                 {"in turn", in_turn},                 {"connections", connections},
+                 {"odd packets", odd_packets},         {"connections", connections},
+                 {"slow files", slow_files},           {"stuck channels", stuck_channels},
+                 {"a flood", flood},                   {"in turn", in_turn},
                  {"bad channels", bad_channels},       {"its own end", own_end},
-                 {"keys", keys}};
+                 {"filled memory", filled_memory},     {"keys", keys},
+                 {"tries", held_and_tried}};
     EXPECT(count == 2 || count == 3);
     path = words[1];
+    if (count == 3 && strcmp(words[2], "a file that never closes") == 0) {
+        never_closes();
+    }
+    if (count == 3 && strcmp(words[2], "until the end") == 0) {
+        until_the_end();
+        return 0;
+    }
     for (size_t n = 0; n < sizeof cases / sizeof *cases; n++) {
         if (count == 2 || strcmp(words[2], cases[n].name) == 0) {
             printf("%s\n", cases[n].name);

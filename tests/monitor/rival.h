@@ -4,17 +4,15 @@
 
 #include "client.h"
 
-#include <sys/types.h>
+enum { CONNECTIONS = 20 }; /* of an operator with four seats */
 
 extern const char *path;
-
-/* Stops the monitor, so that what comes in the meantime comes at once; its process, for SIGCONT. */
-pid_t stop_monitor(const struct link *link);
 
 void odd_packets(void);
 void slow_files(void);
 void stuck_channels(void);
 void bad_channels(void);
 void own_end(void);
+void never_closes(void);
 
 #endif

@@ -34,16 +34,6 @@ void odd_packets(void)
     link_close(&link);
 }
 
-pid_t stop_monitor(const struct link *link)
-{
-    struct ucred monitor;
-    socklen_t size = sizeof monitor;
-    usleep(100000); /* until it waits for requests */
-    EXPECT(getsockopt(link->fd, SOL_SOCKET, SO_PEERCRED, &monitor, &size) == 0 && kill(monitor.pid, SIGSTOP) == 0);
-    usleep(100000); /* until it has stopped */
-    return monitor.pid;
-}
-
 /* ---- files that take long */
 
 /* A connected TCP socket whose close waits six seconds for a reader that does not read. */
@@ -90,13 +80,14 @@ static void send_two_files(const struct link *link, int first, int second)
     EXPECT(sendmsg(link->fd, &message, MSG_NOSIGNAL) == 1 && close(first) == 0 && close(second) == 0);
 }
 
-/* Another client is answered a hundred times within four seconds. */
+/* Another client is answered a hundred times within four seconds, also when it passes a file. */
 static void others_are_served(struct client *other)
 {
     const double since = seconds();
     for (int n = 0; n < 100; n++) {
         EXPECT(ask_window(&other->link, &other->bytes) == LESUNGKAP_DONE);
     }
+    EXPECT(ask_join(&other->link, other->memory_file) == LESUNGKAP_IN_USE);
     EXPECT(seconds() - since < 4);
 }
 
@@ -104,15 +95,15 @@ static void others_are_served(struct client *other)
  * and one that is refused. */
 void slow_files(void)
 {
-    enum { PASSED = 3 };
+    enum { PASSED = 3, MORE = CONNECTIONS - PASSED }; /* the other, one that waits, one that leaves */
     struct client other;
-    struct link links[PASSED], more[2];
+    struct link links[PASSED], more[MORE];
     int readers[2 * PASSED];
     client_join(&other, path);
     for (int n = 0; n < PASSED; n++) {
         const int first = lingering(readers + 2 * n), second = lingering(readers + 2 * n + 1);
-        if (n == 2) {
-            EXPECT(link_open(more, path) == 0 && link_open(more + 1, path) == 0);
+        for (int m = 0; n == 2 && m < MORE; m++) {
+            EXPECT(link_open(more + m, path) == 0 && ask_window(more + m, &other.bytes) == LESUNGKAP_DONE);
         }
         const pid_t monitor = stop_monitor(&other.link);
         EXPECT(link_open(links + n, path) == 0);
@@ -130,8 +121,9 @@ void slow_files(void)
     EXPECT(recv(links[0].fd, answer, sizeof answer, 0) > 0 && recv(links[2].fd, answer, sizeof answer, 0) <= 0);
     link_close(links);
     link_close(links + 2);
-    link_close(more);
-    link_close(more + 1);
+    for (int m = 0; m < MORE; m++) {
+        link_close(more + m);
+    }
     client_close(&other);
 }
 
@@ -209,6 +201,30 @@ void stuck_channels(void)
         others_are_served(&other);
     }
     client_close(&other);
+}
+
+/* Passes a socket that nobody can close as the last as long as this process lives. */
+void never_closes(void)
+{
+    static struct stuck stuck;
+    const struct packet window = {PACKET_WINDOW, 0, NULL, 0};
+    uint8_t request[PACKET_MOST_BYTES];
+    struct link link;
+    if (!open_page(&stuck)) {
+        printf("left out: the kernel tells no faults\n");
+        fflush(stdout);
+        _exit(0);
+    }
+    EXPECT(link_open(&link, path) == 0);
+    open_stuck(&stuck, 1);
+    const pid_t monitor = stop_monitor(&link); /* it does not close the socket before this process does */
+    EXPECT(link_send(&link, request, put_packet(request, LESUNGKAP_TAPE_CALL_MARK, &window), stuck.socket));
+    close(stuck.socket);
+    EXPECT(kill(monitor, SIGCONT) == 0);
+    usleep(200000); /* until the monitor has it */
+    printf("passed\n");
+    fflush(stdout);
+    pause();
 }
 
 /* ---- channels */

@@ -1,9 +1,9 @@
 /* A verbs program against the preload library: keys that were dropped, access flags of a queue pair, work that is flushed, buffers that
- * share pages, what the card lacks. A line for each case, and the first that isn't so ends the program. Run it over a monitor for four clients.
- */
+ * share pages, what the card lacks, and the cases of verbs_*.c. A line for each case, and the first that isn't so ends the program. With the
+ * name of a case it runs this one alone. Run it over a monitor for four clients. */
 #define _GNU_SOURCE
-#include <errno.h>
-#include <infiniband/verbs.h>
+#include "verbs.h"
+
 #include <stdio.h>
 #include <stdlib.h>
 #include <string.h>
@@ -11,95 +11,10 @@
 #include <sys/wait.h>
 #include <unistd.h>
 
-#define EXPECT(holds) expect(holds, #holds, __LINE__)
-
-enum { ALL = IBV_ACCESS_LOCAL_WRITE | IBV_ACCESS_REMOTE_WRITE | IBV_ACCESS_REMOTE_READ, SIZE = 4096, RECEIVES = 20 };
-
-struct side {
-    struct ibv_context *context;
-    struct ibv_pd *pd;
-    struct ibv_cq *cq;
-    struct ibv_qp *qp;
-    struct ibv_mr *mr;
-    uint8_t *buffer;
-};
-
-/* What two sides tell each other. */
-struct told {
-    uint32_t qpn, key;
-    uint64_t address;
-};
-
-static void expect(int holds, const char *what, int line)
-{
-    if (!holds) {
-        printf("UNEXPECTED: line %d: not %s (errno %d)\n", line, what, errno);
-        fflush(stdout);
-        _exit(1);
-    }
-}
-
-static void open_side(struct side *side)
-{
-    struct ibv_device **list = ibv_get_device_list(NULL);
-    EXPECT(list != NULL && list[0] != NULL && (side->context = ibv_open_device(list[0])) != NULL);
-    ibv_free_device_list(list);
-    EXPECT((side->pd = ibv_alloc_pd(side->context)) != NULL);
-    EXPECT((side->cq = ibv_create_cq(side->context, 100, NULL, NULL, 0)) != NULL);
-    struct ibv_qp_init_attr init = {.send_cq = side->cq, .recv_cq = side->cq, .cap = {10, RECEIVES, 1, 1, 0}, .qp_type = IBV_QPT_RC, .sq_sig_all = 1};
-    EXPECT((side->qp = ibv_create_qp(side->pd, &init)) != NULL);
-    EXPECT((side->buffer = aligned_alloc(SIZE, SIZE)) != NULL);
-    memset(side->buffer, 1, SIZE);
-    EXPECT((side->mr = ibv_reg_mr(side->pd, side->buffer, SIZE, ALL)) != NULL);
-}
-
-static void close_side(struct side *side)
-{
-    EXPECT(ibv_destroy_qp(side->qp) == 0 && ibv_destroy_cq(side->cq) == 0);
-    EXPECT(side->mr == NULL || ibv_dereg_mr(side->mr) == 0);
-    EXPECT(ibv_dealloc_pd(side->pd) == 0 && ibv_close_device(side->context) == 0);
-    free(side->buffer);
-}
-
-static void ready(struct side *side, uint32_t peer, unsigned access)
-{
-    struct ibv_qp_attr attr = {.qp_state = IBV_QPS_INIT, .port_num = 1, .qp_access_flags = access};
-    EXPECT(ibv_modify_qp(side->qp, &attr, IBV_QP_STATE | IBV_QP_PKEY_INDEX) == EINVAL);
-    EXPECT(ibv_modify_qp(side->qp, &attr, IBV_QP_STATE | IBV_QP_PKEY_INDEX | IBV_QP_PORT | IBV_QP_ACCESS_FLAGS) == 0);
-    attr = (struct ibv_qp_attr){.qp_state = IBV_QPS_RTR, .dest_qp_num = peer, .path_mtu = IBV_MTU_1024};
-    EXPECT(ibv_modify_qp(side->qp, &attr,
-                         IBV_QP_STATE | IBV_QP_AV | IBV_QP_PATH_MTU | IBV_QP_DEST_QPN | IBV_QP_RQ_PSN | IBV_QP_MAX_DEST_RD_ATOMIC |
-                             IBV_QP_MIN_RNR_TIMER) == 0);
-    attr = (struct ibv_qp_attr){.qp_state = IBV_QPS_RTS};
-    EXPECT(ibv_modify_qp(side->qp, &attr,
-                         IBV_QP_STATE | IBV_QP_TIMEOUT | IBV_QP_RETRY_CNT | IBV_QP_RNR_RETRY | IBV_QP_SQ_PSN | IBV_QP_MAX_QP_RD_ATOMIC) == 0);
-}
-
-static enum ibv_wc_status completed(struct side *side)
-{
-    struct ibv_wc wc;
-    int got;
-    while ((got = ibv_poll_cq(side->cq, 1, &wc)) == 0) {
-        usleep(100);
-    }
-    EXPECT(got == 1 && wc.qp_num == side->qp->qp_num);
-    return wc.status;
-}
-
-static enum ibv_wc_status reach(struct side *side, enum ibv_wr_opcode opcode, const struct told *peer, uint32_t length)
-{
-    struct ibv_sge sge = {(uintptr_t)side->buffer, length, side->mr->lkey};
-    struct ibv_send_wr wr = {.sg_list = &sge, .num_sge = 1, .opcode = opcode}, *bad;
-    wr.wr.rdma.remote_addr = peer->address;
-    wr.wr.rdma.rkey = peer->key;
-    EXPECT(ibv_post_send(side->qp, &wr, &bad) == 0);
-    return completed(side);
-}
-
 /* Tells the other side where to write, and hears where it is. */
 static struct told exchange(int other, const struct side *side)
 {
-    const struct told own = {side->qp->qp_num, side->mr->rkey, (uintptr_t)side->buffer};
+    const struct told own = told_by(side);
     struct told told;
     EXPECT(send(other, &own, sizeof own, 0) == (ssize_t)sizeof own && recv(other, &told, sizeof told, 0) == (ssize_t)sizeof told);
     return told;
@@ -176,7 +91,7 @@ static enum ibv_wc_status reach_with(enum ibv_wr_opcode opcode, unsigned access)
     struct ibv_qp_init_attr init;
     open_side(&own);
     open_side(&other);
-    const struct told peer = {other.qp->qp_num, other.mr->rkey, (uintptr_t)other.buffer};
+    const struct told peer = told_by(&other);
     ready(&own, other.qp->qp_num, 0);
     ready(&other, own.qp->qp_num, access);
     EXPECT(ibv_query_qp(other.qp, &attr, IBV_QP_ACCESS_FLAGS, &init) == 0 && attr.qp_access_flags == access);
@@ -299,16 +214,38 @@ static void lacks(void)
     close_side(&side);
 }
 
-int main(void)
+static const struct {
+    const char *name;
+    void (*run)(void);
+} cases[] = {{"dropped key", dropped_key},
+             {"access flags", access_flags},
+             {"flushed", flushed_in_order},
+             {"shared pages", shared_pages},
+             {"stack buffers", stack_buffers},
+             {"two contexts", two_contexts},
+             {"other memory", other_memory},
+             {"fork", forks},
+             {"queries", extended_queries},
+             {"atomics", atomics_flag},
+             {"peer in error", peer_in_error},
+             {"no receive", no_receive},
+             {"peer gone", peer_gone},
+             {"no limits", no_limits},
+             {"slow peer", slow_peer},
+             {"limits by events", limits_by_events},
+             {"signals", interrupted_waits},
+             {"extended", extended_queue_pairs},
+             {"extended completions", extended_completion_queues},
+             {"lacks", lacks}};
+
+int main(int argc, char **argv)
 {
-    static const struct {
-        const char *name;
-        void (*run)(void);
-    } cases[] = {{"dropped key", dropped_key}, {"access flags", access_flags}, {"flushed", flushed_in_order}, {"shared pages", shared_pages}, {"lacks", lacks}};
     for (size_t n = 0; n < sizeof cases / sizeof *cases; n++) {
-        printf("%s\n", cases[n].name);
-        fflush(stdout);
-        cases[n].run();
+        if (argc < 2 || strcmp(argv[1], cases[n].name) == 0) {
+            printf("%s\n", cases[n].name);
+            fflush(stdout);
+            cases[n].run();
+        }
     }
     return 0;
 }

@@ -12,6 +12,8 @@ use std::io::{self, BufWriter, ErrorKind, Write};
 use std::process::ExitCode;
 use tape::{Record, Tape};
 
+const NUMBERS: &str = include_str!("../../../include/lesungkap_numbers.h");
+
 const HELP: &str = "\
 usage: lesungkap-tape [CALLS [ANSWERS [REPLAYED]]]
 
@@ -65,9 +67,18 @@ fn main() -> ExitCode {
     }
 }
 
+/// The version of the header, to which a tape belongs.
+fn version() -> &'static str {
+    let after = NUMBERS.split("#define LESUNGKAP_VERSION \"").nth(1);
+    after.and_then(|rest| rest.split('"').next()).unwrap_or("")
+}
+
 fn run(words: &[String], out: &mut impl Write) -> Result<(), End> {
     if words.iter().any(|word| word == "--help") {
         return Ok(out.write_all(HELP.as_bytes())?);
+    }
+    if words.iter().any(|word| word == "--version") {
+        return Ok(writeln!(out, "lesungkap-tape {}", version())?);
     }
     let is_option = |word: &String| word.starts_with('-') && word != "-";
     if words.len() > 3 || words.iter().any(is_option) || words.iter().filter(|word| *word == "-").count() > 1 {
