@@ -24,28 +24,6 @@ union control {
     char bytes[CMSG_SPACE(sizeof(int))];
 };
 
-static int put(int to, const void *bytes, size_t length, int fd)
-{
-    union control control;
-    struct iovec part = {(void *)(uintptr_t)bytes, length};
-    struct msghdr message = {.msg_iov = &part, .msg_iovlen = 1};
-    if (fd != NO_FD) {
-        memset(&control, 0, sizeof control);
-        message.msg_control = &control;
-        message.msg_controllen = sizeof control;
-        struct cmsghdr *head = CMSG_FIRSTHDR(&message);
-        head->cmsg_level = SOL_SOCKET;
-        head->cmsg_type = SCM_RIGHTS;
-        head->cmsg_len = CMSG_LEN(sizeof fd);
-        memcpy(CMSG_DATA(head), &fd, sizeof fd);
-    }
-    ssize_t sent;
-    do {
-        sent = sendmsg(to, &message, MSG_NOSIGNAL);
-    } while (sent < 0 && errno == EINTR);
-    return sent == (ssize_t)length;
-}
-
 /* The length of the next packet; 0 at the end, -1 with errno. */
 static ssize_t get(int from, void *bytes, size_t size, int flags, int *fd)
 {
@@ -68,7 +46,7 @@ static ssize_t get(int from, void *bytes, size_t size, int flags, int *fd)
 
 int helper_ask(const struct helper *helper, const struct job *job, int fd)
 {
-    return put(helper->fd, job, sizeof *job, fd);
+    return send_with_file(helper->fd, job, sizeof *job, fd, 0);
 }
 
 int helper_report(const struct helper *helper, struct report_of_job *report, int *fd)
@@ -191,7 +169,7 @@ static void *run(void *given)
     const int passed = report.file == MEMORY || report.file == SOCKET ? file : NO_FD;
     const size_t length = report.read ? sizeof report : offsetof(struct report_of_job, bytes);
     if (!task->job.silent) {
-        put(task->monitor, &report, length, passed);
+        send_with_file(task->monitor, &report, length, passed, 0);
     }
     return NULL;
 }

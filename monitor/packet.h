@@ -22,6 +22,8 @@ enum {
     PACKET_SHOW = 20,    /* number: a line of the statistics; the answer's body: its text */
     PACKET_WAITS = 21,   /* number: a queue pair; the answer's body: where its oldest held send lies
                             and what it waits for, 4 each */
+    PACKET_COUNTERS = 22, /* the answer comes with the file of the client's page of counters: 4
+                             bytes for each completion queue, how many completions are unread */
 
     PACKET_MOST_BYTES = LESUNGKAP_TAPE_HEADER_BYTES + LESUNGKAP_TAPE_MOST_BODY,
     PACKET_WINDOW_BYTES = 8,

@@ -53,19 +53,26 @@ static void run(struct monitor *monitor, unsigned client, const struct packet *p
     case PACKET_ARM: answer->result = events_arm(monitor, client, number); return;
     case PACKET_CHANNEL: answer->result = events_channel(monitor, client, number, fd); return;
     case PACKET_SHOW: show(monitor, client, number, answer); return;
+    case PACKET_COUNTERS: answer->result = counters_open(monitor, client, &answer->file); return;
     case PACKET_WAITS: work_waits(monitor, client, number, answer); return;
     default: answer->result = LESUNGKAP_BAD_TAPE_RECORD;
     }
 }
 
-static int reply(int fd, const struct answer *answer)
+static int reply(int fd, struct answer *answer)
 {
     uint8_t bytes[PACKET_MOST_BYTES];
     const struct packet packet = {(uint8_t)lesungkap_answer(answer->result),
                                   (uint8_t)lesungkap_status(answer->result), answer->body,
                                   answer->length};
     const size_t length = put_packet(bytes, LESUNGKAP_TAPE_ANSWER_MARK, &packet);
-    return send(fd, bytes, length, MSG_DONTWAIT | MSG_NOSIGNAL) == (ssize_t)length;
+    if (answer->file == NO_FD) {
+        return send(fd, bytes, length, MSG_DONTWAIT | MSG_NOSIGNAL) == (ssize_t)length;
+    }
+    const int sent = send_with_file(fd, bytes, length, answer->file, MSG_DONTWAIT);
+    close(answer->file);
+    answer->file = NO_FD;
+    return sent;
 }
 
 /* Gives the answer, once it is on the tape, and listens again. */
@@ -107,6 +114,7 @@ static void serve(struct monitor *monitor, unsigned number, const uint8_t *bytes
     struct packet packet;
     connection->answer.result = LESUNGKAP_BAD_TAPE_RECORD;
     connection->answer.length = 0;
+    connection->answer.file = NO_FD;
     connection->sender = with != NULL ? with->sender : 0;
     connection->user->requests++;
     monitor->requests++;

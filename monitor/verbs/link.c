@@ -3,10 +3,15 @@
 
 #include <errno.h>
 #include <pwd.h>
+#include <sched.h>
+#include <stdatomic.h>
 #include <stdlib.h>
+#include <sys/mman.h>
 #include <sys/socket.h>
 #include <sys/un.h>
 #include <unistd.h>
+
+enum { LOOKS_MOST = 16 };
 
 /* ---- the socket */
 
@@ -27,7 +32,17 @@ int link_open(struct link *link, const char *path)
         return why;
     }
     pthread_mutex_init(&link->lock, NULL);
+    link->counters = NULL;
+    link->looks = 0;
     return 0;
+}
+
+static void drop_counters(struct link *link)
+{
+    if (link->counters != NULL) {
+        munmap((void *)(uintptr_t)link->counters, PACKET_PAGE);
+        link->counters = NULL;
+    }
 }
 
 int link_is_of(const struct link *link, const char *user)
@@ -49,12 +64,14 @@ void link_close(struct link *link)
     if (link->fd >= 0) {
         close(link->fd);
     }
+    drop_counters(link);
     pthread_mutex_destroy(&link->lock);
 }
 
 void link_lose(struct link *link)
 {
     close(link->fd);
+    drop_counters(link);
     link->fd = -1;
     pthread_mutex_init(&link->lock, NULL);
 }
@@ -155,6 +172,52 @@ uint32_t ask_window(struct link *link, uint32_t *bytes)
 uint32_t ask_join(struct link *link, int memory)
 {
     return ask_plain(link, PACKET_JOIN, 0, memory);
+}
+
+/* The answer's length, with the file that came with it, or -1. */
+static ssize_t get_with_file(const struct link *link, uint8_t *answer, int *file)
+{
+    union {
+        struct cmsghdr aligned;
+        char bytes[CMSG_SPACE(sizeof(int))];
+    } control;
+    struct iovec part = {answer, PACKET_MOST_BYTES};
+    struct msghdr message = {.msg_iov = &part,
+                             .msg_iovlen = 1,
+                             .msg_control = &control,
+                             .msg_controllen = sizeof control};
+    ssize_t got;
+    do {
+        got = recvmsg(link->fd, &message, MSG_CMSG_CLOEXEC);
+    } while (got < 0 && errno == EINTR);
+    const struct cmsghdr *head = got > 0 ? CMSG_FIRSTHDR(&message) : NULL;
+    if (head != NULL && head->cmsg_type == SCM_RIGHTS && head->cmsg_len == CMSG_LEN(sizeof *file)) {
+        memcpy(file, CMSG_DATA(head), sizeof *file);
+    }
+    return got;
+}
+
+uint32_t ask_counters(struct link *link)
+{
+    const struct packet packet = {PACKET_COUNTERS, 0, NULL, 0};
+    uint8_t bytes[PACKET_MOST_BYTES];
+    struct packet answer;
+    ssize_t got = -1;
+    int file = -1;
+    pthread_mutex_lock(&link->lock);
+    if (link_send(link, bytes, put_packet(bytes, LESUNGKAP_TAPE_CALL_MARK, &packet), -1)) {
+        got = get_with_file(link, bytes, &file);
+    }
+    pthread_mutex_unlock(&link->lock);
+    if (got <= 0 || !get_packet(bytes, (size_t)got, LESUNGKAP_TAPE_ANSWER_MARK, &answer)) {
+        return LINK_LOST;
+    }
+    if (file >= 0) {
+        void *page = mmap(NULL, PACKET_PAGE, PROT_READ, MAP_SHARED, file, 0);
+        link->counters = page != MAP_FAILED ? page : NULL;
+        close(file);
+    }
+    return answer.third;
 }
 
 uint32_t ask_channel(struct link *link, uint32_t cqn, int socket)
@@ -322,10 +385,27 @@ uint32_t ask_flush(struct link *link, uint32_t name)
     return ask_plain(link, PACKET_FLUSH, qp_number(name), -1);
 }
 
+/* Whether the monitor shows no completion of a queue. Now and then it is asked all the same, as it
+ * may have gone. */
+static int shows_none(struct link *link, uint32_t cqn)
+{
+    if (link->counters == NULL || cqn >= LESUNGKAP_CQ_COUNT ||
+        atomic_load_explicit(link->counters + cqn, memory_order_acquire) > 0 ||
+        ++link->looks >= LOOKS_MOST) {
+        link->looks = 0;
+        return 0;
+    }
+    sched_yield();
+    return 1;
+}
+
 uint32_t ask_poll(struct link *link, uint32_t cqn, struct lesungkap_completion *completion,
                   unsigned *left)
 {
     struct asked asked;
+    if (shows_none(link, cqn)) {
+        return LESUNGKAP_NOTHING;
+    }
     ask(link, PACKET_POLL, cqn, NULL, 0, -1, &asked);
     if (asked.result != LESUNGKAP_DONE) {
         return asked.result;

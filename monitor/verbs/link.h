@@ -12,6 +12,8 @@ enum { LINK_LOST = 255 }; /* an answer that no monitor gives: it has gone */
 struct link {
     int fd;
     pthread_mutex_t lock;
+    const _Atomic uint32_t *counters; /* of unread completions, which the monitor writes; or NULL */
+    unsigned looks;                   /* at an empty queue's, since the monitor was asked */
 };
 
 /* Connects to a monitor; 0 or an errno. */
@@ -40,6 +42,9 @@ static inline void put_rights(struct lesungkap_modify_qp *wanted, unsigned acces
  * the name's lowest byte in work. */
 uint32_t ask_window(struct link *link, uint32_t *bytes);
 uint32_t ask_join(struct link *link, int memory);
+/* Has the monitor show unread completions: from then on ask_poll asks for no completion where none
+ * is. */
+uint32_t ask_counters(struct link *link);
 uint32_t ask_channel(struct link *link, uint32_t cqn, int socket);
 uint32_t ask_arm(struct link *link, uint32_t cqn);
 /* Where the oldest held send lies, and what it waits for, of PACKET_WAITS_FOR_*. */

@@ -48,6 +48,7 @@ static void compare(const struct side *side) { EXPECT(memcmp(side->client.memory
 static void open_side(struct side *side)
 {
     client_open(&side->client, path, 4);
+    EXPECT(ask_counters(&side->client.link) == LESUNGKAP_DONE);
     side->wanted = malloc(side->client.bytes);
     EXPECT(side->wanted != NULL);
     random_bytes(side->client.memory, side->client.bytes);

@@ -306,6 +306,43 @@ static void keys(void)
     client_close(&a);
 }
 
+/* Its own unread completions, which a client sees without asking: they are there before the answer is, nobody else's are seen, also
+ * not those of one who has the same number and seat later, and the page can't be written. */
+static void counters(void)
+{
+    struct client a, b, c;
+    struct link link;
+    EXPECT(link_open(&link, path) == 0 && ask_counters(&link) == LESUNGKAP_FULL);
+    link_close(&link);
+    client_open(&a, path, 8);
+    client_open(&b, path, 8);
+    EXPECT(ask_counters(&a.link) == LESUNGKAP_DONE && ask_counters(&a.link) == LESUNGKAP_IN_USE);
+    EXPECT(ask_counters(&b.link) == LESUNGKAP_DONE && a.link.counters != NULL && b.link.counters != NULL);
+    client_ready(&a, b.qp);
+    client_ready(&b, a.qp);
+    for (unsigned n = 1; n <= 8; n++) {
+        EXPECT(client_send(&a, LESUNGKAP_WRITE, 0, 8, 0, b.mr.rkey) == LESUNGKAP_DONE);
+        EXPECT(a.link.counters[a.cqn] == n && b.link.counters[a.cqn] == 0 && b.link.counters[b.cqn] == 0);
+    }
+    for (unsigned n = 8; n > 0; n--) {
+        EXPECT(client_completion(&a).status == LESUNGKAP_SUCCESS && a.link.counters[a.cqn] == n - 1);
+    }
+    EXPECT(mprotect((void *)(uintptr_t)a.link.counters, PACKET_PAGE, PROT_READ | PROT_WRITE) == -1);
+    const _Atomic uint32_t *kept = a.link.counters;
+    const uint32_t cqn = a.cqn;
+    a.link.counters = NULL;
+    client_close(&a);
+    do { /* until the monitor has seen it go */
+        client_open(&c, path, 8);
+    } while (c.cqn != cqn && (client_close(&c), 1));
+    EXPECT(ask_counters(&c.link) == LESUNGKAP_DONE);
+    EXPECT(client_move(&c, LESUNGKAP_QP_ERROR, 0) == LESUNGKAP_DONE && client_receive(&c, 0, 1) == (LESUNGKAP_DONE | LESUNGKAP_FLUSHED << 8));
+    EXPECT(c.link.counters[cqn] == 1 && kept[cqn] == 0);
+    munmap((void *)(uintptr_t)kept, PACKET_PAGE);
+    client_close(&b);
+    client_close(&c);
+}
+
 /* Two clients' sends wait for each other while one makes requests that are done and don't help them: the tape does not
  * grow by tries of the sends. */
 static void held_and_tried(void)
@@ -363,7 +400,7 @@ int main(int count, char **words)
                  {"a flood", flood},                   {"in turn", in_turn},
                  {"bad channels", bad_channels},       {"its own end", own_end},
                  {"filled memory", filled_memory},     {"keys", keys},
-                 {"tries", held_and_tried}};
+                 {"counters", counters},               {"tries", held_and_tried}};
     EXPECT(count == 2 || count == 3);
     path = words[1];
     if (count == 3 && strcmp(words[2], "a file that never closes") == 0) {
