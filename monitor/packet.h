@@ -24,11 +24,14 @@ enum {
                             and what it waits for, 4 each */
     PACKET_COUNTERS = 22, /* the answer comes with the file of the client's page of counters: 4
                              bytes for each completion queue, how many completions are unread */
+    PACKET_BATCH = 23,    /* body: up to PACKET_BATCH_MOST records of kinds 2 to 5; the answer's
+                             body: the record of each one's answer */
 
     PACKET_MOST_BYTES = LESUNGKAP_TAPE_HEADER_BYTES + LESUNGKAP_TAPE_MOST_BODY,
     PACKET_WINDOW_BYTES = 8,
     PACKET_POLL_BYTES = LESUNGKAP_COMPLETION_BYTES + 1, /* last: how many completions are left */
     PACKET_WAITS_BYTES = 8,
+    PACKET_BATCH_MOST = 16,
     PACKET_PAGE = 4096,
     PACKET_HELD_MOST = 1024, /* sends that wait on a queue pair */
     PACKET_NAME_SHIFT = 8    /* of a queue pair's name: its number below, above it whose it is and
@@ -97,6 +100,18 @@ static inline int get_packet(const uint8_t *bytes, size_t length, unsigned mark,
     packet->length = get_number(bytes + LESUNGKAP_TAPE_LENGTH_AT, 2);
     return packet->length <= LESUNGKAP_TAPE_MOST_BODY &&
            length == LESUNGKAP_TAPE_HEADER_BYTES + packet->length;
+}
+
+/* The first packet of several behind each other: how many bytes it has, 0 if it is none. */
+static inline size_t first_packet(const uint8_t *bytes, size_t length, unsigned mark,
+                                  struct packet *packet)
+{
+    if (length < LESUNGKAP_TAPE_HEADER_BYTES) {
+        return 0;
+    }
+    const size_t whole =
+        LESUNGKAP_TAPE_HEADER_BYTES + get_number(bytes + LESUNGKAP_TAPE_LENGTH_AT, 2);
+    return whole <= length && get_packet(bytes, whole, mark, packet) ? whole : 0;
 }
 
 static inline uint32_t qp_number(uint32_t name)

@@ -4,9 +4,7 @@
 #include <errno.h>
 #include <pwd.h>
 #include <sched.h>
-#include <stdatomic.h>
 #include <stdlib.h>
-#include <sys/mman.h>
 #include <sys/socket.h>
 #include <sys/un.h>
 #include <unistd.h>
@@ -37,14 +35,6 @@ int link_open(struct link *link, const char *path)
     return 0;
 }
 
-static void drop_counters(struct link *link)
-{
-    if (link->counters != NULL) {
-        munmap((void *)(uintptr_t)link->counters, PACKET_PAGE);
-        link->counters = NULL;
-    }
-}
-
 int link_is_of(const struct link *link, const char *user)
 {
     struct ucred listener;
@@ -64,14 +54,14 @@ void link_close(struct link *link)
     if (link->fd >= 0) {
         close(link->fd);
     }
-    drop_counters(link);
+    link_drop_counters(link);
     pthread_mutex_destroy(&link->lock);
 }
 
 void link_lose(struct link *link)
 {
     close(link->fd);
-    drop_counters(link);
+    link_drop_counters(link);
     link->fd = -1;
     pthread_mutex_init(&link->lock, NULL);
 }
@@ -123,14 +113,8 @@ size_t link_exchange(struct link *link, const uint8_t *request, size_t length, i
 
 /* ---- one request, one answer */
 
-struct asked {
-    uint32_t result;
-    struct packet packet;
-    uint8_t bytes[PACKET_MOST_BYTES];
-};
-
-static uint32_t ask(struct link *link, unsigned kind, uint32_t number, const uint8_t *body,
-                    size_t length, int file, struct asked *asked)
+uint32_t link_ask(struct link *link, unsigned kind, uint32_t number, const uint8_t *body,
+                  size_t length, int file, struct asked *asked)
 {
     uint8_t request[PACKET_MOST_BYTES];
     const struct packet packet = {(uint8_t)kind, (uint8_t)number, body, length};
@@ -145,13 +129,13 @@ static uint32_t ask(struct link *link, unsigned kind, uint32_t number, const uin
 static uint32_t ask_plain(struct link *link, unsigned kind, uint32_t number, int file)
 {
     struct asked asked;
-    return ask(link, kind, number, NULL, 0, file, &asked);
+    return link_ask(link, kind, number, NULL, 0, file, &asked);
 }
 
 static uint32_t ask_command(struct link *link, const uint8_t *command, size_t length,
                             struct asked *asked)
 {
-    return ask(link, PACKET_CONTROL, 0, command, length, -1, asked);
+    return link_ask(link, PACKET_CONTROL, 0, command, length, -1, asked);
 }
 
 /* ---- the monitor's own requests */
@@ -159,7 +143,7 @@ static uint32_t ask_command(struct link *link, const uint8_t *command, size_t le
 uint32_t ask_window(struct link *link, uint32_t *bytes)
 {
     struct asked asked;
-    if (ask(link, PACKET_WINDOW, 0, NULL, 0, -1, &asked) == LESUNGKAP_DONE) {
+    if (link_ask(link, PACKET_WINDOW, 0, NULL, 0, -1, &asked) == LESUNGKAP_DONE) {
         if (asked.packet.length != PACKET_WINDOW_BYTES ||
             get_number(asked.packet.body, 4) != PACKET_VERSION) {
             return LINK_LOST;
@@ -172,52 +156,6 @@ uint32_t ask_window(struct link *link, uint32_t *bytes)
 uint32_t ask_join(struct link *link, int memory)
 {
     return ask_plain(link, PACKET_JOIN, 0, memory);
-}
-
-/* The answer's length, with the file that came with it, or -1. */
-static ssize_t get_with_file(const struct link *link, uint8_t *answer, int *file)
-{
-    union {
-        struct cmsghdr aligned;
-        char bytes[CMSG_SPACE(sizeof(int))];
-    } control;
-    struct iovec part = {answer, PACKET_MOST_BYTES};
-    struct msghdr message = {.msg_iov = &part,
-                             .msg_iovlen = 1,
-                             .msg_control = &control,
-                             .msg_controllen = sizeof control};
-    ssize_t got;
-    do {
-        got = recvmsg(link->fd, &message, MSG_CMSG_CLOEXEC);
-    } while (got < 0 && errno == EINTR);
-    const struct cmsghdr *head = got > 0 ? CMSG_FIRSTHDR(&message) : NULL;
-    if (head != NULL && head->cmsg_type == SCM_RIGHTS && head->cmsg_len == CMSG_LEN(sizeof *file)) {
-        memcpy(file, CMSG_DATA(head), sizeof *file);
-    }
-    return got;
-}
-
-uint32_t ask_counters(struct link *link)
-{
-    const struct packet packet = {PACKET_COUNTERS, 0, NULL, 0};
-    uint8_t bytes[PACKET_MOST_BYTES];
-    struct packet answer;
-    ssize_t got = -1;
-    int file = -1;
-    pthread_mutex_lock(&link->lock);
-    if (link_send(link, bytes, put_packet(bytes, LESUNGKAP_TAPE_CALL_MARK, &packet), -1)) {
-        got = get_with_file(link, bytes, &file);
-    }
-    pthread_mutex_unlock(&link->lock);
-    if (got <= 0 || !get_packet(bytes, (size_t)got, LESUNGKAP_TAPE_ANSWER_MARK, &answer)) {
-        return LINK_LOST;
-    }
-    if (file >= 0) {
-        void *page = mmap(NULL, PACKET_PAGE, PROT_READ, MAP_SHARED, file, 0);
-        link->counters = page != MAP_FAILED ? page : NULL;
-        close(file);
-    }
-    return answer.third;
 }
 
 uint32_t ask_channel(struct link *link, uint32_t cqn, int socket)
@@ -233,7 +171,7 @@ uint32_t ask_arm(struct link *link, uint32_t cqn)
 uint32_t ask_waits(struct link *link, uint32_t name, uint32_t *oldest, uint32_t *what)
 {
     struct asked asked;
-    if (ask(link, PACKET_WAITS, qp_number(name), NULL, 0, -1, &asked) == LESUNGKAP_DONE) {
+    if (link_ask(link, PACKET_WAITS, qp_number(name), NULL, 0, -1, &asked) == LESUNGKAP_DONE) {
         if (asked.packet.length != PACKET_WAITS_BYTES) {
             return LINK_LOST;
         }
@@ -368,7 +306,7 @@ uint32_t ask_send(struct link *link, uint32_t name, const struct lesungkap_send 
     struct asked asked;
     const size_t length = lesungkap_put_send(record, sizeof record, send);
     return length == 0 ? (uint32_t)LESUNGKAP_BAD_FIELD
-                       : ask(link, PACKET_SEND, qp_number(name), record, length, -1, &asked);
+                       : link_ask(link, PACKET_SEND, qp_number(name), record, length, -1, &asked);
 }
 
 uint32_t ask_receive(struct link *link, uint32_t name, const struct lesungkap_receive *receive)
@@ -376,8 +314,9 @@ uint32_t ask_receive(struct link *link, uint32_t name, const struct lesungkap_re
     uint8_t record[LESUNGKAP_RECEIVE_MOST_BYTES];
     struct asked asked;
     const size_t length = lesungkap_put_receive(record, sizeof record, receive);
-    return length == 0 ? (uint32_t)LESUNGKAP_BAD_FIELD
-                       : ask(link, PACKET_RECEIVE, qp_number(name), record, length, -1, &asked);
+    return length == 0
+               ? (uint32_t)LESUNGKAP_BAD_FIELD
+               : link_ask(link, PACKET_RECEIVE, qp_number(name), record, length, -1, &asked);
 }
 
 uint32_t ask_flush(struct link *link, uint32_t name)
@@ -389,8 +328,7 @@ uint32_t ask_flush(struct link *link, uint32_t name)
  * may have gone. */
 static int shows_none(struct link *link, uint32_t cqn)
 {
-    if (link->counters == NULL || cqn >= LESUNGKAP_CQ_COUNT ||
-        atomic_load_explicit(link->counters + cqn, memory_order_acquire) > 0 ||
+    if (link->counters == NULL || cqn >= LESUNGKAP_CQ_COUNT || link_unread(link, cqn) > 0 ||
         ++link->looks >= LOOKS_MOST) {
         link->looks = 0;
         return 0;
@@ -406,7 +344,7 @@ uint32_t ask_poll(struct link *link, uint32_t cqn, struct lesungkap_completion *
     if (shows_none(link, cqn)) {
         return LESUNGKAP_NOTHING;
     }
-    ask(link, PACKET_POLL, cqn, NULL, 0, -1, &asked);
+    link_ask(link, PACKET_POLL, cqn, NULL, 0, -1, &asked);
     if (asked.result != LESUNGKAP_DONE) {
         return asked.result;
     }

@@ -70,11 +70,34 @@ uint32_t ask_flush(struct link *link, uint32_t name);
 uint32_t ask_poll(struct link *link, uint32_t cqn, struct lesungkap_completion *completion,
                   unsigned *left);
 
+/* Receives, or polls of one queue, in one request. Each returns how many were done; *result is that
+ * of the first that was not, or LESUNGKAP_DONE. */
+unsigned ask_receives(struct link *link, uint32_t name,
+                      const struct lesungkap_receive *const *receives, unsigned count,
+                      uint32_t *result);
+unsigned ask_polls(struct link *link, uint32_t cqn, struct lesungkap_completion *completions,
+                   unsigned count, unsigned *left, uint32_t *result);
+/* How many completions of a queue the monitor shows; 0 also where it shows none at all. */
+unsigned link_unread(const struct link *link, uint32_t cqn);
+
 /* Sends a request by its bytes, with a file or -1; whether it was taken. */
 int link_send(const struct link *link, const uint8_t *request, size_t length, int file);
 /* The same, and its answer's bytes in PACKET_MOST_BYTES; the answer's length, or 0 where the
  * monitor has gone. */
 size_t link_exchange(struct link *link, const uint8_t *request, size_t length, int file,
                      uint8_t *answer);
+
+/* ---- for link_more.c */
+
+struct asked {
+    uint32_t result;
+    struct packet packet;
+    uint8_t bytes[PACKET_MOST_BYTES];
+};
+
+/* One request, one answer: its result. */
+uint32_t link_ask(struct link *link, unsigned kind, uint32_t number, const uint8_t *body,
+                  size_t length, int file, struct asked *asked);
+void link_drop_counters(struct link *link);
 
 #endif

@@ -108,13 +108,31 @@ static uint32_t give_first(struct lk_context *context, struct lk_qp *qp)
     return result;
 }
 
+/* The same with several in one request. */
+static uint32_t give_several(struct lk_context *context, struct lk_qp *qp, unsigned count)
+{
+    const struct lesungkap_receive *next[LESUNGKAP_QP_MOST_RECEIVES];
+    uint32_t result;
+    for (unsigned n = 0; n < count; n++) {
+        next[n] = qp->receives + (qp->first + n) % qp->init.cap.max_recv_wr;
+    }
+    const unsigned given = ask_receives(&context->link, qp->base.qp_num, next, count, &result);
+    qp->first = (qp->first + given) % qp->init.cap.max_recv_wr;
+    qp->waiting -= given;
+    qp->in_card += given;
+    return result;
+}
+
 /* Moves receives that wait here into the card, as many as it takes. */
 static uint32_t top_up(struct lk_context *context, struct lk_qp *qp)
 {
     uint32_t result = LESUNGKAP_DONE;
     while (qp->waiting > 0 && qp->in_card < LESUNGKAP_QP_MOST_RECEIVES && !qp->broken &&
            lesungkap_answer(result) == LESUNGKAP_DONE) {
-        result = give_first(context, qp);
+        const unsigned room = LESUNGKAP_QP_MOST_RECEIVES - qp->in_card;
+        const unsigned count = qp->waiting < room ? qp->waiting : room;
+        result = count > 1 && context->link.counters != NULL ? give_several(context, qp, count)
+                                                             : give_first(context, qp);
     }
     return result;
 }
@@ -222,7 +240,6 @@ static void note(struct lk_context *context, const struct lesungkap_completion *
     }
     if (is_receive(done)) {
         qp->in_card -= qp->in_card > 0;
-        top_up(context, qp);
     } else {
         qp->limits.seen = 0;
     }
@@ -259,25 +276,66 @@ static uint32_t poll_flushed(struct lk_context *context, const struct lk_cq *cq,
     return LESUNGKAP_NOTHING;
 }
 
+/* Takes completions that the monitor shows, several in one request; how many, and the result of the
+ * last. */
+static int poll_shown(struct lk_context *context, const struct lk_cq *cq, int count,
+                      struct ibv_wc *wcs, unsigned *left, uint32_t *result)
+{
+    struct lesungkap_completion done[PACKET_BATCH_MOST];
+    const unsigned shown = link_unread(&context->link, cq->cqn);
+    const unsigned wanted = shown < (unsigned)count ? shown : (unsigned)count;
+    const unsigned most = wanted < PACKET_BATCH_MOST ? wanted : PACKET_BATCH_MOST;
+    if (most < 2) {
+        return 0;
+    }
+    const unsigned got = ask_polls(&context->link, cq->cqn, done, most, left, result);
+    for (unsigned n = 0; n < got; n++) {
+        put_wc(context, done + n, wcs + n);
+        note(context, done + n);
+    }
+    return (int)got;
+}
+
+/* The next completion, one that is there or is flushed now. */
+static uint32_t poll_next(struct lk_context *context, const struct lk_cq *cq,
+                          struct lesungkap_completion *done, unsigned *left)
+{
+    const uint32_t result = ask_poll(&context->link, cq->cqn, done, left);
+    if (lesungkap_answer(result) != LESUNGKAP_NOTHING) {
+        return result;
+    }
+    *left = 0;
+    return poll_flushed(context, cq, done);
+}
+
+/* Receives that have completed make room for others. */
+static void refill(struct lk_context *context)
+{
+    for (unsigned n = 0; n < NUMBERS; n++) {
+        if (context->qps[n] != NULL) {
+            top_up(context, context->qps[n]);
+        }
+    }
+}
+
 int work_poll(struct ibv_cq *base, int count, struct ibv_wc *wcs)
 {
     struct lk_context *context = context_of(base->context);
     const struct lk_cq *cq = (struct lk_cq *)base;
     struct lesungkap_completion done;
     uint32_t result = LESUNGKAP_DONE;
-    int got = 0;
     unsigned left = 1;
     pthread_mutex_lock(&context->lock);
+    int got = poll_shown(context, cq, count, wcs, &left, &result);
     while (got < count && result == LESUNGKAP_DONE && (left > 0 || flushes_into(context, cq))) {
-        result = ask_poll(&context->link, cq->cqn, &done, &left);
-        if (lesungkap_answer(result) == LESUNGKAP_NOTHING) {
-            left = 0;
-            result = poll_flushed(context, cq, &done);
-        }
+        result = poll_next(context, cq, &done, &left);
         if (result == LESUNGKAP_DONE) {
             put_wc(context, &done, wcs + got++);
             note(context, &done);
         }
+    }
+    if (got > 0) {
+        refill(context);
     }
     pthread_mutex_unlock(&context->lock);
     return lesungkap_answer(result) == LINK_LOST ? -1 : got;
