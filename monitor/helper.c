@@ -6,6 +6,7 @@
 #include <errno.h>
 #include <fcntl.h>
 #include <linux/magic.h>
+#include <poll.h>
 #include <pthread.h>
 #include <signal.h>
 #include <stdatomic.h>
@@ -16,6 +17,8 @@
 #include <sys/syscall.h>
 #include <sys/vfs.h>
 #include <unistd.h>
+
+enum { PATIENCE = 100 }; /* milliseconds until a thread is asked for again */
 
 /* ---- packets between the two */
 
@@ -233,6 +236,7 @@ static void begin(const struct job *job, int monitor)
     }
 }
 
+/* Starts what had no thread; whether something is left. */
 static int start_late(void)
 {
     int late = 0;
@@ -253,27 +257,34 @@ static void hang_up(void)
     }
 }
 
-static void serve(int monitor)
+static void no_files(void)
 {
-    const struct timeval patience = {0, 100000}; /* for a thread */
-    struct job job;
-    ssize_t got;
-    int fd;
     memset(held.connections, 0xff, sizeof held.connections);
     memset(held.channels, 0xff, sizeof held.channels);
     for (unsigned n = 0; n < PLACES; n++) {
         held.files[n] = NO_FD;
     }
-    setsockopt(monitor, SOL_SOCKET, SO_RCVTIMEO, &patience, sizeof patience);
-    do {
+}
+
+/* Does jobs until the monitor has gone. */
+static void serve(int monitor)
+{
+    struct pollfd asks = {.fd = monitor, .events = POLLIN};
+    struct job job;
+    ssize_t got = 1;
+    int fd;
+    no_files();
+    while (got > 0) {
+        if (poll(&asks, 1, start_late() ? PATIENCE : -1) <= 0) {
+            continue;
+        }
         got = get(monitor, &job, sizeof job, 0, &fd);
         if (got == (ssize_t)sizeof job && job.take) {
             held.connections[job.place] = fd;
         } else if (got == (ssize_t)sizeof job) {
             begin(&job, monitor);
         }
-        start_late();
-    } while (got > 0 || (got < 0 && (errno == EAGAIN || errno == EINTR)));
+    }
     hang_up();
 }
 
