@@ -120,10 +120,8 @@ static void place_copies(void)
 
 static void drop_copies(void)
 {
-    if (copies.count > 0) {
-        const size_t placed = copies.placed ? copies.count * PACKET_PAGE : 0;
-        munmap(copies.pages + placed, copies_bytes() - placed);
-    }
+    const size_t placed = copies.placed ? copies.count * PACKET_PAGE : 0;
+    munmap(copies.pages + placed, copies_bytes() - placed);
     copies.count = 0;
 }
 
@@ -142,27 +140,37 @@ static void catch_fault(int signal, siginfo_t *info, void *context)
 
 /* ---- around a fork of the C library */
 
-static void before(void)
+/* Where there are copies, no signal is taken but that of a fault. */
+static void catch_faults(void)
 {
     struct sigaction action = {.sa_sigaction = catch_fault, .sa_flags = SA_SIGINFO};
     sigset_t mask;
-    contexts_lock_all();
-    for (struct lk_context *context = contexts; context != NULL; context = context->next) {
-        pthread_mutex_lock(&context->lock);
-        pthread_mutex_lock(&context->link.lock);
-    }
-    make_copies();
     sigfillset(&mask);
     sigdelset(&mask, SIGSEGV);
     pthread_sigmask(SIG_SETMASK, &mask, &copies.mask);
     sigaction(SIGSEGV, &action, &copies.action);
 }
 
+static void before(void)
+{
+    contexts_lock_all();
+    for (struct lk_context *context = contexts; context != NULL; context = context->next) {
+        pthread_mutex_lock(&context->lock);
+        pthread_mutex_lock(&context->link.lock);
+    }
+    make_copies();
+    if (copies.count > 0) {
+        catch_faults();
+    }
+}
+
 static void after(void)
 {
-    drop_copies();
-    sigaction(SIGSEGV, &copies.action, NULL);
-    pthread_sigmask(SIG_SETMASK, &copies.mask, NULL);
+    if (copies.count > 0) {
+        drop_copies();
+        sigaction(SIGSEGV, &copies.action, NULL);
+        pthread_sigmask(SIG_SETMASK, &copies.mask, NULL);
+    }
 }
 
 static void after_in_parent(void)

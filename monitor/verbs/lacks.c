@@ -33,8 +33,7 @@ NO_CALL(ibv_destroy_ah, (struct ibv_ah * ah))
 NO_CALL(ibv_attach_mcast, (struct ibv_qp * qp, const union ibv_gid *gid, uint16_t lid))
 NO_CALL(ibv_detach_mcast, (struct ibv_qp * qp, const union ibv_gid *gid, uint16_t lid))
 
-/* changes of what is made, other kinds of memory, objects of other processes, extended queue pairs,
- * vendors' options */
+/* changes of what is made, other kinds of memory, objects of other processes, vendors' options */
 NO_CALL(ibv_resize_cq, (struct ibv_cq * cq, int cqe))
 NO_OBJECT(struct ibv_mr, ibv_reg_dmabuf_mr,
           (struct ibv_pd * pd, uint64_t offset, size_t length, uint64_t iova, int fd, int access))
@@ -42,7 +41,6 @@ NO_OBJECT(struct ibv_context, ibv_import_device, (int fd))
 NO_OBJECT(struct ibv_pd, ibv_import_pd, (struct ibv_context * context, uint32_t handle))
 NO_OBJECT(struct ibv_mr, ibv_import_mr, (struct ibv_pd * pd, uint32_t handle))
 NO_OBJECT(struct ibv_dm, ibv_import_dm, (struct ibv_context * context, uint32_t handle))
-NO_OBJECT(struct ibv_qp_ex, ibv_qp_to_qp_ex, (struct ibv_qp * qp))
 NO_CALL(ibv_set_ece, (struct ibv_qp * qp, struct ibv_ece *ece))
 NO_CALL(ibv_query_ece, (struct ibv_qp * qp, struct ibv_ece *ece))
 

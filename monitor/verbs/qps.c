@@ -45,6 +45,7 @@ static void free_qp(struct lk_qp *qp)
 {
     pthread_cond_destroy(&qp->base.cond);
     pthread_mutex_destroy(&qp->base.mutex);
+    extended_free(qp);
     free(qp->receives);
     free(qp);
 }

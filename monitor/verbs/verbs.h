@@ -54,7 +54,11 @@ struct limits {
 
 /* Receives that the card has no room for wait here, the oldest first. */
 struct lk_qp {
-    struct ibv_qp base;
+    union {
+        struct ibv_qp base;
+        struct ibv_qp_ex ex; /* its first part is the same */
+    };
+    struct batch *batch; /* of an extended queue pair; or NULL */
     struct ibv_qp_attr attr;
     struct ibv_qp_init_attr init;
     struct limits limits;
@@ -156,6 +160,11 @@ int query_device_ex(struct ibv_context *base, const struct ibv_query_device_ex_i
 int work_post_send(struct ibv_qp *qp, struct ibv_send_wr *wr, struct ibv_send_wr **bad);
 int work_post_receive(struct ibv_qp *qp, struct ibv_recv_wr *wr, struct ibv_recv_wr **bad);
 int work_poll(struct ibv_cq *cq, int count, struct ibv_wc *wcs);
+
+/* ---- extended.c */
+
+struct ibv_qp *extended_create_qp(struct ibv_context *base, struct ibv_qp_init_attr_ex *attr);
+void extended_free(struct lk_qp *qp);
 
 /* ---- limits.c: called with the context's lock, but for the first and the last */
 

@@ -233,6 +233,7 @@ static const struct {
              {"slow peer", slow_peer},
              {"limits by events", limits_by_events},
              {"signals", interrupted_waits},
+             {"extended", extended_queue_pairs},
              {"lacks", lacks}};
 
 int main(int argc, char **argv)

@@ -62,5 +62,6 @@ void no_limits(void);
 void slow_peer(void);
 void limits_by_events(void);
 void interrupted_waits(void);
+void extended_queue_pairs(void);
 
 #endif
