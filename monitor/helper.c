@@ -170,7 +170,9 @@ static void *run(void *given)
         held.files[place] = file;
     }
     const int passed = report.file == MEMORY || report.file == SOCKET ? file : NO_FD;
-    const size_t length = report.read ? sizeof report : offsetof(struct report_of_job, bytes);
+    const size_t most = sizeof report.bytes;
+    const size_t bytes = report.length > 0 ? (size_t)report.length : 0;
+    const size_t length = offsetof(struct report_of_job, bytes) + (bytes < most ? bytes : most);
     if (!task->job.silent) {
         send_with_file(task->monitor, &report, length, passed, 0);
     }

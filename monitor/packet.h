@@ -27,7 +27,8 @@ enum {
     PACKET_BATCH = 23,    /* body: up to PACKET_BATCH_MOST records of kinds 2 to 5; the answer's
                              body: the record of each one's answer */
 
-    PACKET_MOST_BYTES = LESUNGKAP_TAPE_HEADER_BYTES + LESUNGKAP_TAPE_MOST_BODY,
+    PACKET_MOST_BODY = 1024, /* of a batch; of others LESUNGKAP_TAPE_MOST_BODY */
+    PACKET_MOST_BYTES = LESUNGKAP_TAPE_HEADER_BYTES + PACKET_MOST_BODY,
     PACKET_WINDOW_BYTES = 8,
     PACKET_POLL_BYTES = LESUNGKAP_COMPLETION_BYTES + 1, /* last: how many completions are left */
     PACKET_WAITS_BYTES = 8,
@@ -74,7 +75,7 @@ static inline uint32_t get_number(const uint8_t *bytes, size_t width)
 /* Writes a packet into PACKET_MOST_BYTES bytes; its length, or 0 if the body is too long. */
 static inline size_t put_packet(uint8_t *bytes, unsigned mark, const struct packet *packet)
 {
-    if (packet->length > LESUNGKAP_TAPE_MOST_BODY) {
+    if (packet->length > PACKET_MOST_BODY) {
         return 0;
     }
     put_number(bytes, 2, mark);
@@ -98,7 +99,7 @@ static inline int get_packet(const uint8_t *bytes, size_t length, unsigned mark,
     packet->fourth = bytes[LESUNGKAP_TAPE_NUMBER_AT];
     packet->body = bytes + LESUNGKAP_TAPE_HEADER_BYTES;
     packet->length = get_number(bytes + LESUNGKAP_TAPE_LENGTH_AT, 2);
-    return packet->length <= LESUNGKAP_TAPE_MOST_BODY &&
+    return packet->length <= PACKET_MOST_BODY &&
            length == LESUNGKAP_TAPE_HEADER_BYTES + packet->length;
 }
 

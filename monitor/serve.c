@@ -75,7 +75,8 @@ static void run_batch(struct monitor *monitor, unsigned client, const struct pac
         struct packet record;
         const size_t whole =
             first_packet(batch->body + at, batch->length - at, LESUNGKAP_TAPE_CALL_MARK, &record);
-        goes_on = whole > 0 && run_work(monitor, client, &record, &one) &&
+        goes_on = whole > 0 && record.length <= LESUNGKAP_TAPE_MOST_BODY &&
+                  run_work(monitor, client, &record, &one) &&
                   (lesungkap_answer(one.result) == LESUNGKAP_DONE || is_held(one.result));
         at += whole;
         answer->length += put_answer(answer->body + answer->length, &one);
@@ -87,6 +88,10 @@ static void run(struct monitor *monitor, unsigned client, const struct packet *p
                 const struct report_of_job *with, int *fd, struct answer *answer)
 {
     const uint32_t number = packet->fourth;
+    if (packet->length > LESUNGKAP_TAPE_MOST_BODY && packet->third != PACKET_BATCH) {
+        answer->result = LESUNGKAP_BAD_TAPE_RECORD;
+        return;
+    }
     if (packet->third == PACKET_CONTROL) {
         request_control(monitor, client, packet, answer);
         return;

@@ -77,6 +77,19 @@ unsigned ask_receives(struct link *link, uint32_t name,
                       uint32_t *result);
 unsigned ask_polls(struct link *link, uint32_t cqn, struct lesungkap_completion *completions,
                    unsigned count, unsigned *left, uint32_t *result);
+/* A send with receives of its queue pair before it and a poll behind it, in one request; the send's
+ * result. */
+struct together {
+    const struct lesungkap_receive *receives[LESUNGKAP_QP_MOST_RECEIVES];
+    unsigned count; /* of them */
+    unsigned given; /* of them, that the card has taken */
+    int polls;      /* a completion of queue `cqn` is wanted */
+    uint32_t cqn;
+    int polled; /* and here it is */
+    struct lesungkap_completion completion;
+};
+uint32_t ask_together(struct link *link, uint32_t name, const struct lesungkap_send *send,
+                      struct together *with);
 /* How many completions of a queue the monitor shows; 0 also where it shows none at all. */
 unsigned link_unread(const struct link *link, uint32_t cqn);
 

@@ -68,7 +68,7 @@ uint32_t ask_counters(struct link *link)
 /* ---- batches */
 
 struct batch {
-    uint8_t bytes[LESUNGKAP_TAPE_MOST_BODY];
+    uint8_t bytes[PACKET_MOST_BODY];
     size_t length;
     unsigned count;
 };
@@ -143,6 +143,52 @@ unsigned ask_polls(struct link *link, uint32_t cqn, struct lesungkap_completion 
         }
     }
     return done;
+}
+
+/* Puts them into a batch; 0 if there is no room. */
+static int put_together(struct batch *batch, uint32_t name, const struct lesungkap_send *send,
+                        const struct together *with)
+{
+    uint8_t record[LESUNGKAP_SEND_MOST_BYTES];
+    size_t length;
+    for (unsigned n = 0; n < with->count; n++) {
+        length = lesungkap_put_receive(record, sizeof record, with->receives[n]);
+        if (length == 0 || !batch_add(batch, PACKET_RECEIVE, qp_number(name), record, length)) {
+            return 0;
+        }
+    }
+    length = lesungkap_put_send(record, sizeof record, send);
+    return length > 0 && batch_add(batch, PACKET_SEND, qp_number(name), record, length) &&
+           (!with->polls || batch_add(batch, PACKET_POLL, with->cqn, NULL, 0));
+}
+
+uint32_t ask_together(struct link *link, uint32_t name, const struct lesungkap_send *send,
+                      struct together *with)
+{
+    struct batch batch = {.length = 0};
+    struct asked asked;
+    struct packet answer;
+    size_t at = 0;
+    with->given = 0;
+    with->polled = 0;
+    if (link->counters == NULL || with->count + (unsigned)with->polls == 0 ||
+        !put_together(&batch, name, send, with)) {
+        return ask_send(link, name, send);
+    }
+    uint32_t result = link_ask(link, PACKET_BATCH, 0, batch.bytes, batch.length, -1, &asked);
+    while (with->given < with->count && lesungkap_answer(result) == LESUNGKAP_DONE) {
+        result = next_answer(&asked, &at, &answer);
+        with->given += lesungkap_answer(result) == LESUNGKAP_DONE;
+    }
+    if (lesungkap_answer(result) !=
+        LESUNGKAP_DONE) { /* what is behind a receive that was refused was not run */
+        return lesungkap_answer(result) == LINK_LOST ? result : ask_send(link, name, send);
+    }
+    result = next_answer(&asked, &at, &answer);
+    with->polled =
+        with->polls && next_answer(&asked, &at, &answer) == LESUNGKAP_DONE &&
+        lesungkap_get_completion(answer.body, answer.length, &with->completion) == LESUNGKAP_DONE;
+    return result;
 }
 
 unsigned link_unread(const struct link *link, uint32_t cqn)
