@@ -163,6 +163,7 @@ static void give_seat_back(struct monitor *monitor, unsigned number)
         complain(monitor, number, "a window could not be freed, its seat stays taken");
     }
     connection->seat = NO_SEAT;
+    counters_close(connection);
     renew(monitor);
 }
 

@@ -6,6 +6,7 @@
 #include <errno.h>
 #include <fcntl.h>
 #include <linux/magic.h>
+#include <poll.h>
 #include <pthread.h>
 #include <signal.h>
 #include <stdatomic.h>
@@ -17,34 +18,14 @@
 #include <sys/vfs.h>
 #include <unistd.h>
 
+enum { PATIENCE = 100 }; /* milliseconds until a thread is asked for again */
+
 /* ---- packets between the two */
 
 union control {
     struct cmsghdr aligned;
     char bytes[CMSG_SPACE(sizeof(int))];
 };
-
-static int put(int to, const void *bytes, size_t length, int fd)
-{
-    union control control;
-    struct iovec part = {(void *)(uintptr_t)bytes, length};
-    struct msghdr message = {.msg_iov = &part, .msg_iovlen = 1};
-    if (fd != NO_FD) {
-        memset(&control, 0, sizeof control);
-        message.msg_control = &control;
-        message.msg_controllen = sizeof control;
-        struct cmsghdr *head = CMSG_FIRSTHDR(&message);
-        head->cmsg_level = SOL_SOCKET;
-        head->cmsg_type = SCM_RIGHTS;
-        head->cmsg_len = CMSG_LEN(sizeof fd);
-        memcpy(CMSG_DATA(head), &fd, sizeof fd);
-    }
-    ssize_t sent;
-    do {
-        sent = sendmsg(to, &message, MSG_NOSIGNAL);
-    } while (sent < 0 && errno == EINTR);
-    return sent == (ssize_t)length;
-}
 
 /* The length of the next packet; 0 at the end, -1 with errno. */
 static ssize_t get(int from, void *bytes, size_t size, int flags, int *fd)
@@ -68,7 +49,7 @@ static ssize_t get(int from, void *bytes, size_t size, int flags, int *fd)
 
 int helper_ask(const struct helper *helper, const struct job *job, int fd)
 {
-    return put(helper->fd, job, sizeof *job, fd);
+    return send_with_file(helper->fd, job, sizeof *job, fd, 0);
 }
 
 int helper_report(const struct helper *helper, struct report_of_job *report, int *fd)
@@ -189,9 +170,11 @@ static void *run(void *given)
         held.files[place] = file;
     }
     const int passed = report.file == MEMORY || report.file == SOCKET ? file : NO_FD;
-    const size_t length = report.read ? sizeof report : offsetof(struct report_of_job, bytes);
+    const size_t most = sizeof report.bytes;
+    const size_t bytes = report.length > 0 ? (size_t)report.length : 0;
+    const size_t length = offsetof(struct report_of_job, bytes) + (bytes < most ? bytes : most);
     if (!task->job.silent) {
-        put(task->monitor, &report, length, passed);
+        send_with_file(task->monitor, &report, length, passed, 0);
     }
     return NULL;
 }
@@ -255,6 +238,7 @@ static void begin(const struct job *job, int monitor)
     }
 }
 
+/* Starts what had no thread; whether something is left. */
 static int start_late(void)
 {
     int late = 0;
@@ -275,27 +259,34 @@ static void hang_up(void)
     }
 }
 
-static void serve(int monitor)
+static void no_files(void)
 {
-    const struct timeval patience = {0, 100000}; /* for a thread */
-    struct job job;
-    ssize_t got;
-    int fd;
     memset(held.connections, 0xff, sizeof held.connections);
     memset(held.channels, 0xff, sizeof held.channels);
     for (unsigned n = 0; n < PLACES; n++) {
         held.files[n] = NO_FD;
     }
-    setsockopt(monitor, SOL_SOCKET, SO_RCVTIMEO, &patience, sizeof patience);
-    do {
+}
+
+/* Does jobs until the monitor has gone. */
+static void serve(int monitor)
+{
+    struct pollfd asks = {.fd = monitor, .events = POLLIN};
+    struct job job;
+    ssize_t got = 1;
+    int fd;
+    no_files();
+    while (got > 0) {
+        if (poll(&asks, 1, start_late() ? PATIENCE : -1) <= 0) {
+            continue;
+        }
         got = get(monitor, &job, sizeof job, 0, &fd);
         if (got == (ssize_t)sizeof job && job.take) {
             held.connections[job.place] = fd;
         } else if (got == (ssize_t)sizeof job) {
             begin(&job, monitor);
         }
-        start_late();
-    } while (got > 0 || (got < 0 && (errno == EAGAIN || errno == EINTR)));
+    }
     hang_up();
 }
 

@@ -69,6 +69,8 @@ int helper_ask(const struct helper *helper, const struct job *job, int fd);
 /* Its next report: 1; 0 where there is none now, -1 where the helper has gone. */
 int helper_report(const struct helper *helper, struct report_of_job *report, int *fd);
 
+/* Sends a packet with a file, or NO_FD; whether it was taken. */
+int send_with_file(int to, const void *bytes, size_t length, int fd, int flags);
 /* Takes a packet if it came without files. Its whole length; -1 with errno where there is none,
  * EPIPE at the end. */
 ssize_t receive_packet(int from, uint8_t bytes[PACKET_MOST_BYTES], int *with_files);

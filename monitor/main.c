@@ -214,6 +214,14 @@ static int open_sources(const sigset_t *set)
            failed("epoll", strerror(errno));
 }
 
+static int lock_memory(void)
+{
+    return mlockall(MCL_CURRENT | MCL_FUTURE) == 0 ||
+           failed("--lock", errno == ENOMEM || errno == EPERM
+                                ? "the limit on locked memory is too low (ulimit -l)"
+                                : strerror(errno));
+}
+
 static int open_all(const struct options *options)
 {
     const struct job listens = {.place = LISTENER_PLACE, .take = 1};
@@ -222,11 +230,9 @@ static int open_all(const struct options *options)
         return 0;
     }
     listener = listen_at(options, &monitor);
-    if (listener < 0 || !card_open(&monitor.card, options->memory, &options->tape)) {
+    if (listener < 0 || !card_open(&monitor.card, options->memory, &options->tape) ||
+        (options->lock && !lock_memory())) {
         return 0;
-    }
-    if (options->lock && mlockall(MCL_CURRENT | MCL_FUTURE) != 0) {
-        return failed("--lock", strerror(errno));
     }
     if (!helper_ask(&monitor.helper, &listens, listener)) {
         return failed("the helper that closes files", strerror(errno));
@@ -269,6 +275,9 @@ int main(int count, char **words)
     clients_init(&monitor);
     monitor.card.timed = options.times;
     if (!open_all(&options)) {
+        if (listener >= 0) {
+            unlink(options.socket);
+        }
         return 1;
     }
     printf("lesungkap-monitor: %s: a card of %" PRIu64 " bytes for %u clients, %" PRIu64

@@ -8,6 +8,7 @@
 #include "packet.h"
 #include "report.h"
 
+#include <stdatomic.h>
 #include <sys/types.h>
 
 enum kind { PD, CQ, MR, QP, KINDS };
@@ -22,6 +23,7 @@ enum {
 /* What a request is answered with. */
 struct answer {
     uint32_t result;
+    int file; /* to be passed with it, or NO_FD */
     size_t length;
     uint8_t body[LESUNGKAP_TAPE_MOST_BODY];
 };
@@ -54,10 +56,11 @@ struct connection {
     uint64_t client;       /* counts those who have joined */
     uint64_t window_bytes; /* of its window, those that its memory fills */
     unsigned has[KINDS];
-    int busy;             /* the helper has a job of it */
-    struct job job;       /* the helper's next */
-    pid_t sender;         /* of the packet that came with a file */
-    struct answer answer; /* waits for the helper */
+    _Atomic uint32_t *counters; /* its page of them, or NULL */
+    int busy;                   /* the helper has a job of it */
+    struct job job;             /* the helper's next */
+    pid_t sender;               /* of the packet that came with a file */
+    struct answer answer;       /* waits for the helper */
 };
 
 /* Sends of a queue pair that wait, the oldest first. */
@@ -193,6 +196,15 @@ void events_forget(struct monitor *monitor, unsigned client, uint32_t cqn);
 /* Around a call that may put completions. */
 void events_before(struct monitor *monitor);
 void events_after(struct monitor *monitor);
+
+/* ---- counters.c: unread completions, as a client sees them without asking */
+
+/* Makes a client's page; *file is to be passed to it if this answers LESUNGKAP_DONE. */
+uint32_t counters_open(struct monitor *monitor, unsigned client, int *file);
+void counters_close(struct connection *connection);
+/* Writes how many completions a queue has, for its owner; none for one that it has no more. */
+void counters_show(struct monitor *monitor, uint32_t cqn);
+void counters_hide(struct connection *connection, uint32_t cqn);
 
 /* ---- show.c: statistics */
 

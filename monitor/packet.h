@@ -22,11 +22,17 @@ enum {
     PACKET_SHOW = 20,    /* number: a line of the statistics; the answer's body: its text */
     PACKET_WAITS = 21,   /* number: a queue pair; the answer's body: where its oldest held send lies
                             and what it waits for, 4 each */
+    PACKET_COUNTERS = 22, /* the answer comes with the file of the client's page of counters: 4
+                             bytes for each completion queue, how many completions are unread */
+    PACKET_BATCH = 23,    /* body: up to PACKET_BATCH_MOST records of kinds 2 to 5; the answer's
+                             body: the record of each one's answer */
 
-    PACKET_MOST_BYTES = LESUNGKAP_TAPE_HEADER_BYTES + LESUNGKAP_TAPE_MOST_BODY,
+    PACKET_MOST_BODY = 1024, /* of a batch; of others LESUNGKAP_TAPE_MOST_BODY */
+    PACKET_MOST_BYTES = LESUNGKAP_TAPE_HEADER_BYTES + PACKET_MOST_BODY,
     PACKET_WINDOW_BYTES = 8,
     PACKET_POLL_BYTES = LESUNGKAP_COMPLETION_BYTES + 1, /* last: how many completions are left */
     PACKET_WAITS_BYTES = 8,
+    PACKET_BATCH_MOST = 16,
     PACKET_PAGE = 4096,
     PACKET_HELD_MOST = 1024, /* sends that wait on a queue pair */
     PACKET_NAME_SHIFT = 8    /* of a queue pair's name: its number below, above it whose it is and
@@ -69,7 +75,7 @@ static inline uint32_t get_number(const uint8_t *bytes, size_t width)
 /* Writes a packet into PACKET_MOST_BYTES bytes; its length, or 0 if the body is too long. */
 static inline size_t put_packet(uint8_t *bytes, unsigned mark, const struct packet *packet)
 {
-    if (packet->length > LESUNGKAP_TAPE_MOST_BODY) {
+    if (packet->length > PACKET_MOST_BODY) {
         return 0;
     }
     put_number(bytes, 2, mark);
@@ -93,8 +99,20 @@ static inline int get_packet(const uint8_t *bytes, size_t length, unsigned mark,
     packet->fourth = bytes[LESUNGKAP_TAPE_NUMBER_AT];
     packet->body = bytes + LESUNGKAP_TAPE_HEADER_BYTES;
     packet->length = get_number(bytes + LESUNGKAP_TAPE_LENGTH_AT, 2);
-    return packet->length <= LESUNGKAP_TAPE_MOST_BODY &&
+    return packet->length <= PACKET_MOST_BODY &&
            length == LESUNGKAP_TAPE_HEADER_BYTES + packet->length;
+}
+
+/* The first packet of several behind each other: how many bytes it has, 0 if it is none. */
+static inline size_t first_packet(const uint8_t *bytes, size_t length, unsigned mark,
+                                  struct packet *packet)
+{
+    if (length < LESUNGKAP_TAPE_HEADER_BYTES) {
+        return 0;
+    }
+    const size_t whole =
+        LESUNGKAP_TAPE_HEADER_BYTES + get_number(bytes + LESUNGKAP_TAPE_LENGTH_AT, 2);
+    return whole <= length && get_packet(bytes, whole, mark, packet) ? whole : 0;
 }
 
 static inline uint32_t qp_number(uint32_t name)

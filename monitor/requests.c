@@ -68,6 +68,7 @@ static void give_back(struct monitor *monitor, unsigned client, enum kind kind, 
         work_forget(monitor, number);
     } else if (kind == CQ) {
         events_forget(monitor, client, number);
+        counters_hide(monitor->connections + client, number);
     }
 }
 
@@ -228,7 +229,7 @@ static void register_mr(struct monitor *monitor, unsigned client, const struct p
                         struct answer *answer)
 {
     const struct connection *connection = monitor->connections + client;
-    struct lesungkap_register_mr data;
+    struct lesungkap_register_mr data = {0};
     uint8_t own[LESUNGKAP_COMMAND_MOST_BYTES];
     answer->result = lesungkap_get_register_mr(packet->body, packet->length, &data);
     if (answer->result != LESUNGKAP_DONE) {
@@ -248,7 +249,7 @@ static void register_mr(struct monitor *monitor, unsigned client, const struct p
 static void create_qp(struct monitor *monitor, unsigned client, const struct packet *packet,
                       struct answer *answer)
 {
-    struct lesungkap_create_qp data;
+    struct lesungkap_create_qp data = {0};
     answer->result = lesungkap_get_create_qp(packet->body, packet->length, &data);
     if (answer->result != LESUNGKAP_DONE) {
         return;
@@ -283,7 +284,7 @@ static unsigned resolve(struct monitor *monitor, struct lesungkap_modify_qp *dat
 static void modify_qp(struct monitor *monitor, unsigned client, const struct packet *packet,
                       struct answer *answer)
 {
-    struct lesungkap_modify_qp data;
+    struct lesungkap_modify_qp data = {0};
     uint8_t own[LESUNGKAP_COMMAND_MOST_BYTES];
     answer->result = lesungkap_get_modify_qp(packet->body, packet->length, &data);
     if (answer->result != LESUNGKAP_DONE) {

@@ -26,46 +26,110 @@ static void show(const struct monitor *monitor, unsigned client, uint32_t number
     answer->result = answer->length > 0 ? LESUNGKAP_DONE : LESUNGKAP_NOTHING;
 }
 
+/* Writes an answer's record; its length. */
+static size_t put_answer(uint8_t *bytes, const struct answer *answer)
+{
+    const struct packet packet = {(uint8_t)lesungkap_answer(answer->result),
+                                  (uint8_t)lesungkap_status(answer->result), answer->body,
+                                  answer->length};
+    return put_packet(bytes, LESUNGKAP_TAPE_ANSWER_MARK, &packet);
+}
+
+/* A send, receive, poll or flush; 0 if it is none of them. */
+static int run_work(struct monitor *monitor, unsigned client, const struct packet *packet,
+                    struct answer *answer)
+{
+    const uint32_t number = packet->fourth;
+    const int plain = packet->third == PACKET_POLL || packet->third == PACKET_FLUSH;
+    if (plain && packet->length > 0) {
+        answer->result = LESUNGKAP_BAD_TAPE_RECORD;
+        return 1;
+    }
+    switch (packet->third) {
+    case PACKET_SEND:
+        answer->result = work_send(monitor, client, number, packet->body, packet->length);
+        return 1;
+    case PACKET_RECEIVE:
+        answer->result = work_receive(monitor, client, number, packet->body, packet->length);
+        return 1;
+    case PACKET_POLL: work_poll(monitor, client, number, answer); return 1;
+    case PACKET_FLUSH: answer->result = work_flush(monitor, client, number); return 1;
+    default: return 0;
+    }
+}
+
+_Static_assert(PACKET_BATCH_MOST *(LESUNGKAP_TAPE_HEADER_BYTES + PACKET_POLL_BYTES) <=
+                   LESUNGKAP_TAPE_MOST_BODY,
+               "the answers of a batch fit in a packet");
+
+/* Runs the records of a batch one after the other. One that is refused ends it, as one that is none
+ * or of another kind: those behind it are not run, and have no answer. */
+static void run_batch(struct monitor *monitor, unsigned client, const struct packet *batch,
+                      struct answer *answer)
+{
+    size_t at = 0;
+    int goes_on = 1;
+    answer->result = LESUNGKAP_DONE;
+    for (unsigned n = 0; n < PACKET_BATCH_MOST && at < batch->length && goes_on; n++) {
+        struct answer one = {.result = LESUNGKAP_BAD_TAPE_RECORD};
+        struct packet record;
+        const size_t whole =
+            first_packet(batch->body + at, batch->length - at, LESUNGKAP_TAPE_CALL_MARK, &record);
+        goes_on = whole > 0 && record.length <= LESUNGKAP_TAPE_MOST_BODY &&
+                  run_work(monitor, client, &record, &one) &&
+                  (lesungkap_answer(one.result) == LESUNGKAP_DONE || is_held(one.result));
+        at += whole;
+        answer->length += put_answer(answer->body + answer->length, &one);
+    }
+}
+
 /* Runs a request, with what the helper has read if a file came with it. */
 static void run(struct monitor *monitor, unsigned client, const struct packet *packet,
                 const struct report_of_job *with, int *fd, struct answer *answer)
 {
     const uint32_t number = packet->fourth;
-    switch (packet->third) {
-    case PACKET_CONTROL: request_control(monitor, client, packet, answer); return;
-    case PACKET_SEND:
-        answer->result = work_send(monitor, client, number, packet->body, packet->length);
+    if (packet->length > LESUNGKAP_TAPE_MOST_BODY && packet->third != PACKET_BATCH) {
+        answer->result = LESUNGKAP_BAD_TAPE_RECORD;
         return;
-    case PACKET_RECEIVE:
-        answer->result = work_receive(monitor, client, number, packet->body, packet->length);
+    }
+    if (packet->third == PACKET_CONTROL) {
+        request_control(monitor, client, packet, answer);
         return;
-    default: break;
+    }
+    if (packet->third == PACKET_BATCH) {
+        run_batch(monitor, client, packet, answer);
+        return;
+    }
+    if (run_work(monitor, client, packet, answer)) {
+        return;
     }
     if (packet->length > 0) {
         answer->result = LESUNGKAP_BAD_TAPE_RECORD;
         return;
     }
     switch (packet->third) {
-    case PACKET_POLL: work_poll(monitor, client, number, answer); return;
-    case PACKET_FLUSH: answer->result = work_flush(monitor, client, number); return;
     case PACKET_WINDOW: window(monitor, answer); return;
     case PACKET_JOIN: answer->result = connection_join(monitor, client, with, *fd); return;
     case PACKET_ARM: answer->result = events_arm(monitor, client, number); return;
     case PACKET_CHANNEL: answer->result = events_channel(monitor, client, number, fd); return;
     case PACKET_SHOW: show(monitor, client, number, answer); return;
+    case PACKET_COUNTERS: answer->result = counters_open(monitor, client, &answer->file); return;
     case PACKET_WAITS: work_waits(monitor, client, number, answer); return;
     default: answer->result = LESUNGKAP_BAD_TAPE_RECORD;
     }
 }
 
-static int reply(int fd, const struct answer *answer)
+static int reply(int fd, struct answer *answer)
 {
     uint8_t bytes[PACKET_MOST_BYTES];
-    const struct packet packet = {(uint8_t)lesungkap_answer(answer->result),
-                                  (uint8_t)lesungkap_status(answer->result), answer->body,
-                                  answer->length};
-    const size_t length = put_packet(bytes, LESUNGKAP_TAPE_ANSWER_MARK, &packet);
-    return send(fd, bytes, length, MSG_DONTWAIT | MSG_NOSIGNAL) == (ssize_t)length;
+    const size_t length = put_answer(bytes, answer);
+    if (answer->file == NO_FD) {
+        return send(fd, bytes, length, MSG_DONTWAIT | MSG_NOSIGNAL) == (ssize_t)length;
+    }
+    const int sent = send_with_file(fd, bytes, length, answer->file, MSG_DONTWAIT);
+    close(answer->file);
+    answer->file = NO_FD;
+    return sent;
 }
 
 /* Gives the answer, once it is on the tape, and listens again. */
@@ -107,6 +171,7 @@ static void serve(struct monitor *monitor, unsigned number, const uint8_t *bytes
     struct packet packet;
     connection->answer.result = LESUNGKAP_BAD_TAPE_RECORD;
     connection->answer.length = 0;
+    connection->answer.file = NO_FD;
     connection->sender = with != NULL ? with->sender : 0;
     connection->user->requests++;
     monitor->requests++;

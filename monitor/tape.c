@@ -67,16 +67,27 @@ static int make_part(struct tape *tape, unsigned part)
     return 0;
 }
 
+/* Whether a second part of this name is left of an old tape, whose first was removed. */
+static int has_old_part(const struct tape *tape)
+{
+    char calls[TAPE_NAME_BYTES], answers[TAPE_NAME_BYTES];
+    const int old = file_name(tape, "", 2, calls) && file_name(tape, ".answers", 2, answers) &&
+                    (access(calls, F_OK) == 0 || access(answers, F_OK) == 0);
+    errno = EEXIST;
+    return old;
+}
+
 /* Begins the tape of the next number that is free. */
 static int make_tape(struct tape *tape)
 {
-    int length, made;
+    const char *name = tape->options.name;
+    int made = 0;
     do {
-        const char *name = tape->options.name;
-        length = ++tape->number == 1
-                     ? snprintf(tape->name, sizeof tape->name, "%s", name)
-                     : snprintf(tape->name, sizeof tape->name, "%s.%04u", name, tape->number);
-        made = length > 0 && (size_t)length < sizeof tape->name && make_part(tape, 1);
+        const int length = ++tape->number == 1 ? snprintf(tape->name, sizeof tape->name, "%s", name)
+                                               : snprintf(tape->name, sizeof tape->name, "%s.%04u",
+                                                          name, tape->number);
+        errno = length > 0 && (size_t)length < sizeof tape->name ? EEXIST : ENAMETOOLONG;
+        made = errno == EEXIST && !has_old_part(tape) && make_part(tape, 1);
     } while (!made && errno == EEXIST && tape->number < NUMBER_MOST);
     if (!made) {
         return failed(tape->options.name, strerror(errno));

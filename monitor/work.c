@@ -32,6 +32,7 @@ void events_after(struct monitor *monitor)
 {
     for (uint32_t cqn = 0; cqn < LESUNGKAP_CQ_COUNT; cqn++) {
         struct events *events = monitor->events + cqn;
+        counters_show(monitor, cqn);
         if (events->armed && card_unread(&monitor->card, cqn) > events->unread) {
             notify(events, cqn);
         }
@@ -189,6 +190,7 @@ void work_poll(struct monitor *monitor, unsigned client, uint32_t cqn, struct an
         return;
     }
     answer->result = card_poll(&monitor->card, cqn, answer->body);
+    counters_show(monitor, cqn);
     monitor->changed |= answer->result == LESUNGKAP_DONE;
     if (answer->result == LESUNGKAP_DONE) {
         answer->body[LESUNGKAP_COMPLETION_BYTES] = (uint8_t)card_unread(&monitor->card, cqn);

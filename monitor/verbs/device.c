@@ -190,6 +190,7 @@ int join_monitor(struct lk_context *context)
                  lesungkap_answer_text(lesungkap_answer(result)));
         return link_errno(result);
     }
+    ask_counters(&context->link); /* where there are none, every poll is asked for */
     context->joined = 1;
     return 0;
 }

@@ -73,6 +73,7 @@ int events_arm(struct ibv_cq *base, int solicited_only)
     struct lk_context *context = context_of(base->context);
     (void)solicited_only;
     pthread_mutex_lock(&context->lock);
+    work_refill(context);
     const uint32_t result = ask_arm(&context->link, cq->cqn);
     cq->armed = result == LESUNGKAP_DONE;
     if (cq->armed && flushes_into(context, cq)) {

@@ -3,10 +3,13 @@
 
 #include <errno.h>
 #include <pwd.h>
+#include <sched.h>
 #include <stdlib.h>
 #include <sys/socket.h>
 #include <sys/un.h>
 #include <unistd.h>
+
+enum { LOOKS_MOST = 16 };
 
 /* ---- the socket */
 
@@ -27,6 +30,8 @@ int link_open(struct link *link, const char *path)
         return why;
     }
     pthread_mutex_init(&link->lock, NULL);
+    link->counters = NULL;
+    link->looks = 0;
     return 0;
 }
 
@@ -49,12 +54,14 @@ void link_close(struct link *link)
     if (link->fd >= 0) {
         close(link->fd);
     }
+    link_drop_counters(link);
     pthread_mutex_destroy(&link->lock);
 }
 
 void link_lose(struct link *link)
 {
     close(link->fd);
+    link_drop_counters(link);
     link->fd = -1;
     pthread_mutex_init(&link->lock, NULL);
 }
@@ -106,14 +113,8 @@ size_t link_exchange(struct link *link, const uint8_t *request, size_t length, i
 
 /* ---- one request, one answer */
 
-struct asked {
-    uint32_t result;
-    struct packet packet;
-    uint8_t bytes[PACKET_MOST_BYTES];
-};
-
-static uint32_t ask(struct link *link, unsigned kind, uint32_t number, const uint8_t *body,
-                    size_t length, int file, struct asked *asked)
+uint32_t link_ask(struct link *link, unsigned kind, uint32_t number, const uint8_t *body,
+                  size_t length, int file, struct asked *asked)
 {
     uint8_t request[PACKET_MOST_BYTES];
     const struct packet packet = {(uint8_t)kind, (uint8_t)number, body, length};
@@ -128,13 +129,13 @@ static uint32_t ask(struct link *link, unsigned kind, uint32_t number, const uin
 static uint32_t ask_plain(struct link *link, unsigned kind, uint32_t number, int file)
 {
     struct asked asked;
-    return ask(link, kind, number, NULL, 0, file, &asked);
+    return link_ask(link, kind, number, NULL, 0, file, &asked);
 }
 
 static uint32_t ask_command(struct link *link, const uint8_t *command, size_t length,
                             struct asked *asked)
 {
-    return ask(link, PACKET_CONTROL, 0, command, length, -1, asked);
+    return link_ask(link, PACKET_CONTROL, 0, command, length, -1, asked);
 }
 
 /* ---- the monitor's own requests */
@@ -142,7 +143,7 @@ static uint32_t ask_command(struct link *link, const uint8_t *command, size_t le
 uint32_t ask_window(struct link *link, uint32_t *bytes)
 {
     struct asked asked;
-    if (ask(link, PACKET_WINDOW, 0, NULL, 0, -1, &asked) == LESUNGKAP_DONE) {
+    if (link_ask(link, PACKET_WINDOW, 0, NULL, 0, -1, &asked) == LESUNGKAP_DONE) {
         if (asked.packet.length != PACKET_WINDOW_BYTES ||
             get_number(asked.packet.body, 4) != PACKET_VERSION) {
             return LINK_LOST;
@@ -170,7 +171,7 @@ uint32_t ask_arm(struct link *link, uint32_t cqn)
 uint32_t ask_waits(struct link *link, uint32_t name, uint32_t *oldest, uint32_t *what)
 {
     struct asked asked;
-    if (ask(link, PACKET_WAITS, qp_number(name), NULL, 0, -1, &asked) == LESUNGKAP_DONE) {
+    if (link_ask(link, PACKET_WAITS, qp_number(name), NULL, 0, -1, &asked) == LESUNGKAP_DONE) {
         if (asked.packet.length != PACKET_WAITS_BYTES) {
             return LINK_LOST;
         }
@@ -305,7 +306,7 @@ uint32_t ask_send(struct link *link, uint32_t name, const struct lesungkap_send 
     struct asked asked;
     const size_t length = lesungkap_put_send(record, sizeof record, send);
     return length == 0 ? (uint32_t)LESUNGKAP_BAD_FIELD
-                       : ask(link, PACKET_SEND, qp_number(name), record, length, -1, &asked);
+                       : link_ask(link, PACKET_SEND, qp_number(name), record, length, -1, &asked);
 }
 
 uint32_t ask_receive(struct link *link, uint32_t name, const struct lesungkap_receive *receive)
@@ -313,8 +314,9 @@ uint32_t ask_receive(struct link *link, uint32_t name, const struct lesungkap_re
     uint8_t record[LESUNGKAP_RECEIVE_MOST_BYTES];
     struct asked asked;
     const size_t length = lesungkap_put_receive(record, sizeof record, receive);
-    return length == 0 ? (uint32_t)LESUNGKAP_BAD_FIELD
-                       : ask(link, PACKET_RECEIVE, qp_number(name), record, length, -1, &asked);
+    return length == 0
+               ? (uint32_t)LESUNGKAP_BAD_FIELD
+               : link_ask(link, PACKET_RECEIVE, qp_number(name), record, length, -1, &asked);
 }
 
 uint32_t ask_flush(struct link *link, uint32_t name)
@@ -322,11 +324,27 @@ uint32_t ask_flush(struct link *link, uint32_t name)
     return ask_plain(link, PACKET_FLUSH, qp_number(name), -1);
 }
 
+/* Whether the monitor shows no completion of a queue. Now and then it is asked all the same, as it
+ * may have gone. */
+static int shows_none(struct link *link, uint32_t cqn)
+{
+    if (link->counters == NULL || cqn >= LESUNGKAP_CQ_COUNT || link_unread(link, cqn) > 0 ||
+        ++link->looks >= LOOKS_MOST) {
+        link->looks = 0;
+        return 0;
+    }
+    sched_yield();
+    return 1;
+}
+
 uint32_t ask_poll(struct link *link, uint32_t cqn, struct lesungkap_completion *completion,
                   unsigned *left)
 {
     struct asked asked;
-    ask(link, PACKET_POLL, cqn, NULL, 0, -1, &asked);
+    if (shows_none(link, cqn)) {
+        return LESUNGKAP_NOTHING;
+    }
+    link_ask(link, PACKET_POLL, cqn, NULL, 0, -1, &asked);
     if (asked.result != LESUNGKAP_DONE) {
         return asked.result;
     }

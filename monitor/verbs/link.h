@@ -12,6 +12,8 @@ enum { LINK_LOST = 255 }; /* an answer that no monitor gives: it has gone */
 struct link {
     int fd;
     pthread_mutex_t lock;
+    const _Atomic uint32_t *counters; /* of unread completions, which the monitor writes; or NULL */
+    unsigned looks;                   /* at an empty queue's, since the monitor was asked */
 };
 
 /* Connects to a monitor; 0 or an errno. */
@@ -40,6 +42,9 @@ static inline void put_rights(struct lesungkap_modify_qp *wanted, unsigned acces
  * the name's lowest byte in work. */
 uint32_t ask_window(struct link *link, uint32_t *bytes);
 uint32_t ask_join(struct link *link, int memory);
+/* Has the monitor show unread completions: from then on ask_poll asks for no completion where none
+ * is. */
+uint32_t ask_counters(struct link *link);
 uint32_t ask_channel(struct link *link, uint32_t cqn, int socket);
 uint32_t ask_arm(struct link *link, uint32_t cqn);
 /* Where the oldest held send lies, and what it waits for, of PACKET_WAITS_FOR_*. */
@@ -65,11 +70,47 @@ uint32_t ask_flush(struct link *link, uint32_t name);
 uint32_t ask_poll(struct link *link, uint32_t cqn, struct lesungkap_completion *completion,
                   unsigned *left);
 
+/* Receives, or polls of one queue, in one request. Each returns how many were done; *result is that
+ * of the first that was not, or LESUNGKAP_DONE. */
+unsigned ask_receives(struct link *link, uint32_t name,
+                      const struct lesungkap_receive *const *receives, unsigned count,
+                      uint32_t *result);
+unsigned ask_polls(struct link *link, uint32_t cqn, struct lesungkap_completion *completions,
+                   unsigned count, unsigned *left, uint32_t *result);
+/* A send with receives of its queue pair before it and a poll behind it, in one request; the send's
+ * result. */
+struct together {
+    const struct lesungkap_receive *receives[LESUNGKAP_QP_MOST_RECEIVES];
+    unsigned count; /* of them */
+    unsigned given; /* of them, that the card has taken */
+    int polls;      /* a completion of queue `cqn` is wanted */
+    uint32_t cqn;
+    int polled; /* and here it is */
+    struct lesungkap_completion completion;
+};
+uint32_t ask_together(struct link *link, uint32_t name, const struct lesungkap_send *send,
+                      struct together *with);
+/* How many completions of a queue the monitor shows; 0 also where it shows none at all. */
+unsigned link_unread(const struct link *link, uint32_t cqn);
+
 /* Sends a request by its bytes, with a file or -1; whether it was taken. */
 int link_send(const struct link *link, const uint8_t *request, size_t length, int file);
 /* The same, and its answer's bytes in PACKET_MOST_BYTES; the answer's length, or 0 where the
  * monitor has gone. */
 size_t link_exchange(struct link *link, const uint8_t *request, size_t length, int file,
                      uint8_t *answer);
+
+/* ---- for link_more.c */
+
+struct asked {
+    uint32_t result;
+    struct packet packet;
+    uint8_t bytes[PACKET_MOST_BYTES];
+};
+
+/* One request, one answer: its result. */
+uint32_t link_ask(struct link *link, unsigned kind, uint32_t number, const uint8_t *body,
+                  size_t length, int file, struct asked *asked);
+void link_drop_counters(struct link *link);
 
 #endif

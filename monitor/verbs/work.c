@@ -64,6 +64,41 @@ static int put_request(const struct lk_qp *qp, const struct ibv_send_wr *wr,
     return 0;
 }
 
+/* The next receives that wait here and that the card has room for. */
+static unsigned next_receives(const struct lk_qp *qp, const struct lesungkap_receive **next)
+{
+    unsigned count = 0;
+    while (count < qp->waiting && qp->in_card + count < LESUNGKAP_QP_MOST_RECEIVES && !qp->broken) {
+        next[count] = qp->receives + (qp->first + count) % qp->init.cap.max_recv_wr;
+        count++;
+    }
+    return count;
+}
+
+static void given(struct lk_qp *qp, unsigned count)
+{
+    qp->first = (qp->first + count) % qp->init.cap.max_recv_wr;
+    qp->waiting -= count;
+    qp->in_card += count;
+}
+
+/* Makes a send, with receives that were deferred; where it completes at once, its completion is
+ * taken along and waits here. */
+static uint32_t send_together(struct lk_context *context, struct lk_qp *qp,
+                              const struct lesungkap_send *send)
+{
+    struct lk_cq *cq = (struct lk_cq *)qp->base.send_cq;
+    const int signaled = qp->init.sq_sig_all || (send->flags & LESUNGKAP_FLAG_SIGNALED);
+    struct together with = {.cqn = cq->cqn, .polls = signaled && cq->early_count < EARLY_MOST};
+    with.count = next_receives(qp, with.receives);
+    const uint32_t result = ask_together(&context->link, qp->base.qp_num, send, &with);
+    given(qp, with.given);
+    if (with.polled) {
+        cq->early[(cq->early_first + cq->early_count++) % EARLY_MOST] = with.completion;
+    }
+    return result;
+}
+
 static int post_one(struct lk_context *context, struct lk_qp *qp, const struct ibv_send_wr *wr)
 {
     uint8_t bytes[LESUNGKAP_MOST_INLINE];
@@ -72,7 +107,7 @@ static int post_one(struct lk_context *context, struct lk_qp *qp, const struct i
     if (why != 0) {
         return why;
     }
-    const uint32_t result = ask_send(&context->link, qp->base.qp_num, &send);
+    const uint32_t result = send_together(context, qp, &send);
     switch (lesungkap_answer(result)) {
     case LESUNGKAP_DONE: return 0;
     case LESUNGKAP_HELD_PEER:
@@ -101,10 +136,18 @@ static uint32_t give_first(struct lk_context *context, struct lk_qp *qp)
 {
     const uint32_t result = ask_receive(&context->link, qp->base.qp_num, qp->receives + qp->first);
     if (lesungkap_answer(result) == LESUNGKAP_DONE) {
-        qp->first = (qp->first + 1) % qp->init.cap.max_recv_wr;
-        qp->waiting--;
-        qp->in_card++;
+        given(qp, 1);
     }
+    return result;
+}
+
+/* The same with several in one request. */
+static uint32_t give_several(struct lk_context *context, struct lk_qp *qp)
+{
+    const struct lesungkap_receive *next[LESUNGKAP_QP_MOST_RECEIVES];
+    const unsigned count = next_receives(qp, next);
+    uint32_t result;
+    given(qp, ask_receives(&context->link, qp->base.qp_num, next, count, &result));
     return result;
 }
 
@@ -114,7 +157,8 @@ static uint32_t top_up(struct lk_context *context, struct lk_qp *qp)
     uint32_t result = LESUNGKAP_DONE;
     while (qp->waiting > 0 && qp->in_card < LESUNGKAP_QP_MOST_RECEIVES && !qp->broken &&
            lesungkap_answer(result) == LESUNGKAP_DONE) {
-        result = give_first(context, qp);
+        result = qp->waiting > 1 && context->link.counters != NULL ? give_several(context, qp)
+                                                                   : give_first(context, qp);
     }
     return result;
 }
@@ -222,7 +266,6 @@ static void note(struct lk_context *context, const struct lesungkap_completion *
     }
     if (is_receive(done)) {
         qp->in_card -= qp->in_card > 0;
-        top_up(context, qp);
     } else {
         qp->limits.seen = 0;
     }
@@ -259,25 +302,103 @@ static uint32_t poll_flushed(struct lk_context *context, const struct lk_cq *cq,
     return LESUNGKAP_NOTHING;
 }
 
+/* Takes completions that the monitor shows, several in one request; how many, and the result of the
+ * last. */
+static int poll_shown(struct lk_context *context, const struct lk_cq *cq, int count,
+                      struct ibv_wc *wcs, unsigned *left, uint32_t *result)
+{
+    struct lesungkap_completion done[PACKET_BATCH_MOST];
+    const unsigned shown = link_unread(&context->link, cq->cqn);
+    const unsigned wanted = shown < (unsigned)count ? shown : (unsigned)count;
+    const unsigned most = wanted < PACKET_BATCH_MOST ? wanted : PACKET_BATCH_MOST;
+    if (most < 2) {
+        return 0;
+    }
+    const unsigned got = ask_polls(&context->link, cq->cqn, done, most, left, result);
+    for (unsigned n = 0; n < got; n++) {
+        put_wc(context, done + n, wcs + n);
+        note(context, done + n);
+    }
+    return (int)got;
+}
+
+/* The next completion, one that is there or is flushed now. */
+static uint32_t poll_next(struct lk_context *context, const struct lk_cq *cq,
+                          struct lesungkap_completion *done, unsigned *left)
+{
+    const uint32_t result = ask_poll(&context->link, cq->cqn, done, left);
+    if (lesungkap_answer(result) != LESUNGKAP_NOTHING) {
+        return result;
+    }
+    *left = 0;
+    return poll_flushed(context, cq, done);
+}
+
+/* Whether a receive that waits here may do so until the next request: the card has another one of
+ * its queue pair, which no message has taken. */
+static int may_wait(const struct lk_context *context, const struct lk_qp *qp)
+{
+    const struct lk_cq *cq = (const struct lk_cq *)qp->base.recv_cq;
+    return context->link.counters != NULL &&
+           qp->in_card >= 2 + link_unread(&context->link, cq->cqn);
+}
+
+/* Receives that have completed make room for others: at once where the card needs them, or all. */
+static void refill(struct lk_context *context, int all)
+{
+    context->deferred = 0;
+    for (unsigned n = 0; n < NUMBERS; n++) {
+        struct lk_qp *qp = context->qps[n];
+        if (qp != NULL && qp->waiting > 0 && !all && may_wait(context, qp)) {
+            context->deferred = 1;
+        } else if (qp != NULL) {
+            top_up(context, qp);
+        }
+    }
+}
+
+void work_refill(struct lk_context *context)
+{
+    if (context->deferred) {
+        refill(context, 1);
+    }
+}
+
+/* Hands out completions that were taken before. */
+static int take_early(struct lk_context *context, struct lk_cq *cq, int count, struct ibv_wc *wcs)
+{
+    int got = 0;
+    while (got < count && cq->early_count > 0) {
+        const struct lesungkap_completion *done = cq->early + cq->early_first;
+        put_wc(context, done, wcs + got++);
+        note(context, done);
+        cq->early_first = (cq->early_first + 1) % EARLY_MOST;
+        cq->early_count--;
+    }
+    return got;
+}
+
 int work_poll(struct ibv_cq *base, int count, struct ibv_wc *wcs)
 {
     struct lk_context *context = context_of(base->context);
-    const struct lk_cq *cq = (struct lk_cq *)base;
+    struct lk_cq *cq = (struct lk_cq *)base;
     struct lesungkap_completion done;
     uint32_t result = LESUNGKAP_DONE;
-    int got = 0;
-    unsigned left = 1;
     pthread_mutex_lock(&context->lock);
+    int got = take_early(context, cq, count, wcs);
+    unsigned left = got == 0 || link_unread(&context->link, cq->cqn) > 0;
+    got += poll_shown(context, cq, count - got, wcs + got, &left, &result);
     while (got < count && result == LESUNGKAP_DONE && (left > 0 || flushes_into(context, cq))) {
-        result = ask_poll(&context->link, cq->cqn, &done, &left);
-        if (lesungkap_answer(result) == LESUNGKAP_NOTHING) {
-            left = 0;
-            result = poll_flushed(context, cq, &done);
-        }
+        result = poll_next(context, cq, &done, &left);
         if (result == LESUNGKAP_DONE) {
             put_wc(context, &done, wcs + got++);
             note(context, &done);
         }
+    }
+    if (got > 0) {
+        refill(context, 0);
+    } else {
+        work_refill(context);
     }
     pthread_mutex_unlock(&context->lock);
     return lesungkap_answer(result) == LINK_LOST ? -1 : got;

@@ -48,6 +48,7 @@ static void compare(const struct side *side) { EXPECT(memcmp(side->client.memory
 static void open_side(struct side *side)
 {
     client_open(&side->client, path, 4);
+    EXPECT(ask_counters(&side->client.link) == LESUNGKAP_DONE);
     side->wanted = malloc(side->client.bytes);
     EXPECT(side->wanted != NULL);
     random_bytes(side->client.memory, side->client.bytes);
@@ -224,6 +225,12 @@ static size_t any_body(const struct client *client, unsigned kind, uint8_t body[
         memset(body + LESUNGKAP_RECEIVE_COUNT_AT, 0, 4);
         body[LESUNGKAP_RECEIVE_COUNT_AT] = (uint8_t)random_below(4);
         return LESUNGKAP_RECEIVE_BYTES + LESUNGKAP_SGE_BYTES * (size_t)body[LESUNGKAP_RECEIVE_COUNT_AT];
+    case PACKET_BATCH:
+        for (size_t at = 0; at < 120; at += LESUNGKAP_TAPE_HEADER_BYTES) {
+            const struct packet record = {(uint8_t)(PACKET_POLL + random_below(2)), (uint8_t)random_below(9), NULL, 0};
+            put_packet(body + at, random_below(30) ? LESUNGKAP_TAPE_CALL_MARK : 0u, &record);
+        }
+        return random_below(130);
     default: return random_below(9) ? 0 : random_below(40);
     }
 }
@@ -232,7 +239,8 @@ static size_t any_body(const struct client *client, unsigned kind, uint8_t body[
 static size_t any_packet(const struct client *client, uint8_t *bytes)
 {
     static const uint8_t kinds[] = {PACKET_CONTROL, PACKET_SEND, PACKET_RECEIVE, PACKET_POLL, PACKET_FLUSH,
-                                    PACKET_WINDOW,  PACKET_JOIN, PACKET_CHANNEL, PACKET_ARM,  0};
+                                    PACKET_WINDOW,  PACKET_JOIN, PACKET_CHANNEL, PACKET_ARM,  PACKET_SHOW,
+                                    PACKET_WAITS,   PACKET_COUNTERS, PACKET_BATCH, 0};
     uint8_t body[LESUNGKAP_TAPE_MOST_BODY];
     if (random_below(8) == 0) {
         random_bytes(bytes, PACKET_MOST_BYTES);

@@ -306,6 +306,103 @@ static void keys(void)
     client_close(&a);
 }
 
+/* Its own unread completions, which a client sees without asking: they are there before the answer is, nobody else's are seen, also
+ * not those of one who has the same number and seat later, and the page can't be written. */
+static void counters(void)
+{
+    struct client a, b, c;
+    struct link link;
+    EXPECT(link_open(&link, path) == 0 && ask_counters(&link) == LESUNGKAP_FULL);
+    link_close(&link);
+    client_open(&a, path, 8);
+    client_open(&b, path, 8);
+    EXPECT(ask_counters(&a.link) == LESUNGKAP_DONE && ask_counters(&a.link) == LESUNGKAP_IN_USE);
+    EXPECT(ask_counters(&b.link) == LESUNGKAP_DONE && a.link.counters != NULL && b.link.counters != NULL);
+    client_ready(&a, b.qp);
+    client_ready(&b, a.qp);
+    for (unsigned n = 1; n <= 8; n++) {
+        EXPECT(client_send(&a, LESUNGKAP_WRITE, 0, 8, 0, b.mr.rkey) == LESUNGKAP_DONE);
+        EXPECT(a.link.counters[a.cqn] == n && b.link.counters[a.cqn] == 0 && b.link.counters[b.cqn] == 0);
+    }
+    for (unsigned n = 8; n > 0; n--) {
+        EXPECT(client_completion(&a).status == LESUNGKAP_SUCCESS && a.link.counters[a.cqn] == n - 1);
+    }
+    EXPECT(mprotect((void *)(uintptr_t)a.link.counters, PACKET_PAGE, PROT_READ | PROT_WRITE) == -1);
+    const _Atomic uint32_t *kept = a.link.counters;
+    const uint32_t cqn = a.cqn;
+    a.link.counters = NULL;
+    client_close(&a);
+    do { /* until the monitor has seen it go */
+        client_open(&c, path, 8);
+    } while (c.cqn != cqn && (client_close(&c), 1));
+    EXPECT(ask_counters(&c.link) == LESUNGKAP_DONE);
+    EXPECT(client_move(&c, LESUNGKAP_QP_ERROR, 0) == LESUNGKAP_DONE && client_receive(&c, 0, 1) == (LESUNGKAP_DONE | LESUNGKAP_FLUSHED << 8));
+    EXPECT(c.link.counters[cqn] == 1 && kept[cqn] == 0);
+    munmap((void *)(uintptr_t)kept, PACKET_PAGE);
+    client_close(&b);
+    client_close(&c);
+}
+
+/* Sends records in one packet; the answers' kinds, in order, or LINK_LOST behind the last. */
+static void ask_records(struct client *client, const struct packet *records, unsigned count, uint8_t answers[32])
+{
+    uint8_t body[LESUNGKAP_TAPE_MOST_BODY], one[PACKET_MOST_BYTES], request[PACKET_MOST_BYTES], answer[PACKET_MOST_BYTES];
+    struct packet batch = {PACKET_BATCH, 0, body, 0}, got = {0, 0, NULL, 0};
+    for (unsigned n = 0; n < count; n++) {
+        const size_t length = put_packet(one, LESUNGKAP_TAPE_CALL_MARK, records + n);
+        memcpy(body + batch.length, one, length);
+        batch.length += length;
+    }
+    const size_t length = link_exchange(&client->link, request, put_packet(request, LESUNGKAP_TAPE_CALL_MARK, &batch), -1, answer);
+    EXPECT(get_packet(answer, length, LESUNGKAP_TAPE_ANSWER_MARK, &got) && got.third == LESUNGKAP_DONE);
+    size_t at = 0, whole = 1;
+    for (unsigned n = 0; n < 32; n++) {
+        struct packet part;
+        whole = first_packet(got.body + at, got.length - at, LESUNGKAP_TAPE_ANSWER_MARK, &part);
+        answers[n] = whole > 0 ? part.third : LINK_LOST;
+        at += whole;
+    }
+    EXPECT(at == got.length);
+}
+
+/* Several records in one packet are run in order up to the first that is refused; none is run that its sender may not have run, of
+ * another kind, or behind the sixteenth. */
+static void batches(void)
+{
+    struct client a, b;
+    uint8_t answers[32], command[LESUNGKAP_COMMAND_MOST_BYTES];
+    client_open(&a, path, 16);
+    client_open(&b, path, 16);
+    client_ready(&a, b.qp);
+    client_ready(&b, a.qp);
+    const struct packet poll = {PACKET_POLL, (uint8_t)a.cqn, NULL, 0}, others = {PACKET_POLL, (uint8_t)b.cqn, NULL, 0};
+    const struct packet create = {PACKET_CONTROL, 0, command, lesungkap_put_create_pd(command, sizeof command)};
+    const struct packet inner = {PACKET_BATCH, 0, NULL, 0}, window = {PACKET_WINDOW, 0, NULL, 0}, with_body = {PACKET_POLL, 0, command, 1};
+    for (int n = 0; n < 16; n++) {
+        EXPECT(client_send(&a, LESUNGKAP_WRITE, 0, 8, 0, b.mr.rkey) == LESUNGKAP_DONE);
+    }
+    const struct packet bad[] = {others, create, inner, window, with_body};
+    for (unsigned n = 0; n < sizeof bad / sizeof *bad; n++) {
+        const struct packet records[] = {poll, bad[n], poll};
+        ask_records(&a, records, 3, answers);
+        EXPECT(answers[0] == LESUNGKAP_DONE && answers[1] == (n == 0 ? LESUNGKAP_NOT_LIVE : LESUNGKAP_BAD_TAPE_RECORD));
+        EXPECT(answers[2] == LINK_LOST);
+    }
+    struct packet many[20];
+    for (int n = 0; n < 20; n++) {
+        many[n] = poll;
+    }
+    for (int n = 0; n < 5; n++) { /* as many as were polled before */
+        EXPECT(client_send(&a, LESUNGKAP_WRITE, 0, 8, 0, b.mr.rkey) == LESUNGKAP_DONE);
+    }
+    ask_records(&a, many, 20, answers);
+    EXPECT(answers[15] == LESUNGKAP_DONE && answers[16] == LINK_LOST);
+    ask_records(&a, many, 20, answers);
+    EXPECT(answers[0] == LESUNGKAP_NOTHING && answers[1] == LINK_LOST);
+    client_close(&a);
+    client_close(&b);
+}
+
 /* Two clients' sends wait for each other while one makes requests that are done and don't help them: the tape does not
  * grow by tries of the sends. */
 static void held_and_tried(void)
@@ -363,7 +460,8 @@ int main(int count, char **words)
                  {"a flood", flood},                   {"in turn", in_turn},
                  {"bad channels", bad_channels},       {"its own end", own_end},
                  {"filled memory", filled_memory},     {"keys", keys},
-                 {"tries", held_and_tried}};
+                 {"counters", counters},               {"tries", held_and_tried},
+                 {"batches", batches}};
     EXPECT(count == 2 || count == 3);
     path = words[1];
     if (count == 3 && strcmp(words[2], "a file that never closes") == 0) {
