@@ -90,8 +90,8 @@ static void set_ops(struct ibv_context_ops *ops)
     ops->req_notify_cq = events_arm;
 }
 
-/* An extended context with two extended calls: libibverbs' headers see of the others that there are
- * none. */
+/* An extended context with three extended calls: libibverbs' headers see of the others that there
+ * are none. */
 static int set_base(struct verbs_context *extended, struct ibv_device *of, int fd)
 {
     struct ibv_context *base = &extended->context;
@@ -102,6 +102,7 @@ static int set_base(struct verbs_context *extended, struct ibv_device *of, int f
     extended->sz = sizeof *extended;
     extended->query_device_ex = query_device_ex;
     extended->create_qp_ex = extended_create_qp;
+    extended->create_cq_ex = extended_create_cq;
     base->abi_compat = __VERBS_ABI_IS_EXTENDED;
     set_ops(&base->ops);
     base->device = of;

@@ -63,7 +63,8 @@ static int share_and_register(struct lk_context *context, struct lk_mr *mr, uint
     if (why != 0) {
         return why;
     }
-    why = pages_share(&context->pages, address, mr->base.length, &mr->first_page, &mr->pages);
+    why = pages_share(&context->pages, address, mr->base.length,
+                      (flags & LESUNGKAP_LOCAL_WRITE) != 0, &mr->first_page, &mr->pages);
     if (why != 0) {
         return why;
     }
@@ -158,6 +159,7 @@ static int create_cq(struct lk_context *context, struct lk_cq *cq)
 
 static void free_cq(struct lk_cq *cq)
 {
+    pthread_mutex_destroy(&cq->polling);
     pthread_cond_destroy(&cq->base.cond);
     pthread_mutex_destroy(&cq->base.mutex);
     free(cq);
@@ -180,6 +182,7 @@ EXPORTED struct ibv_cq *ibv_create_cq(struct ibv_context *base, int cqe, void *c
     cq->base.cqe = cqe;
     pthread_mutex_init(&cq->base.mutex, NULL);
     pthread_cond_init(&cq->base.cond, NULL);
+    pthread_mutex_init(&cq->polling, NULL);
     pthread_mutex_lock(&context->lock);
     const int why = create_cq(context, cq);
     if (why == 0) {

@@ -16,8 +16,8 @@
 static int map_file(struct pages *pages, uint32_t bytes)
 {
     const int seals = F_SEAL_SHRINK | F_SEAL_GROW;
-    pages->file = memfd_create("lesungkap", MFD_CLOEXEC | MFD_ALLOW_SEALING);
-    pages->copy = memfd_create("lesungkap", MFD_CLOEXEC);
+    pages->file = memfd_create(PAGES_NAME, MFD_CLOEXEC | MFD_ALLOW_SEALING);
+    pages->copy = memfd_create(PAGES_NAME, MFD_CLOEXEC);
     if (pages->file < 0 || pages->copy < 0 || ftruncate(pages->file, (off_t)bytes) != 0 ||
         fcntl(pages->file, F_ADD_SEALS, seals) != 0) {
         return errno;
@@ -175,6 +175,7 @@ struct row {
     size_t first;
     size_t count;
     uintptr_t address;
+    int writes;
 };
 
 static int release_row(void *given)
@@ -192,22 +193,24 @@ static int release_row(void *given)
 static int share_row(void *given)
 {
     const struct row *row = given;
-    for (size_t n = 0; n < row->count; n++) {
+    int why = maps_check(row->address, row->count * PACKET_PAGE, row->writes);
+    for (size_t n = 0; n < row->count && why == 0; n++) {
         struct page *page = row->pages->at + row->first + n;
         const uintptr_t address = row->address + n * PACKET_PAGE;
-        const int why = page->uses > 0 ? 0 : share_page(row->pages, row->first + n, address);
+        why = page->uses > 0 ? 0 : share_page(row->pages, row->first + n, address);
         if (why != 0) {
-            struct row done = {row->pages, row->first, n, row->address};
+            struct row done = {row->pages, row->first, n, row->address, 0};
             release_row(&done);
-            return why;
+        } else {
+            page->address = address;
+            page->uses++;
         }
-        page->address = address;
-        page->uses++;
     }
-    return 0;
+    return why;
 }
 
-int pages_share(struct pages *pages, uintptr_t address, size_t length, size_t *first, size_t *count)
+int pages_share(struct pages *pages, uintptr_t address, size_t length, int writes, size_t *first,
+                size_t *count)
 {
     const uintptr_t from = address / PACKET_PAGE * PACKET_PAGE;
     int result = 0;
@@ -219,14 +222,14 @@ int pages_share(struct pages *pages, uintptr_t address, size_t length, size_t *f
     if (*first == pages->count) {
         return ENOMEM;
     }
-    struct row row = {pages, *first, *count, from};
+    struct row row = {pages, *first, *count, from, writes};
     const int why = run_aside(share_row, &row, &result);
     return why != 0 ? why : result;
 }
 
 void pages_release(struct pages *pages, size_t first, size_t count)
 {
-    struct row row = {pages, first, count, 0};
+    struct row row = {pages, first, count, 0, 0};
     int result;
     run_aside(release_row, &row, &result);
 }

@@ -12,6 +12,8 @@
 #undef ibv_reg_mr
 #undef ibv_reg_mr_iova
 
+#define PAGES_NAME "lesungkap" /* of the client's memory, in /proc/self/maps too */
+
 #define EXPORTED __attribute__((visibility("default")))
 
 static const uint64_t DEVICE_GUID = 0x024c53fffe4b0001u;
@@ -39,7 +41,12 @@ struct pages {
 };
 
 struct lk_cq {
-    struct ibv_cq base;
+    union {
+        struct ibv_cq base;
+        struct ibv_cq_ex ex; /* its first part is the same */
+    };
+    pthread_mutex_t polling; /* of an extended queue, from start_poll to end_poll */
+    struct ibv_wc polled;    /* then the completion whose fields are read */
     uint32_t cqn;
     int armed;
     struct lesungkap_completion early[EARLY_MOST]; /* taken with a send, the oldest first */
@@ -137,6 +144,12 @@ void contexts_remove(struct lk_context *context);
 /* Whether a page of these bytes is shared by a context, but for this one or NULL. */
 int contexts_share(const struct lk_context *except, uintptr_t address, size_t length);
 
+/* ---- maps.c */
+
+/* Whether these bytes are the program's alone, and can be written if they will be; 0 or an errno.
+ * Called aside, as it needs more of a stack than others. */
+int maps_check(uintptr_t address, size_t length, int writes);
+
 /* ---- pages.c */
 
 int pages_open(struct pages *pages, uint32_t bytes);
@@ -149,9 +162,9 @@ int pages_hold(const struct pages *pages, uintptr_t address, size_t length);
 size_t pages_used(const struct pages *pages);
 /* Copies the pages that are shared, and where each lies; how many they are. */
 size_t pages_copy(const struct pages *pages, uint8_t *copies, uintptr_t *addresses);
-/* Puts the program's pages that hold these bytes into the file, in place and in a row; 0 or an
- * errno. */
-int pages_share(struct pages *pages, uintptr_t address, size_t length, size_t *first,
+/* Puts the program's pages that hold these bytes into the file, in place and in a row; `writes` if
+ * the card will write to them. 0 or an errno. */
+int pages_share(struct pages *pages, uintptr_t address, size_t length, int writes, size_t *first,
                 size_t *count);
 void pages_release(struct pages *pages, size_t first, size_t count);
 
@@ -172,6 +185,10 @@ int work_poll(struct ibv_cq *cq, int count, struct ibv_wc *wcs);
 
 struct ibv_qp *extended_create_qp(struct ibv_context *base, struct ibv_qp_init_attr_ex *attr);
 void extended_free(struct lk_qp *qp);
+
+/* ---- extended_cq.c */
+
+struct ibv_cq_ex *extended_create_cq(struct ibv_context *base, struct ibv_cq_init_attr_ex *attr);
 
 /* ---- limits.c: called with the context's lock, but for the first and the last */
 

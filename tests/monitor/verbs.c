@@ -223,6 +223,7 @@ static const struct {
              {"shared pages", shared_pages},
              {"stack buffers", stack_buffers},
              {"two contexts", two_contexts},
+             {"other memory", other_memory},
              {"fork", forks},
              {"queries", extended_queries},
              {"atomics", atomics_flag},
@@ -234,6 +235,7 @@ static const struct {
              {"limits by events", limits_by_events},
              {"signals", interrupted_waits},
              {"extended", extended_queue_pairs},
+             {"extended completions", extended_completion_queues},
              {"lacks", lacks}};
 
 int main(int argc, char **argv)

@@ -53,6 +53,7 @@ enum ibv_wc_status reach(struct side *side, enum ibv_wr_opcode opcode, const str
 void stack_buffers(void);
 void forks(void);
 void two_contexts(void);
+void other_memory(void);
 void extended_queries(void);
 void atomics_flag(void);
 void peer_in_error(void);
@@ -63,5 +64,6 @@ void slow_peer(void);
 void limits_by_events(void);
 void interrupted_waits(void);
 void extended_queue_pairs(void);
+void extended_completion_queues(void);
 
 #endif

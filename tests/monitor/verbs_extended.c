@@ -1,4 +1,5 @@
-/* Cases of extended queue pairs: requests that are put together by calls, and posted at once. */
+/* Cases of extended queue pairs, whose requests are put together by calls and posted at once, and of extended completion queues, whose
+ * completions are read by calls. */
 #include "verbs.h"
 
 #include <arpa/inet.h>
@@ -108,6 +109,55 @@ void extended_queue_pairs(void)
     ibv_wr_send(qp);
     ibv_wr_set_inline_data(qp, own.buffer, 513);
     EXPECT(ibv_wr_complete(qp) == EINVAL && ibv_poll_cq(own.cq, 1, &wc) == 0);
+    close_side(&own);
+    close_side(&peer);
+}
+
+/* ---- completions */
+
+/* A side whose queue is an extended one. */
+static struct ibv_cq_ex *extend_queue(struct side *side)
+{
+    struct ibv_cq_init_attr_ex init = {.cqe = 8, .wc_flags = IBV_WC_STANDARD_FLAGS | IBV_WC_EX_WITH_FLOW_TAG, .cq_context = side};
+    EXPECT(ibv_destroy_qp(side->qp) == 0 && ibv_destroy_cq(side->cq) == 0);
+    EXPECT(ibv_create_cq_ex(side->context, &init) == NULL && errno == EOPNOTSUPP);
+    init.wc_flags = IBV_WC_STANDARD_FLAGS;
+    init.comp_vector = 1;
+    EXPECT(ibv_create_cq_ex(side->context, &init) == NULL && errno == EINVAL);
+    init.comp_vector = 0;
+    struct ibv_cq_ex *cq = ibv_create_cq_ex(side->context, &init);
+    EXPECT(cq != NULL && cq->cqe == 8 && cq->cq_context == side);
+    side->cq = ibv_cq_ex_to_cq(cq);
+    struct ibv_qp_init_attr qp = {.send_cq = side->cq, .recv_cq = side->cq, .cap = {4, 4, 1, 1, 0}, .qp_type = IBV_QPT_RC};
+    EXPECT((side->qp = ibv_create_qp(side->pd, &qp)) != NULL);
+    return cq;
+}
+
+void extended_completion_queues(void)
+{
+    struct side own, peer;
+    struct ibv_poll_cq_attr attr = {.comp_mask = 0}, wrong = {.comp_mask = 1};
+    open_side(&own);
+    open_side(&peer);
+    struct ibv_cq_ex *cq = extend_queue(&own);
+    ready(&own, peer.qp->qp_num, ALL);
+    ready(&peer, own.qp->qp_num, ALL);
+    EXPECT(ibv_start_poll(cq, &wrong) == EINVAL && ibv_start_poll(cq, &attr) == ENOENT && ibv_start_poll(cq, &attr) == ENOENT);
+    post_receive(&own, own.buffer, 64);
+    struct ibv_sge sge = {(uintptr_t)peer.buffer, 24, peer.mr->lkey};
+    struct ibv_send_wr wr = {.wr_id = 3, .sg_list = &sge, .num_sge = 1, .opcode = IBV_WR_SEND_WITH_IMM, .imm_data = htonl(44)}, *bad;
+    EXPECT(ibv_post_send(peer.qp, &wr, &bad) == 0 && next_completion(&peer).status == IBV_WC_SUCCESS);
+    sge.lkey++;
+    struct ibv_send_wr write = {.wr_id = 5, .sg_list = &sge, .num_sge = 1, .opcode = IBV_WR_RDMA_WRITE};
+    EXPECT(ibv_post_send(own.qp, &write, &bad) == 0);
+    EXPECT(ibv_start_poll(cq, &attr) == 0 && cq->status == IBV_WC_SUCCESS && cq->wr_id == 0);
+    EXPECT(ibv_wc_read_opcode(cq) == IBV_WC_RECV && ibv_wc_read_byte_len(cq) == 24 && ntohl(ibv_wc_read_imm_data(cq)) == 44);
+    EXPECT(ibv_wc_read_wc_flags(cq) == IBV_WC_WITH_IMM && ibv_wc_read_qp_num(cq) == own.qp->qp_num && ibv_wc_read_src_qp(cq) == 0);
+    EXPECT(ibv_wc_read_slid(cq) == 0 && ibv_wc_read_sl(cq) == 0 && ibv_wc_read_dlid_path_bits(cq) == 0);
+    EXPECT(ibv_next_poll(cq) == 0 && cq->status == IBV_WC_LOC_PROT_ERR && cq->wr_id == 5 && ibv_wc_read_vendor_err(cq) == 0);
+    EXPECT(ibv_next_poll(cq) == ENOENT);
+    ibv_end_poll(cq);
+    EXPECT(ibv_start_poll(cq, &attr) == ENOENT);
     close_side(&own);
     close_side(&peer);
 }

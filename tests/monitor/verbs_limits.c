@@ -15,7 +15,7 @@ enum { LONG = 3000, PAUSE = 300 }; /* milliseconds: what is never reached, and w
 
 static const uint8_t within_33[4] = {12, 1, 7, 12};   /* twice 16.8 ms for the peer, any time for its receive */
 static const uint8_t rnr_31[4] = {0, 0, 3, 20};       /* three times 10.24 ms for the receive, any time for the peer */
-static const uint8_t rnr_491[4] = {14, 7, 1, 31};     /* once 491.52 ms, and eight times 67.1 ms for the peer */
+static const uint8_t rnr_983[4] = {14, 7, 2, 31};     /* twice 491.52 ms, and eight times 67.1 ms for the peer */
 
 static double milliseconds(void)
 {
@@ -151,14 +151,14 @@ static void send_to_slow_peer(unsigned flags)
     struct ibv_qp_init_attr init = {.send_cq = own.cq, .recv_cq = own.cq, .cap = {10, 1, 1, 1, 0}, .qp_type = IBV_QPT_RC};
     EXPECT((own.qp = ibv_create_qp(own.pd, &init)) != NULL);
     ready(&peer, own.qp->qp_num, ALL);
-    ready_within(&own, peer.qp->qp_num, 0, rnr_491);
+    ready_within(&own, peer.qp->qp_num, 0, rnr_983);
     struct ibv_sge sge = {(uintptr_t)own.buffer, 8, own.mr->lkey};
     for (unsigned n = 0; n < 9; n++) {
         struct ibv_send_wr wr = {.sg_list = &sge, .num_sge = 1, .opcode = IBV_WR_SEND, .send_flags = n == 8 ? IBV_SEND_SIGNALED : flags}, *bad;
         EXPECT(ibv_post_send(own.qp, &wr, &bad) == 0);
     }
     for (unsigned n = 0; n < 9; n++) {
-        usleep(120000);
+        usleep(150000);
         post_receive(&peer);
         EXPECT(next_completion(&peer).status == IBV_WC_SUCCESS);
         EXPECT(!(flags & IBV_SEND_SIGNALED || n == 8) || (comes_within(&own, LONG, &wc) == 1 && wc.status == IBV_WC_SUCCESS));

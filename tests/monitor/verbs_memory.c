@@ -8,6 +8,7 @@
 #include <stdio.h>
 #include <stdlib.h>
 #include <string.h>
+#include <sys/mman.h>
 #include <sys/syscall.h>
 #include <sys/wait.h>
 #include <unistd.h>
@@ -123,6 +124,31 @@ void two_contexts(void)
     own.mr = NULL;
     close_side(&own);
     close_side(&peer);
+}
+
+/* ---- memory that can't become the client's: shared with others, not writable, not there */
+
+void other_memory(void)
+{
+    struct side side;
+    open_side(&side);
+    uint8_t *shared = mmap(NULL, 3 * SIZE, PROT_READ | PROT_WRITE, MAP_SHARED | MAP_ANONYMOUS, -1, 0);
+    uint8_t *own = mmap(NULL, 3 * SIZE, PROT_READ | PROT_WRITE, MAP_PRIVATE | MAP_ANONYMOUS, -1, 0);
+    EXPECT(shared != MAP_FAILED && own != MAP_FAILED);
+    EXPECT(mmap(own + SIZE, SIZE, PROT_READ | PROT_WRITE, MAP_SHARED | MAP_ANONYMOUS | MAP_FIXED, -1, 0) == own + SIZE);
+    EXPECT(ibv_reg_mr(side.pd, shared + 8, 8, ALL) == NULL && errno == EOPNOTSUPP);
+    EXPECT(ibv_reg_mr(side.pd, own, 3 * SIZE, ALL) == NULL && errno == EOPNOTSUPP);
+    EXPECT(mprotect(own + 2 * SIZE, SIZE, PROT_READ) == 0);
+    EXPECT(ibv_reg_mr(side.pd, own + 2 * SIZE, 8, ALL) == NULL && errno == EFAULT);
+    struct ibv_mr *mr = ibv_reg_mr(side.pd, own + 2 * SIZE, 8, IBV_ACCESS_REMOTE_READ);
+    EXPECT(mr != NULL && ibv_dereg_mr(mr) == 0);
+    EXPECT(munmap(own + SIZE, SIZE) == 0);
+    EXPECT(ibv_reg_mr(side.pd, own, 2 * SIZE, ALL) == NULL && errno == EFAULT);
+    mr = ibv_reg_mr(side.pd, side.buffer + 8, 8, ALL);
+    EXPECT(mr != NULL && ibv_dereg_mr(mr) == 0);
+    shared[8] = own[0] = 1;
+    EXPECT(munmap(shared, 3 * SIZE) == 0 && munmap(own, SIZE) == 0 && munmap(own + 2 * SIZE, SIZE) == 0);
+    close_side(&side);
 }
 
 /* ---- children of fork */

@@ -25,7 +25,7 @@ void extended_queries(void)
     struct ibv_device_attr_ex device;
     struct ibv_port_attr port;
     struct ibv_values_ex values = {.comp_mask = IBV_VALUES_MASK_RAW_CLOCK};
-    struct ibv_cq_init_attr_ex cq = {.cqe = 1};
+    struct ibv_cq_init_attr_ex cq = {.cqe = 1, .wc_flags = IBV_WC_EX_WITH_COMPLETION_TIMESTAMP};
     struct ibv_ah_attr address;
     uint8_t mac[6];
     uint16_t vlan;
