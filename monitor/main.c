@@ -27,6 +27,8 @@ static int signals = NO_FD;
 static int unseated = NO_FD;
 static int pause_timer = NO_FD;
 static uint64_t seated_at; /* when a client with a seat was served last */
+static uint64_t owed;      /* time that joining, files and clients that go have taken since those
+                              without a seat paused */
 
 static void show_times(void)
 {
@@ -99,7 +101,8 @@ static void serve_unseated(void)
             clients_serve_unseated(&monitor, monitor.operators + number);
         }
     }
-    const uint64_t now = clock_now(), pause = PAUSE_TIMES * (now - since);
+    const uint64_t now = clock_now(), pause = PAUSE_TIMES * (now - since + owed);
+    owed = 0;
     if (now - seated_at < RECENTLY) {
         begin_pause(pause > PAUSE_LEAST ? pause : PAUSE_LEAST);
     } else {
@@ -113,7 +116,9 @@ static void serve_seated(const struct epoll_event *events, int count)
     for (int n = 0; n < count; n++) {
         const uint32_t source = events[n].data.u32;
         if (source < PLACES && (events[n].events & (EPOLLHUP | EPOLLERR | EPOLLRDHUP))) {
+            const uint64_t since = clock_now();
             clients_drop(&monitor, source);
+            owed += clock_now() - since;
         }
     }
     for (int n = 0; n < count; n++) {
@@ -125,13 +130,20 @@ static void serve_seated(const struct epoll_event *events, int count)
     }
 }
 
+static void take_report(void)
+{
+    const uint64_t since = clock_now();
+    clients_report(&monitor);
+    owed += clock_now() - since;
+}
+
 static void round_of(const struct epoll_event *events, int count)
 {
     serve_seated(events, count);
     for (int n = 0; n < count; n++) {
         switch (events[n].data.u32) {
         case SIGNALS: take_signal(); break;
-        case HELPER: clients_report(&monitor); break;
+        case HELPER: take_report(); break;
         case PAUSE: end_pause(); break;
         case UNSEATED: serve_unseated(); break;
         default: break;

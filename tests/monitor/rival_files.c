@@ -91,6 +91,13 @@ static void others_are_served(struct client *other)
     EXPECT(seconds() - since < 4);
 }
 
+/* An answer that has not come after four seconds is lost. */
+static void be_impatient(struct client *client)
+{
+    const struct timeval patience = {4, 0};
+    EXPECT(setsockopt(client->link.fd, SOL_SOCKET, SO_RCVTIMEO, &patience, sizeof patience) == 0);
+}
+
 /* Files that take long to close hold up nobody but who passed them: one that waits for its answer, one that has gone before they were read,
  * and one that is refused. */
 void slow_files(void)
@@ -100,6 +107,7 @@ void slow_files(void)
     struct link links[PASSED], more[MORE];
     int readers[2 * PASSED];
     client_join(&other, path);
+    be_impatient(&other);
     for (int n = 0; n < PASSED; n++) {
         const int first = lingering(readers + 2 * n), second = lingering(readers + 2 * n + 1);
         for (int m = 0; n == 2 && m < MORE; m++) {
@@ -171,13 +179,6 @@ static int open_stuck(struct stuck *stuck, int closing)
     EXPECT(!closing || epoll_ctl(stuck->epoll, EPOLL_CTL_ADD, stuck->socket, &event) == 0);
     EXPECT(pthread_create(&thread, NULL, get_stuck, stuck) == 0 && poll(&told, 1, -1) == 1);
     return ends[0];
-}
-
-/* An answer that has not come after four seconds is lost. */
-static void be_impatient(struct client *client)
-{
-    const struct timeval patience = {4, 0};
-    EXPECT(setsockopt(client->link.fd, SOL_SOCKET, SO_RCVTIMEO, &patience, sizeof patience) == 0);
 }
 
 /* A client whose channel the monitor would get stuck with harms nobody else, while it is there and when it has gone. */
