@@ -11,7 +11,7 @@
 #include <time.h>
 #include <unistd.h>
 
-enum { LONG = 3000, PAUSE = 300 }; /* milliseconds: what is never reached, and what is waited where nothing may come */
+enum { LONG = 3000, PAUSE = 800 }; /* milliseconds: what is never reached, and what is waited where nothing may come */
 
 static const uint8_t within_33[4] = {12, 1, 7, 12};   /* twice 16.8 ms for the peer, any time for its receive */
 static const uint8_t rnr_31[4] = {0, 0, 3, 20};       /* three times 10.24 ms for the receive, any time for the peer */
