@@ -16,7 +16,7 @@ use Rattle.tape.specs.declared.input.Held.{Held}
 use Rattle.tape.specs.declared.input.Read.{Read}
 use Rattle.tape.specs.Tape.{played, records}
 use Rattle.tape.specs.Pieces.{Input, next, past}
-use Rattle.tape.specs.System.{BytesOf, Begins}
+use Rattle.tape.specs.System.{BytesOf, Continues}
 use Rattle.tape.specs.Audit.{Verdict, against, verdict}
 use Rattle.tape.specs.Inside.{heldIn, Lies, Room, Reads, Finding, Finds}
 use Rattle.tape.proofs.PieceLaws.{content, Lawful, next-content, past-content}
@@ -27,7 +27,7 @@ use Rattle.audit.specs.declared.Files.{Files}
 use Rattle.audit.specs.declared.Next.{Next}
 use Rattle.audit.specs.declared.Position.{Position}
 use Rattle.audit.specs.declared.Report.{Report}
-use Rattle.audit.specs.Report.{Tapes, Judges, Silent, Reports}
+use Rattle.audit.specs.Report.{Tapes, VerdictOn, Silent, Reports}
 use Rattle.audit.specs.Inside.{shown, behind, passed, onCalls, onAnswers, Follows, Stands, Round}
 use Rattle.audit.proofs.RoundLaws.{among}
 
@@ -109,12 +109,12 @@ module _ {file : ℤ} {before : List ℕ} {h : Held} {w : List ℕ} (s : Side fi
 -- ---- a tape that begins with the bytes held
 
 -- with fewer bytes
-begins-fewer : (t h p : List ℕ) {e e′ : Bool} → e′ ≡ false → Begins t (h ++ p) e → Begins t h e′
-begins-fewer t h p still b = (p ++ b .0, b .1 ∙ append-assoc h p (b .0), λ z. absurd (true≢false (sym z ∙ still)))
+continues-fewer : (t h p : List ℕ) {e e′ : Bool} → e′ ≡ false → Continues t (h ++ p) e → Continues t h e′
+continues-fewer t h p still b = (p ++ b .0, b .1 ∙ append-assoc h p (b .0), λ z. absurd (true≢false (sym z ∙ still)))
 
 -- with more
-begins-more : (t h : List ℕ) (n : ℕ) {e : Bool} {h′ : List ℕ} → drop n h ≡ h′ → Begins t h′ e → Begins (take n h ++ t) h e
-begins-more t h n {e} {h′} s b = (
+continues-more : (t h : List ℕ) (n : ℕ) {e : Bool} {h′ : List ℕ} → drop n h ≡ h′ → Continues t h′ e → Continues (take n h ++ t) h e
+continues-more t h n {e} {h′} s b = (
   b .0,
   ap (λ (x : List ℕ). take n h ++ x) (b .1 ∙ ap (λ (x : List ℕ). x ++ b .0) (sym s))
       ∙ sym (append-assoc (take n h) (drop n h) (b .0)) ∙ ap (λ (x : List ℕ). x ++ b .0) (take-append-drop n h),
@@ -137,12 +137,12 @@ piece-all (b ∷ r) = append-nil (b ∷ r)
 abbrev input : (held : List ℕ) → (ended : Bool) → (rest : List ℕ) → Input
 input h e r = record { held = h; ended = e; pieces = piece r }
 
-module _ {t : List ℕ} (h : List ℕ) {e : Bool} (b : Begins t h e) where
-  begins-content : content (input h e (b .0)) ≡ t
-  begins-content = ap (λ (x : List ℕ). h ++ x) (piece-all (b .0)) ∙ sym (b .1)
+module _ {t : List ℕ} (h : List ℕ) {e : Bool} (b : Continues t h e) where
+  continues-content : content (input h e (b .0)) ≡ t
+  continues-content = ap (λ (x : List ℕ). h ++ x) (piece-all (b .0)) ∙ sym (b .1)
 
-  begins-lawful : Lawful (input h e (b .0))
-  begins-lawful z = ap piece (b .2 z)
+  continues-lawful : Lawful (input h e (b .0))
+  continues-lawful z = ap piece (b .2 z)
 
 -- ---- a round leaves the verdict on what is left of two tapes
 
@@ -156,7 +156,7 @@ module _ (l m x y : List ℕ) (p : Position) where
       let z : Finds finding f (finding .state) (finding .memory) = record { found = sym e; state = refl; memory = refl } in
       found-within l m (heldIn (p .calls) x) (p .calls .ended) (heldIn (p .answers) y) (p .answers .ended) z
 
-  module _ {c a : List ℕ} (bc : Begins c (heldIn (p .calls) x) (p .calls .ended)) (ba : Begins a (heldIn (p .answers) y) (p .answers .ended)) where
+  module _ {c a : List ℕ} (bc : Continues c (heldIn (p .calls) x) (p .calls .ended)) (ba : Continues a (heldIn (p .answers) y) (p .answers .ended)) where
     abbrev calls : Input
     calls = input (heldIn (p .calls) x) (p .calls .ended) (bc .0)
 
@@ -168,8 +168,8 @@ module _ (l m x y : List ℕ) (p : Position) where
         → verdictBy (p .number) f (finding .state) (finding .memory) calls answers ≡ against (p .number) (played l m c) a
     found f e =
         ap (λ (f : Found). verdictBy (p .number) f (finding .state) (finding .memory) calls answers) (sym e)
-        ∙ round-keeps (p .number) l m calls answers (begins-lawful (heldIn (p .calls) x) bc) (begins-lawful (heldIn (p .answers) y) ba)
-        ∙ ap₂ (λ (c a : List ℕ). against (p .number) (played l m c) a) (begins-content (heldIn (p .calls) x) bc) (begins-content (heldIn (p .answers) y) ba)
+        ∙ round-keeps (p .number) l m calls answers (continues-lawful (heldIn (p .calls) x) bc) (continues-lawful (heldIn (p .answers) y) ba)
+        ∙ ap₂ (λ (c a : List ℕ). against (p .number) (played l m c) a) (continues-content (heldIn (p .calls) x) bc) (continues-content (heldIn (p .answers) y) ba)
 
     -- the inputs after it are of the tapes c′ and a′
     left : (n : ℕ) (l′ m′ : List ℕ) → l′ ≡ finding .state → m′ ≡ finding .memory → (i j : Input) (c′ a′ : List ℕ) → content i ≡ c′ → content j ≡ a′
@@ -185,7 +185,7 @@ pub record Stand (files : Files) (memory : ℕ) (l m x y : List ℕ) (p : Positi
   answersPassed : List ℕ
   calls : Side (files .calls) callsPassed (p .calls) x
   answers : Side (files .answers) answersPassed (p .answers) y
-  keeps : (c a : List ℕ) → Begins c (heldIn (p .calls) x) (p .calls .ended) → Begins a (heldIn (p .answers) y) (p .answers .ended)
+  keeps : (c a : List ℕ) → Continues c (heldIn (p .calls) x) (p .calls .ended) → Continues a (heldIn (p .answers) y) (p .answers .ended)
       → verdict memory (callsPassed ++ c) (answersPassed ++ a) ≡ against (p .number) (played l m c) a
   spent : 18446744073709551615
       ≤ rounds + (cost callsPassed (heldIn (p .calls) x) (p .calls .ended) + cost answersPassed (heldIn (p .answers) y) (p .answers .ended))
@@ -240,11 +240,11 @@ module _ {files : Files} {memory : ℕ} {l m x y : List ℕ} {p : Position} {rou
           answers = s .answers;
           keeps =
               λ c a bc ba.
-              let b : Begins c heldCalls (p .calls .ended) =
-              begins-fewer c heldCalls (take (r .count) (r .buffer)) still (bc .0, bc .1 ∙ ap (λ (h : List ℕ). h ++ bc .0) held, bc .2) in
+              let b : Continues c heldCalls (p .calls .ended) =
+              continues-fewer c heldCalls (take (r .count) (r .buffer)) still (bc .0, bc .1 ∙ ap (λ (h : List ℕ). h ++ bc .0) held, bc .2) in
               s .keeps c a b ba ∙ sym (found l m x y p b ba Found.Calls e)
               ∙ left l m x y p b ba (p .number) l′ m′ sl sm (next (calls l m x y p b ba)) (answers l m x y p b ba) c a
-              (next-content (calls l m x y p b ba) ∙ begins-content heldCalls b) (begins-content heldAnswers ba);
+              (next-content (calls l m x y p b ba) ∙ continues-content heldCalls b) (continues-content heldAnswers ba);
           spent =
               let before : cost (s .callsPassed) heldCalls (p .calls .ended) ≡ cost (s .callsPassed) heldCalls false =
               ap (cost (s .callsPassed) heldCalls) still in
@@ -267,11 +267,11 @@ module _ {files : Files} {memory : ℕ} {l m x y : List ℕ} {p : Position} {rou
           answers = side-read (s .answers) still room r good;
           keeps =
               λ c a bc ba.
-              let b : Begins a heldAnswers (p .answers .ended) =
-              begins-fewer a heldAnswers (take (r .count) (r .buffer)) still (ba .0, ba .1 ∙ ap (λ (h : List ℕ). h ++ ba .0) held, ba .2) in
+              let b : Continues a heldAnswers (p .answers .ended) =
+              continues-fewer a heldAnswers (take (r .count) (r .buffer)) still (ba .0, ba .1 ∙ ap (λ (h : List ℕ). h ++ ba .0) held, ba .2) in
               s .keeps c a bc b ∙ sym (found l m x y p bc b Found.Answers e)
               ∙ left l m x y p bc b (p .number) l′ m′ sl sm (calls l m x y p bc b) (next (answers l m x y p bc b)) c a
-              (begins-content heldCalls bc) (next-content (answers l m x y p bc b) ∙ begins-content heldAnswers b);
+              (continues-content heldCalls bc) (next-content (answers l m x y p bc b) ∙ continues-content heldAnswers b);
           spent =
               let before : cost (s .answersPassed) heldAnswers (p .answers .ended) ≡ cost (s .answersPassed) heldAnswers false =
               ap (cost (s .answersPassed) heldAnswers) still in
@@ -294,13 +294,13 @@ module _ {files : Files} {memory : ℕ} {l m x y : List ℕ} {p : Position} {rou
           answers = side-past (s .answers) w (i .1);
           keeps =
               λ c a bc ba.
-              let b : Begins (take u heldCalls ++ c) heldCalls (p .calls .ended) = begins-more c heldCalls u hc bc in
-              let b′ : Begins (take w heldAnswers ++ a) heldAnswers (p .answers .ended) = begins-more a heldAnswers w ha ba in
+              let b : Continues (take u heldCalls ++ c) heldCalls (p .calls .ended) = continues-more c heldCalls u hc bc in
+              let b′ : Continues (take w heldAnswers ++ a) heldAnswers (p .answers .ended) = continues-more a heldAnswers w ha ba in
               ap₂ (verdict memory) (append-assoc (s .callsPassed) (take u heldCalls) c) (append-assoc (s .answersPassed) (take w heldAnswers) a)
               ∙ s .keeps (take u heldCalls ++ c) (take w heldAnswers ++ a) b b′ ∙ sym (found l m x y p b b′ (Found.Same u w) e)
               ∙ left l m x y p b b′ (suc (p .number)) l′ m′ sl sm (past u (calls l m x y p b b′)) (past w (answers l m x y p b b′)) c a
-              (sym (past-content (calls l m x y p b b′) u (i .0)) ∙ ap (drop u) (begins-content heldCalls b) ∙ drop-front c heldCalls u (i .0))
-              (sym (past-content (answers l m x y p b b′) w (i .1)) ∙ ap (drop w) (begins-content heldAnswers b′) ∙ drop-front a heldAnswers w (i .1))
+              (sym (past-content (calls l m x y p b b′) u (i .0)) ∙ ap (drop u) (continues-content heldCalls b) ∙ drop-front c heldCalls u (i .0))
+              (sym (past-content (answers l m x y p b b′) w (i .1)) ∙ ap (drop w) (continues-content heldAnswers b′) ∙ drop-front a heldAnswers w (i .1))
               ∙ ap (λ (n : ℕ). against n (played l′ m′ c) a) (sym (add-one (p .number)));
           spent =
               let ec : cost (s .callsPassed ++ take u heldCalls) (heldIn (behind (p .calls) u) x) (p .calls .ended) ≡ cost (s .callsPassed ++ take u heldCalls) (drop u heldCalls) (p .calls .ended) =
@@ -349,11 +349,11 @@ module _ {files : Files} {memory : ℕ} {l m x y : List ℕ} {p : Position} {rou
     fromAnswers = s .answers .from;
   }
 
-  judges : {v : Verdict} (f : Found) → shown l m x y p .found ≡ f
-      → ((i j : Input) → verdictBy (p .number) f (shown l m x y p .state) (shown l m x y p .memory) i j ≡ v) → Judges memory v tapes
-  judges f e says c a bc ba =
-      let b : Begins (heldCalls ++ bc .0) heldCalls (p .calls .ended) = (bc .0, refl, bc .2) in
-      let b′ : Begins (heldAnswers ++ ba .0) heldAnswers (p .answers .ended) = (ba .0, refl, ba .2) in
+  verdict-on : {v : Verdict} (f : Found) → shown l m x y p .found ≡ f
+      → ((i j : Input) → verdictBy (p .number) f (shown l m x y p .state) (shown l m x y p .memory) i j ≡ v) → VerdictOn memory v tapes
+  verdict-on f e says c a bc ba =
+      let b : Continues (heldCalls ++ bc .0) heldCalls (p .calls .ended) = (bc .0, refl, bc .2) in
+      let b′ : Continues (heldAnswers ++ ba .0) heldAnswers (p .answers .ended) = (ba .0, refl, ba .2) in
       ap₂ (verdict memory) (bc .1 ∙ append-assoc (s .callsPassed) heldCalls (bc .0)) (ba .1 ∙ append-assoc (s .answersPassed) heldAnswers (ba .0))
       ∙ s .keeps (heldCalls ++ bc .0) (heldAnswers ++ ba .0) b b′ ∙ sym (found l m x y p b b′ f e)
       ∙ says (calls l m x y p b b′) (answers l m x y p b b′)
@@ -370,10 +370,10 @@ module _ {files : Files} {memory : ℕ} {l m x y : List ℕ} {p : Position} {rou
       absurd (let t : Next.Done v ≡ Next.On (passed p u n) = w .0 in let z : _≡_ {A = ℕ} 0 1 = cc in omega arith)
   done-by v x′ y′ Found.Agrees e w =
       let z : v ≡ Report.Agrees = cc in
-      subst (Reports (files .calls) (files .answers) memory) (sym z) (tapes, judges Found.Agrees e (λ i j. refl))
+      subst (Reports (files .calls) (files .answers) memory) (sym z) (tapes, verdict-on Found.Agrees e (λ i j. refl))
   done-by v x′ y′ (Found.Differs n) e w =
       let z : v ≡ Report.Differs (p .number + n) = cc in
-      subst (Reports (files .calls) (files .answers) memory) (sym z) (tapes, judges (Found.Differs n) e (λ i j. refl))
+      subst (Reports (files .calls) (files .answers) memory) (sym z) (tapes, verdict-on (Found.Differs n) e (λ i j. refl))
 
   pub stand-done : {v : Report} {l′ m′ x′ y′ : List ℕ} → Round files l m x y p (Next.Done v) l′ m′ x′ y′ → Reports (files .calls) (files .answers) memory v
   stand-done {v} {l′} {m′} {x′} {y′} r = done-by v x′ y′ (shown l m x y p .found) refl (r .follows)

@@ -10,7 +10,7 @@ ghost use Prim.Native.Nat.{_+_, _≤_};
 ghost use lib.ListN.{length as ListN·length};
 ghost use Rattle.tables.specs.Reset.{zeros, resetBytes};
 ghost use Rattle.tape.specs.Inside.{Finds, Starts};
-ghost use Rattle.audit.specs.Report.{Reports, Right};
+ghost use Rattle.audit.specs.Report.{Reports, Reported};
 ghost use Rattle.audit.specs.Inside.{shown, Used, passed, withCalls, withAnswers, Stands, Goes, Wide, Round};
 
 // The files of the two tapes.
@@ -213,7 +213,7 @@ fn audit(state: &mut [u8], memory: &mut [u8], length: usize, files: Files) -> Re
 
 // The report by the command line. A file that can't be opened can't be read either.
 fn reported() -> Report
-    ensures { λ r. ⌜ Right r ⌝ }
+    ensures { λ r. ⌜ Reported r ⌝ }
 {
     let calls = tape::input::open(1);
     let answers = tape::input::open(2);

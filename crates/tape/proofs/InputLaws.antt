@@ -14,7 +14,7 @@ use Rattle.io.specs.Counts.{clamped}
 use Rattle.libc.specs.Io.{Moved as Io·Moved}
 use Rattle.tape.specs.declared.input.Held.{Held}
 use Rattle.tape.specs.declared.input.Read.{Read}
-use Rattle.tape.specs.System.{Event, Happened, Fails}
+use Rattle.tape.specs.System.{Event, Happened, Unreadable}
 use Rattle.tape.specs.Inside.{heldIn, Lies, Room, bytesBy, isFailure, Gives, Reads}
 use lib.Seq.{length-take-le, take-add, take-suc, take-suc-set, drop-set-lt, drop-drop, getD-drop}
 
@@ -76,10 +76,10 @@ module _ {file : ℤ} {buffer : List ℕ} {n : ℕ} {failed : Bool} (g : Gives f
       by (pos k) h e f = subst (λ (k : ℕ). Happened (Event.read file (pos k) buffer)) (sym e) h
       by (negsuc k) h e f = absurd (true≢false (sym f))
 
-  pub gives-failure : failed ≡ true → Fails file
+  pub gives-failure : failed ≡ true → Unreadable file
   gives-failure bad = by (g .answer) (g .happened) (sym bad ∙ g .failure)
     where
-      by : (answer : ℤ) → Happened (Event.read file answer buffer) → true ≡ isFailure answer → Fails file
+      by : (answer : ℤ) → Happened (Event.read file answer buffer) → true ≡ isFailure answer → Unreadable file
       by (pos k) h f = absurd (true≢false f)
       by (negsuc k) h f = (k, buffer, h)
 

@@ -55,11 +55,11 @@ resets-none l (suc k) long le h = absurd (true≢false (sym e ∙ h))
     e = rw (eq-eqb (length l) stateSize long, le-leb 1 (suc k) (omega arith), le-leb (suc k) mostMemory (omega arith))
 
 -- a program starts on what `length_asked`, `start` and `memory` leave
-pub starts-by : (i n : ℕ) (l₀ : List ℕ) {l m : List ℕ} {done : Bool} → Asks i n → n ≤ mostLength → done ≡ resets l₀ n
-    → l ≡ cond (resets l₀ n) (resetBytes n) l₀ → done ≡ true → 1048576 ≡ length m → m ≡ zeros 1048576 → Starts i n l m
-starts-by i n l₀ asks most e s good long zeroed = record {
+pub starts-by : (i n : ℕ) {l m : List ℕ} {done : Bool} → Asks i n → n ≤ mostLength → done ≡ resets (zeros stateSize) n
+    → l ≡ cond (resets (zeros stateSize) n) (resetBytes n) (zeros stateSize) → done ≡ true → 1048576 ≡ length m → m ≡ zeros 1048576 → Starts i n l m
+starts-by i n asks most e s good long zeroed = record {
   asked = asks;
   fits = omega arith;
-  state = s ∙ ap (λ (b : Bool). cond b (resetBytes n) l₀) (sym e ∙ good);
+  state = s ∙ ap (λ (b : Bool). cond b (resetBytes n) (zeros stateSize)) (sym e ∙ good);
   memory = zeroed ∙ ap zeros long;
 }

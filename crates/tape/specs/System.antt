@@ -39,12 +39,12 @@ pub data BytesOf (file : ℤ) : (bytes : List ℕ) → (ended : Bool) → Type 0
       → BytesOf file (bytes ++ take n buffer) (eqb n 0)
 
 -- a read of it failed
-abbrev pub Fails : (file : ℤ) → Type 0
-Fails file = (k : ℕ) × (buffer : List ℕ) × Happened (Event.read file (negsuc k) buffer)
+abbrev pub Unreadable : (file : ℤ) → Type 0
+Unreadable file = (k : ℕ) × (buffer : List ℕ) × Happened (Event.read file (negsuc k) buffer)
 
 -- a tape of which those bytes are the first, and all where its end was found
-abbrev pub Begins : (tape bytes : List ℕ) → (ended : Bool) → Type 0
-Begins t b e = (rest : List ℕ) × (t ≡ b ++ rest) × (e ≡ true → rest ≡ [])
+abbrev pub Continues : (tape bytes : List ℕ) → (ended : Bool) → Type 0
+Continues t b e = (rest : List ℕ) × (t ≡ b ++ rest) × (e ≡ true → rest ≡ [])
 
 -- ---- the command line
 

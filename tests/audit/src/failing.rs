@@ -86,7 +86,9 @@ pub fn audit(program: &str, files: [&str; 2], fd: u32, lengths: RangeInclusive<u
         command.pre_exec(move || {
             let filter = Program { length: filter.len() as u16, instructions: filter.as_ptr() };
             let (one, none): (c_ulong, c_ulong) = (1, 0);
-            if prctl(PR_SET_NO_NEW_PRIVS, one, none, none, none) != 0 || prctl(PR_SET_SECCOMP, SECCOMP_MODE_FILTER, &filter, none, none) != 0 {
+            if prctl(PR_SET_NO_NEW_PRIVS, one, none, none, none) != 0
+                || prctl(PR_SET_SECCOMP, SECCOMP_MODE_FILTER, &filter, none, none) != 0
+            {
                 return Err(io::Error::last_os_error());
             }
             Ok(())

@@ -43,7 +43,7 @@ audit-requires c κs =
     let m = c .before .before .before .before .before .before .before .memory in
     let n = c .before .before .before .before .before .before .length-asked in
     let st = c .before .before .before .before .start in
-    starts-by 3 (n .result) (zeros stateSize) (n .ensures .0) (n .ensures .1) (st .ensures .0) (st .ensures .1) (c .before .before .if1 .taken) (m .ensures .0) (m .ensures .1)
+    starts-by 3 (n .result) (n .ensures .0) (n .ensures .1) (st .ensures .0) (st .ensures .1) (c .before .before .if1 .taken) (m .ensures .0) (m .ensures .1)
 
 returns : tie.Need-returns
 returns c =
