@@ -1,6 +1,6 @@
 /* A small monitor: three operators share one card. Each has its own protection domain, completion queue, memory region and queue pair;
  * the monitor makes one call per request and shows what came of it. It ends with status 1 if the card does anything else than this file
- * expects. Its calls and their answers are recorded; with two arguments the tapes go to the files that they name.
+ * expects. Its calls and their answers are recorded up to the first enqueue; with two arguments the tapes go to the files that they name.
  *
  * C11, and C++17 as it stands.
  */
@@ -348,6 +348,62 @@ static void show_flushed_work(const struct account *north, const struct account 
     show_qp(coast);
 }
 
+/* Puts a write or a send of one entry into an operator's queue. No tape holds enqueues and turns: the recorder's end with the first. */
+static void enqueue(const struct account *who, uint8_t opcode, struct lesungkap_sge local, struct lesungkap_sge remote)
+{
+    struct lesungkap_send send;
+    uint8_t record[LESUNGKAP_SEND_MOST_BYTES];
+    memset(&send, 0, sizeof send);
+    send.wr_id = ++last_request;
+    send.opcode = opcode;
+    send.remote_address = remote.address;
+    send.remote_key = remote.key;
+    send.count = 1;
+    send.sges[0] = local;
+    const size_t length = lesungkap_put_send(record, sizeof record, &send);
+    const uint32_t result = lesungkap_recorded_enqueue(&recorder, state, sizeof state, memory, sizeof memory, who->qpn, record, length);
+    printf("  enqueue       %s: request %" PRIu64 ", %s of %" PRIu32 " bytes: ", who->name, send.wr_id,
+           opcode == LESUNGKAP_SEND ? "send" : "write", local.length);
+    show_result(result);
+    expect(result == LESUNGKAP_DONE, "an enqueue");
+}
+
+/* A turn that serves this operator, or with NULL nobody. */
+static void turn(const struct account *who)
+{
+    const uint32_t result = lesungkap_recorded_turn(&recorder, state, sizeof state, memory, sizeof memory);
+    printf("  turn          %s: ", who == NULL ? "nobody" : who->name);
+    show_result(result);
+    expect(who == NULL ? lesungkap_answer(result) == LESUNGKAP_NOTHING : ended(result, LESUNGKAP_SUCCESS) && lesungkap_served(result) == who->qpn,
+           "a turn");
+}
+
+static void show_turns(const struct account *north, struct account *coast)
+{
+    printf("\n7. North has a stream of writes, Coast a message. They wait in queues, and each has its turn; the tapes end here.\n");
+    coast->flags = LESUNGKAP_REMOTE_WRITE;
+    register_region(coast);
+    make_ready(north, coast);
+    make_ready(coast, north);
+    struct lesungkap_sge text = put_text(north, 200, "Loop 3 is free at 08:40.");
+    for (uint64_t offset = 512; offset <= 576; offset += 32) {
+        enqueue(north, LESUNGKAP_WRITE, text, entry(coast, offset, TEXT_BYTES));
+    }
+    text = put_text(coast, 700, "Thank you, it is 08:41. ");
+    enqueue(coast, LESUNGKAP_SEND, text, text);
+    expect(lesungkap_answer(send_text(north, text)) == LESUNGKAP_IN_USE, "a direct send that overtakes the queue");
+    turn(north);
+    turn(north); /* Coast's message is held: North waits for none */
+    wait_for(north, entry(north, 300, 64));
+    turn(coast);
+    turn(north);
+    turn(NULL);
+    poll_all(north);
+    poll_all(coast);
+    show_text(coast, 576);
+    show_text(north, 300);
+}
+
 static void play(void)
 {
     const uint32_t all = LESUNGKAP_LOCAL_WRITE | LESUNGKAP_REMOTE_WRITE | LESUNGKAP_REMOTE_READ;
@@ -371,6 +427,8 @@ static void play(void)
     show_rights(&north, &coast);
     show_dropped_region(&north, &coast);
     show_flushed_work(&north, &coast);
+    expect(!recorder.failed && recorder.left_out == 0, "a call that was not recorded");
+    show_turns(&north, &coast);
 }
 
 /* Plays the story, recorded to the two files or, without names, to buffers that are not kept. */
@@ -393,7 +451,6 @@ int main(int count, char **words)
     }
     play();
     expect((calls == NULL || fclose(calls) == 0) && (answers == NULL || fclose(answers) == 0), "a tape that could not be written");
-    expect(!recorder.failed && recorder.left_out == 0, "a call that was not recorded");
     printf("\nAll as expected; %" PRIu64 " calls after the reset, with their answers, are on the tapes.\n", recorder.recorded);
     return 0;
 }

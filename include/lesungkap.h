@@ -2,7 +2,8 @@
  *
  * The card holds protection domains (PD), completion queues (CQ), memory regions (MR) and queue pairs (QP), each numbered from 0 in its
  * table. Two queue pairs that name each other as destination are joined: a work request of the one moves bytes to or from regions of
- * the other's domain, or fills a receive that waits there. How it ended stands in a completion, which a poll takes out of its queue.
+ * the other's domain, or fills a receive that waits there. How it ended stands in a completion, which a poll takes out of its queue. A work
+ * request runs at once (lesungkap_post_send), or waits in its queue pair's queue (lesungkap_enqueue) until a turn (lesungkap_turn) runs it.
  *
  * The manual is this file (what is lent, the calls) and those that it includes: lesungkap_numbers.h (limits, answers, statuses, states
  * and their moves), lesungkap_records.h (work requests, receives, completions, and which bytes are permitted), lesungkap_commands.h (control
@@ -49,8 +50,9 @@ extern "C" {
 #endif
 
 /* Each call returns its answer in bits 0 to 7 and, of a work request answered LESUNGKAP_DONE, its status in bits 8 to 15; so does a receive
- * that was flushed at once, and no other call. The answers of each stand below in the order of their tests, without LESUNGKAP_: the first
- * that is met is the answer. */
+ * that was flushed at once, and no other call. A turn answered LESUNGKAP_DONE has the status of the work request that it ran, and in bits 16 to
+ * 23 the queue pair that it served; all later bits are 0. The answers of each stand below in the order of their tests, without LESUNGKAP_: the
+ * first that is met is the answer. */
 
 /* Makes a fresh card over a memory of memory_len bytes, whatever the state held.
  *   BAD_STATE         state_len isn't LESUNGKAP_STATE_BYTES; the content is not looked at
@@ -101,6 +103,7 @@ uint32_t lesungkap_register_pages(uint8_t *state, size_t state_len, const uint8_
  *   RECORD_LENGTH     not exactly what its entries ask for
  *   NOT_LIVE, WRONG_STATE
  *                     the queue pair; it is neither in RTS nor in ERROR
+ *   IN_USE            sends are queued on it, in RTS or in ERROR: they go first, by lesungkap_turn
  *   HELD_PLACE        in ERROR: no place in the send CQ, signaled or not
  *   DONE              in ERROR: it is flushed, with status FLUSHED; its peer, keys and total are not looked at
  *   HELD_PEER         no destination, or it isn't live, not in RTR or RTS, or doesn't name this queue pair back; no receive waits where
@@ -117,6 +120,29 @@ uint32_t lesungkap_register_pages(uint8_t *state, size_t state_len, const uint8_
  * succeeded unsignaled on a queue pair with LESUNGKAP_SIGNAL_FLAGGED; then the receiver's, into its receive CQ, where a receive was taken. */
 uint32_t lesungkap_post_send(uint8_t *state, size_t state_len, uint8_t *memory, size_t memory_len, uint32_t qpn,
                              const uint8_t *record, size_t record_len);
+
+/* Lets a work request wait in its queue pair's queue, behind the others, until a turn runs it. Its peer, keys, total and places are looked at
+ * then, not before; it puts no completion and moves no byte. Of the memory only the length is looked at. The record is kept in the state.
+ *   BAD_STATE         the state is not acceptable
+ *   MEMORY_LENGTH     memory_len isn't that of the reset
+ *   RECORD_LENGTH, BAD_FIELD, RECORD_LENGTH
+ *                     as lesungkap_post_send
+ *   NOT_LIVE, WRONG_STATE
+ *                     the queue pair; it is neither in RTS nor in ERROR
+ *   FULL              LESUNGKAP_QP_MOST_SENDS are queued already
+ *   DONE              it is queued; the status is 0 */
+uint32_t lesungkap_enqueue(uint8_t *state, size_t state_len, const uint8_t *memory, size_t memory_len, uint32_t qpn,
+                           const uint8_t *record, size_t record_len);
+
+/* Runs the oldest queued send of one queue pair. The queue pairs are visited by number from the one after the last served on, from 0 after a
+ * reset, and 0 comes after the last; the first whose oldest send lesungkap_post_send would not hold, were it posted there now, is served. What
+ * comes of the request is what would come of that post send: in ERROR it is flushed. It then leaves its queue, whatever its status is. A queue
+ * pair whose oldest send could run at each turn is served within LESUNGKAP_QP_COUNT turns, and no other one twice before it.
+ *   BAD_STATE         the state is not acceptable
+ *   MEMORY_LENGTH     memory_len isn't that of the reset
+ *   NOTHING           no send is queued, or every queue's oldest is held
+ *   DONE              lesungkap_served tells the queue pair, lesungkap_status how its request ended */
+uint32_t lesungkap_turn(uint8_t *state, size_t state_len, uint8_t *memory, size_t memory_len);
 
 /* Lets a receive wait behind the others. Its keys are looked at when a message comes, not before. On a queue pair in error it is flushed at
  * once, unless older ones wait: these go first, by lesungkap_flush.
@@ -151,6 +177,9 @@ uint32_t lesungkap_poll(uint8_t *state, size_t state_len, uint32_t cqn, uint8_t 
 static inline unsigned lesungkap_answer(uint32_t result) { return (unsigned)(result & 255u); }
 
 static inline unsigned lesungkap_status(uint32_t result) { return (unsigned)(result >> 8 & 255u); }
+
+/* Of a turn answered LESUNGKAP_DONE: the queue pair that it served. */
+static inline unsigned lesungkap_served(uint32_t result) { return (unsigned)(result >> 16 & 255u); }
 
 #ifdef __cplusplus
 }

@@ -11,9 +11,9 @@
 /* The minor number grows by one with each landing that changes what a call answers or does, a record or the state's layout, its length
  * included; a state and a tape belong to one minor number. */
 #define LESUNGKAP_VERSION_MAJOR 0
-#define LESUNGKAP_VERSION_MINOR 8
+#define LESUNGKAP_VERSION_MINOR 9
 #define LESUNGKAP_VERSION_PATCH 0
-#define LESUNGKAP_VERSION "0.8.0"
+#define LESUNGKAP_VERSION "0.9.0"
 
 #ifdef __cplusplus
 extern "C" {
@@ -28,6 +28,7 @@ enum {
     LESUNGKAP_MR_MOST_PAGES = 16,   /* of a region over pages */
     LESUNGKAP_QP_COUNT = 8,
     LESUNGKAP_QP_MOST_RECEIVES = 4, /* waiting on one queue pair */
+    LESUNGKAP_QP_MOST_SENDS = 8,    /* queued on one queue pair */
     LESUNGKAP_SEND_MOST_SGES = 4,
     LESUNGKAP_RECEIVE_MOST_SGES = 2,
     LESUNGKAP_MOST_INLINE = 512,
@@ -47,8 +48,8 @@ enum {
     LESUNGKAP_HELD_PLACE = 6,       /* no place for a completion */
     LESUNGKAP_MEMORY_LENGTH = 7,    /* the lent memory's length isn't that of the reset */
     LESUNGKAP_FULL = 8,
-    LESUNGKAP_NOTHING = 9,          /* no completion, no waiting receive */
-    LESUNGKAP_IN_USE = 10,
+    LESUNGKAP_NOTHING = 9,          /* no completion, no waiting receive; of a turn: no queued send that isn't held */
+    LESUNGKAP_IN_USE = 10,          /* of a direct send: older sends are queued */
     LESUNGKAP_RANGE = 11,
     LESUNGKAP_BUFFER_TOO_SHORT = 12,
     LESUNGKAP_UNKNOWN = 13,         /* class or command */
@@ -89,10 +90,10 @@ enum {
 enum { LESUNGKAP_LOCAL_WRITE = 1, LESUNGKAP_REMOTE_WRITE = 2, LESUNGKAP_REMOTE_READ = 4 };
 
 /* Queue pairs. A new one is in RESET. Modify QP moves it from RESET to INIT, from INIT to RTR (with the destination), from RTR to RTS, and
- * from any state to RESET or ERROR; a work request that fails moves it to ERROR. RESET drops waiting receives, the destination and the access
- * flags, ERROR nothing. Any move may set the access flags, but RESET leaves them 0, as a new queue pair has them: then a remote write or
+ * from any state to RESET or ERROR; a work request that fails moves it to ERROR. RESET drops waiting receives, queued sends, the destination
+ * and the access flags, ERROR nothing. Any move may set the access flags, but RESET leaves them 0, as a new queue pair has them: then a remote write or
  * read of some bytes by its peer fails. Receives may be posted in INIT, RTR and RTS, work requests in RTS, to a peer in RTR or RTS. In ERROR
- * both are taken and flushed: they complete with LESUNGKAP_FLUSHED, a receive behind those that wait.
+ * both are taken and flushed: they complete with LESUNGKAP_FLUSHED, a receive behind those that wait. Sends are queued in RTS and ERROR.
  *
  * Type and states are as IBV_QPT_* and IBV_QPS_*. Signal and the mask's bits are the card's own: signal 0 completes everything, where
  * libibverbs has sq_sig_all 1 for that; the access flags are bit 2 and the destination is bit 15, where IBV_QP_ACCESS_FLAGS is bit 3 and
@@ -147,7 +148,7 @@ static inline const char *lesungkap_answer_text(unsigned answer)
     case LESUNGKAP_HELD_PEER: return "held: peer not ready or no receive waiting";
     case LESUNGKAP_HELD_PLACE: return "held: no completion place";
     case LESUNGKAP_MEMORY_LENGTH: return "lent memory's length isn't the reset length";
-    case LESUNGKAP_FULL: return "table or receive queue full";
+    case LESUNGKAP_FULL: return "table or queue full";
     case LESUNGKAP_NOTHING: return "nothing there";
     case LESUNGKAP_IN_USE: return "in use";
     case LESUNGKAP_RANGE: return "range";

@@ -181,42 +181,54 @@ static inline size_t lesungkap_put_send(uint8_t *bytes, size_t length, const str
     return LESUNGKAP_SEND_BYTES + sges * LESUNGKAP_SGE_BYTES;
 }
 
+/* Whether post send takes this opcode, these flags and this many entries or inline bytes. */
+static inline unsigned lesungkap_test_kind_(uint8_t opcode, uint8_t flags, uint32_t count)
+{
+    const int has_inline = flags & LESUNGKAP_FLAG_INLINE;
+    const uint32_t most = has_inline ? (uint32_t)LESUNGKAP_MOST_INLINE : (uint32_t)LESUNGKAP_SEND_MOST_SGES;
+    const int bad = opcode > LESUNGKAP_READ || flags >= 2 * LESUNGKAP_FLAG_INLINE || (has_inline && opcode == LESUNGKAP_READ) || count > most;
+    return bad ? LESUNGKAP_BAD_FIELD : LESUNGKAP_DONE;
+}
+
 /* The tests of post send on the record alone, in their order. */
 static inline unsigned lesungkap_test_send_(const uint8_t *bytes, size_t length, uint32_t *count)
 {
     if (length < LESUNGKAP_SEND_BYTES) {
         return LESUNGKAP_RECORD_LENGTH;
     }
-    const uint8_t opcode = bytes[LESUNGKAP_SEND_OPCODE_AT];
     const uint8_t flags = bytes[LESUNGKAP_SEND_FLAGS_AT];
     const int has_inline = flags & LESUNGKAP_FLAG_INLINE;
     *count = (uint32_t)lesungkap_get_le_(bytes + LESUNGKAP_SEND_COUNT_AT, has_inline ? 2 : 4);
-    if (opcode > LESUNGKAP_READ || flags >= 2 * LESUNGKAP_FLAG_INLINE || (has_inline && opcode == LESUNGKAP_READ) ||
-        *count > (has_inline ? (uint32_t)LESUNGKAP_MOST_INLINE : (uint32_t)LESUNGKAP_SEND_MOST_SGES)) {
+    if (lesungkap_test_kind_(bytes[LESUNGKAP_SEND_OPCODE_AT], flags, *count) != LESUNGKAP_DONE) {
         return LESUNGKAP_BAD_FIELD;
     }
     const size_t sges = has_inline ? 0 : *count;
     return length == LESUNGKAP_SEND_BYTES + sges * LESUNGKAP_SGE_BYTES ? LESUNGKAP_DONE : LESUNGKAP_RECORD_LENGTH;
 }
 
-static inline unsigned lesungkap_get_send(const uint8_t *bytes, size_t length, struct lesungkap_send *send)
+/* A record of this opcode, these flags and this many entries or inline bytes, which have passed the tests. */
+static inline void lesungkap_read_send_(const uint8_t *bytes, uint8_t opcode, uint8_t flags, uint32_t count, struct lesungkap_send *send)
 {
-    uint32_t count = 0;
-    const unsigned answer = lesungkap_test_send_(bytes, length, &count);
-    if (answer != LESUNGKAP_DONE) {
-        return answer;
-    }
     send->wr_id = lesungkap_get_le_(bytes + LESUNGKAP_SEND_WR_ID_AT, 8);
-    send->opcode = bytes[LESUNGKAP_SEND_OPCODE_AT];
-    send->flags = bytes[LESUNGKAP_SEND_FLAGS_AT];
+    send->opcode = opcode;
+    send->flags = flags;
     send->immediate = lesungkap_get_32_(bytes + LESUNGKAP_SEND_IMMEDIATE_AT);
     send->remote_address = lesungkap_get_le_(bytes + LESUNGKAP_SEND_REMOTE_ADDRESS_AT, 8);
     send->remote_key = lesungkap_get_32_(bytes + LESUNGKAP_SEND_REMOTE_KEY_AT);
     send->count = count;
-    const int has_inline = send->flags & LESUNGKAP_FLAG_INLINE;
+    const int has_inline = flags & LESUNGKAP_FLAG_INLINE;
     send->inline_bytes = has_inline ? bytes + LESUNGKAP_SEND_INLINE_AT : NULL;
     lesungkap_get_sges_(bytes + LESUNGKAP_SEND_BYTES, send->sges, has_inline ? 0 : count, LESUNGKAP_SEND_MOST_SGES);
-    return LESUNGKAP_DONE;
+}
+
+static inline unsigned lesungkap_get_send(const uint8_t *bytes, size_t length, struct lesungkap_send *send)
+{
+    uint32_t count = 0;
+    const unsigned answer = lesungkap_test_send_(bytes, length, &count);
+    if (answer == LESUNGKAP_DONE) {
+        lesungkap_read_send_(bytes, bytes[LESUNGKAP_SEND_OPCODE_AT], bytes[LESUNGKAP_SEND_FLAGS_AT], count, send);
+    }
+    return answer;
 }
 
 static inline size_t lesungkap_put_receive(uint8_t *bytes, size_t length, const struct lesungkap_receive *receive)

@@ -7,7 +7,8 @@
  *       entry, or a region no page, of this index.
  *
  * A peek writes nothing but x, and never reads outside the state. It makes no test of the content: what it says is true of a state that
- * a call has left. Of another, lesungkap_peek_receive also answers LESUNGKAP_BAD_FIELD, where a receive has more than two entries.
+ * a call has left. Of another, lesungkap_peek_receive and lesungkap_peek_send also answer LESUNGKAP_BAD_FIELD, where a receive has more than
+ * two entries, or a queued send has what post send refuses with it.
  */
 #ifndef LESUNGKAP_STATE_H
 #define LESUNGKAP_STATE_H
@@ -29,8 +30,12 @@ enum {
     LESUNGKAP_STATE_QP_ROW = 8,
     LESUNGKAP_STATE_WAITING_ROW = 2,
     LESUNGKAP_STATE_RECEIVE_ROW = LESUNGKAP_RECEIVE_MOST_BYTES, /* a receive record */
+    LESUNGKAP_STATE_SENDS_ROW = 2,
+    LESUNGKAP_STATE_KIND_ROW = 4, /* of a queued send record: what decides how it is read */
+    LESUNGKAP_STATE_RECORD_ROW = LESUNGKAP_SEND_MOST_BYTES, /* the record as it was lent; what its kind says is not looked at here */
 
     LESUNGKAP_STATE_MEMORY_AT = 0,
+    LESUNGKAP_STATE_TURN_AT = 8,
     LESUNGKAP_STATE_PD_LIVE_AT = LESUNGKAP_STATE_HEADER,
     LESUNGKAP_STATE_CQ_LIVE_AT = LESUNGKAP_STATE_PD_LIVE_AT + LESUNGKAP_PD_COUNT,
     LESUNGKAP_STATE_CQS_AT = LESUNGKAP_STATE_CQ_LIVE_AT + LESUNGKAP_CQ_COUNT,
@@ -43,8 +48,11 @@ enum {
     LESUNGKAP_STATE_QPS_AT = LESUNGKAP_STATE_QP_LIVE_AT + LESUNGKAP_QP_COUNT,
     LESUNGKAP_STATE_WAITING_AT = LESUNGKAP_STATE_QPS_AT + LESUNGKAP_QP_COUNT * LESUNGKAP_STATE_QP_ROW,
     LESUNGKAP_STATE_RECEIVES_AT = LESUNGKAP_STATE_WAITING_AT + LESUNGKAP_QP_COUNT * LESUNGKAP_STATE_WAITING_ROW,
-    LESUNGKAP_STATE_BYTES =
+    LESUNGKAP_STATE_SENDS_AT =
         LESUNGKAP_STATE_RECEIVES_AT + LESUNGKAP_QP_COUNT * LESUNGKAP_QP_MOST_RECEIVES * LESUNGKAP_STATE_RECEIVE_ROW,
+    LESUNGKAP_STATE_KINDS_AT = LESUNGKAP_STATE_SENDS_AT + LESUNGKAP_QP_COUNT * LESUNGKAP_STATE_SENDS_ROW,
+    LESUNGKAP_STATE_RECORDS_AT = LESUNGKAP_STATE_KINDS_AT + LESUNGKAP_QP_COUNT * LESUNGKAP_QP_MOST_SENDS * LESUNGKAP_STATE_KIND_ROW,
+    LESUNGKAP_STATE_BYTES = LESUNGKAP_STATE_RECORDS_AT + LESUNGKAP_QP_COUNT * LESUNGKAP_QP_MOST_SENDS * LESUNGKAP_STATE_RECORD_ROW,
 
     LESUNGKAP_STATE_CQ_PLACES_AT = 0,
     LESUNGKAP_STATE_CQ_FIRST_AT = 1,
@@ -64,7 +72,12 @@ enum {
     LESUNGKAP_STATE_QP_DESTINATION_AT = 5,
     LESUNGKAP_STATE_QP_ACCESS_FLAGS_AT = 6,
     LESUNGKAP_STATE_WAITING_FIRST_AT = 0,
-    LESUNGKAP_STATE_WAITING_COUNT_AT = 1
+    LESUNGKAP_STATE_WAITING_COUNT_AT = 1,
+    LESUNGKAP_STATE_SENDS_FIRST_AT = 0,
+    LESUNGKAP_STATE_SENDS_COUNT_AT = 1,
+    LESUNGKAP_STATE_KIND_OPCODE_AT = 0,
+    LESUNGKAP_STATE_KIND_FLAGS_AT = 1,
+    LESUNGKAP_STATE_KIND_COUNT_AT = 2 /* 2 bytes: of entries, or with LESUNGKAP_FLAG_INLINE of inline bytes */
 };
 
 /* A region's kind. */
@@ -101,6 +114,7 @@ struct lesungkap_qp {
     uint32_t destination; /* or LESUNGKAP_NO_QP */
     uint8_t access_flags; /* what its peer may do */
     uint8_t waiting;      /* receives */
+    uint8_t queued;       /* sends; while there are any, a direct send is answered LESUNGKAP_IN_USE */
 };
 
 /* ---- peeks; names that end in _ are this header's own */
@@ -112,6 +126,16 @@ static inline unsigned lesungkap_peek_memory(const uint8_t *state, size_t state_
         return LESUNGKAP_BAD_STATE;
     }
     *memory_len = lesungkap_get_le_(state + LESUNGKAP_STATE_MEMORY_AT, 8);
+    return LESUNGKAP_DONE;
+}
+
+/* The queue pair that the next turn visits first. */
+static inline unsigned lesungkap_peek_turn(const uint8_t *state, size_t state_len, uint32_t *qpn)
+{
+    if (state_len != LESUNGKAP_STATE_BYTES) {
+        return LESUNGKAP_BAD_STATE;
+    }
+    *qpn = state[LESUNGKAP_STATE_TURN_AT];
     return LESUNGKAP_DONE;
 }
 
@@ -214,6 +238,7 @@ static inline unsigned lesungkap_peek_qp(const uint8_t *state, size_t state_len,
         qp->destination = row[LESUNGKAP_STATE_QP_DESTINATION_AT];
         qp->access_flags = row[LESUNGKAP_STATE_QP_ACCESS_FLAGS_AT];
         qp->waiting = waiting[LESUNGKAP_STATE_WAITING_COUNT_AT];
+        qp->queued = state[LESUNGKAP_STATE_SENDS_AT + (size_t)LESUNGKAP_STATE_SENDS_ROW * qpn + LESUNGKAP_STATE_SENDS_COUNT_AT];
     }
     return answer;
 }
@@ -235,6 +260,30 @@ static inline unsigned lesungkap_peek_receive(const uint8_t *state, size_t state
     const uint8_t *row = state + LESUNGKAP_STATE_RECEIVES_AT + LESUNGKAP_STATE_RECEIVE_ROW * place;
     const size_t count = lesungkap_get_32_(row + LESUNGKAP_RECEIVE_COUNT_AT);
     return lesungkap_get_receive(row, LESUNGKAP_RECEIVE_BYTES + count * LESUNGKAP_SGE_BYTES, receive);
+}
+
+/* Queued send `index` of a queue pair, the oldest first. Its inline bytes are those of the state. */
+static inline unsigned lesungkap_peek_send(const uint8_t *state, size_t state_len, uint32_t qpn, uint32_t index, struct lesungkap_send *send)
+{
+    struct lesungkap_qp qp;
+    const unsigned answer = lesungkap_peek_qp(state, state_len, qpn, &qp);
+    if (answer != LESUNGKAP_DONE) {
+        return answer;
+    }
+    if (index >= qp.queued) {
+        return LESUNGKAP_NOTHING;
+    }
+    const size_t first = state[LESUNGKAP_STATE_SENDS_AT + (size_t)LESUNGKAP_STATE_SENDS_ROW * qpn + LESUNGKAP_STATE_SENDS_FIRST_AT];
+    const size_t place = (size_t)LESUNGKAP_QP_MOST_SENDS * qpn + (first + index) % LESUNGKAP_QP_MOST_SENDS;
+    const uint8_t *kind = state + LESUNGKAP_STATE_KINDS_AT + LESUNGKAP_STATE_KIND_ROW * place;
+    const uint8_t opcode = kind[LESUNGKAP_STATE_KIND_OPCODE_AT];
+    const uint8_t flags = kind[LESUNGKAP_STATE_KIND_FLAGS_AT];
+    const uint32_t count = (uint32_t)lesungkap_get_le_(kind + LESUNGKAP_STATE_KIND_COUNT_AT, 2);
+    if (lesungkap_test_kind_(opcode, flags, count) != LESUNGKAP_DONE) {
+        return LESUNGKAP_BAD_FIELD;
+    }
+    lesungkap_read_send_(state + LESUNGKAP_STATE_RECORDS_AT + LESUNGKAP_STATE_RECORD_ROW * place, opcode, flags, count, send);
+    return LESUNGKAP_DONE;
 }
 
 #ifdef __cplusplus

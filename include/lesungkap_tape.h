@@ -13,8 +13,9 @@
  *
  * Some calls no tape can hold: those with a record over LESUNGKAP_TAPE_MOST_BODY bytes or a number over 255, and those answered
  * LESUNGKAP_MEMORY_LENGTH, LESUNGKAP_BUFFER_TOO_SHORT or LESUNGKAP_BAD_STATE. Each of them is refused and changes nothing, so the tapes
- * leave them out, and the other calls are answered as they were. A page list no tape can hold either: lesungkap_register_pages is left out
- * where it is refused, and where it is done the tapes end, since the calls after it would be answered otherwise.
+ * leave them out, and the other calls are answered as they were. Page lists, enqueues and turns no tape can hold either:
+ * lesungkap_register_pages, lesungkap_enqueue and lesungkap_turn are left out where they are refused, and where one is done the tapes end, since
+ * the calls after it would be answered otherwise.
  */
 #ifndef LESUNGKAP_TAPE_H
 #define LESUNGKAP_TAPE_H
@@ -56,7 +57,7 @@ struct lesungkap_recorder {
     struct lesungkap_tape answers;
     uint64_t recorded; /* calls on the tapes */
     uint64_t left_out; /* calls that no tape can hold */
-    int failed;        /* a record could not be written, or a page list was registered; nothing was recorded from there on */
+    int failed;        /* a record could not be written, or a call that no tape can hold was done; nothing was recorded from there on */
 };
 
 static inline struct lesungkap_recorder lesungkap_record_to_files(FILE *calls, FILE *answers)
@@ -157,17 +158,40 @@ static inline uint32_t lesungkap_recorded_control(struct lesungkap_recorder *rec
     return result;
 }
 
-/* Made, and never recorded: refused, it is left out; done, it ends the tapes. */
-static inline uint32_t lesungkap_recorded_register_pages(struct lesungkap_recorder *recorder, uint8_t *state, size_t state_len,
-                                                         const uint8_t *command, size_t command_len, const uint64_t *pages,
-                                                         size_t pages_len, uint8_t *ack, size_t ack_len)
+/* A call that no tape has a kind for: refused, it is left out; done, it ends the tapes. */
+static inline void lesungkap_record_none_(struct lesungkap_recorder *recorder, uint32_t result)
 {
-    const uint32_t result = lesungkap_register_pages(state, state_len, command, command_len, pages, pages_len, ack, ack_len);
     if (lesungkap_answer(result) == LESUNGKAP_DONE) {
         recorder->failed = 1;
     } else if (!recorder->failed) {
         recorder->left_out++;
     }
+}
+
+/* Made, and never recorded, as the next two. */
+static inline uint32_t lesungkap_recorded_register_pages(struct lesungkap_recorder *recorder, uint8_t *state, size_t state_len,
+                                                         const uint8_t *command, size_t command_len, const uint64_t *pages,
+                                                         size_t pages_len, uint8_t *ack, size_t ack_len)
+{
+    const uint32_t result = lesungkap_register_pages(state, state_len, command, command_len, pages, pages_len, ack, ack_len);
+    lesungkap_record_none_(recorder, result);
+    return result;
+}
+
+static inline uint32_t lesungkap_recorded_enqueue(struct lesungkap_recorder *recorder, uint8_t *state, size_t state_len,
+                                                  const uint8_t *memory, size_t memory_len, uint32_t qpn, const uint8_t *record,
+                                                  size_t record_len)
+{
+    const uint32_t result = lesungkap_enqueue(state, state_len, memory, memory_len, qpn, record, record_len);
+    lesungkap_record_none_(recorder, result);
+    return result;
+}
+
+static inline uint32_t lesungkap_recorded_turn(struct lesungkap_recorder *recorder, uint8_t *state, size_t state_len, uint8_t *memory,
+                                               size_t memory_len)
+{
+    const uint32_t result = lesungkap_turn(state, state_len, memory, memory_len);
+    lesungkap_record_none_(recorder, result);
     return result;
 }
 

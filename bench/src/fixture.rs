@@ -104,6 +104,30 @@ pub fn fill_queues(state: &mut [u8]) {
     }
 }
 
+/// Fills the queue of each live pair with unsignaled writes of 64 bytes to its peer.
+pub fn fill_sends(state: &mut [u8]) {
+    for n in live_pairs(state) {
+        for _ in 0..MOST_QUEUED {
+            assert_eq!(Reference.enqueue(state, &[0; MEMORY], n, &write_on(n)).answer, 0);
+        }
+    }
+}
+
+pub fn live_pairs(state: &[u8]) -> Vec<u32> {
+    (0..PAIRS as u32).filter(|&n| state[PAIR_FLAGS + n as usize] == 1).collect()
+}
+
+/// A write of 64 bytes of a pair's region to its peer's.
+pub fn write_on(qpn: u32) -> Vec<u8> {
+    let region = |n: u32| match n {
+        0 => (LOCAL_VIRT, LOCAL_KEY),
+        1 => (REMOTE_VIRT, REMOTE_KEY),
+        _ => (u64::from(n) << 32, 256 * n + 1),
+    };
+    let ((address, key), (remote, remote_key)) = (region(qpn), region(qpn ^ 1));
+    Send::new(1, 0).remote(remote, remote_key).piece(address, 64, key).bytes()
+}
+
 /// A write of `length` bytes in `pieces` pieces that succeeds without a completion.
 pub fn write(length: u32, pieces: u32) -> Vec<u8> {
     let mut send = Send::new(1, 0).remote(REMOTE_VIRT, REMOTE_KEY);

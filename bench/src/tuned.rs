@@ -1,8 +1,9 @@
-//! The second yardstick: poll and post send in safe Rust written for speed, on the lent state of docs/STATE.md. It knows the state by
+//! The second yardstick: poll, post send, enqueue and turn in safe Rust written for speed, on the lent state of docs/STATE.md. It knows the state by
 //! `reference::layout` alone, and what is off its quick way goes to the reference, whose answers it must give.
 
 mod accept;
 mod send;
+mod turns;
 
 pub use accept::accepts;
 
@@ -12,7 +13,7 @@ use reference::{Outcome, Refusal};
 
 pub type State = [u8; STATE_BYTES];
 
-/// The engine as a card: poll and post send.
+/// The engine as a card: poll, post send, enqueue and turn.
 pub struct Tuned;
 
 impl Card for Tuned {
@@ -22,6 +23,14 @@ impl Card for Tuned {
 
     fn post_send(&self, state: &mut [u8], memory: &mut [u8], qpn: u32, record: &[u8]) -> Outcome {
         send::post_send(state, memory, qpn, record)
+    }
+
+    fn enqueue(&self, state: &mut [u8], memory: &[u8], qpn: u32, record: &[u8]) -> Outcome {
+        turns::enqueue(state, memory, qpn, record)
+    }
+
+    fn turn(&self, state: &mut [u8], memory: &mut [u8]) -> Outcome {
+        turns::turn(state, memory)
     }
 
     fn poll(&self, state: &mut [u8], cqn: u32, buffer: &mut [u8]) -> Outcome {

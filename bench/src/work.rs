@@ -2,7 +2,7 @@
 
 use crate::{fixture, opaque, Work};
 use cards::Card;
-use reference::layout::{COMPLETION_BYTES, MOST_MESSAGE, MOST_PLACES, QUEUES};
+use reference::layout::{COMPLETION_BYTES, MOST_MESSAGE, MOST_PLACES, MOST_QUEUED, QUEUES};
 use reference::{Outcome, Refusal};
 use std::cell::RefCell;
 
@@ -39,9 +39,7 @@ pub fn polls<'a>(card: &'a dyn Card, full: &[u8]) -> Work<'a> {
     let queues: Vec<u32> =
         (0..QUEUES as u32).filter(|&n| reference::poll(&mut full.clone(), n, &mut [0; COMPLETION_BYTES]).answer == 0).collect();
     let calls = (4 * MOST_PLACES * queues.len()) as u32;
-    let states = std::rc::Rc::new(RefCell::new(vec![full.clone(); 4]));
-    let refilled = states.clone();
-    let prepare = move || refilled.borrow_mut().iter_mut().for_each(|state| state.copy_from_slice(&full));
+    let (states, prepare) = renewed(&full);
     let mut buffer = [0; COMPLETION_BYTES];
     let run = move || {
         for state in states.borrow_mut().iter_mut() {
@@ -53,7 +51,53 @@ pub fn polls<'a>(card: &'a dyn Card, full: &[u8]) -> Work<'a> {
             }
         }
     };
-    Work { calls, prepare: Box::new(prepare), run: Box::new(run) }
+    Work { calls, prepare, run: Box::new(run) }
+}
+
+/// States that are made anew before each run.
+fn renewed<'a>(fresh: &[u8]) -> (std::rc::Rc<RefCell<Vec<Vec<u8>>>>, Box<dyn FnMut() + 'a>) {
+    let fresh = fresh.to_vec();
+    let states = std::rc::Rc::new(RefCell::new(vec![fresh.clone(); 4]));
+    let renewed = states.clone();
+    (states, Box::new(move || renewed.borrow_mut().iter_mut().for_each(|state| state.copy_from_slice(&fresh))))
+}
+
+/// Fills the queues of four cards with writes of 64 bytes; they are emptied before each run.
+pub fn enqueues<'a>(card: &'a dyn Card, state: &[u8]) -> Work<'a> {
+    let records: Vec<(u32, Vec<u8>)> = fixture::live_pairs(state).into_iter().map(|n| (n, fixture::write_on(n))).collect();
+    let calls = (4 * MOST_QUEUED * records.len()) as u32;
+    let memory = vec![0; fixture::MEMORY];
+    let (states, prepare) = renewed(state);
+    let run = move || {
+        for state in states.borrow_mut().iter_mut() {
+            for _ in 0..MOST_QUEUED {
+                for (qpn, record) in &records {
+                    let outcome = card.enqueue(opaque(state), opaque(&memory), *qpn, opaque(record));
+                    assert_eq!(outcome, Outcome::DONE);
+                }
+            }
+        }
+    };
+    Work { calls, prepare, run: Box::new(run) }
+}
+
+/// Empties the queues of four cards; they are filled again before each run.
+pub fn turns<'a>(card: &'a dyn Card, full: &[u8]) -> Work<'a> {
+    let pairs = fixture::live_pairs(full);
+    let calls = (4 * MOST_QUEUED * pairs.len()) as u32;
+    let mut memory: Vec<u8> = (0..fixture::MEMORY).map(|n| n as u8).collect();
+    let (states, prepare) = renewed(full);
+    let run = move || {
+        for state in states.borrow_mut().iter_mut() {
+            for _ in 0..MOST_QUEUED {
+                for &qpn in &pairs {
+                    let outcome = card.turn(opaque(state), opaque(&mut memory));
+                    assert_eq!(outcome, Outcome { served: qpn as u8, ..Outcome::DONE });
+                }
+            }
+        }
+    };
+    Work { calls, prepare, run: Box::new(run) }
 }
 
 /// Three pages, so that where two ranges stand to each other does not hang on the allocator.

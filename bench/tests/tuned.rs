@@ -22,12 +22,15 @@ fn lent(state: &[u8]) -> Lent {
     Lent { state: state.to_vec(), memory, buffer: [9; COMPLETION_BYTES] }
 }
 
-/// Thin, full, and full with unread completions, of regions of each kind.
+/// Thin, full, full with unread completions, and both with queued sends, of regions of each kind.
 fn states() -> Vec<Vec<u8>> {
     let states = [Regions::Adjacent, Regions::Paged].map(|regions| {
         let mut unread = fixture::full(regions);
         fixture::fill_queues(&mut unread);
-        [fixture::thin(regions), fixture::full(regions), unread]
+        let (mut thin, mut full) = (fixture::thin(regions), fixture::full(regions));
+        fixture::fill_sends(&mut thin);
+        fixture::fill_sends(&mut full);
+        [fixture::thin(regions), fixture::full(regions), unread, thin, full]
     });
     states.concat()
 }
@@ -59,7 +62,7 @@ fn tuned_engine_writes_as_the_reference() {
         }
         let done = same(&mut lent(&state), |card, lent| write(card, lent, 0, &fixture::write(64, 1)));
         let free = state[queue_row(0) + QUEUE_COUNT] < state[queue_row(0) + QUEUE_PLACES];
-        assert_eq!(done == Outcome::DONE, free);
+        assert_eq!(done == Outcome::DONE, free && state[sends_row(0) + SENDS_COUNT] == 0);
         for record in [fixture::write(4096, 4), fixture::inline_write(64), vec![0; 592], vec![0; 576], vec![]] {
             same(&mut lent(&state), |card, lent| write(card, lent, 0, &record));
         }
@@ -84,6 +87,51 @@ fn tuned_engine_follows_every_byte_of_a_write() {
     }
 }
 
+fn enqueue(card: &dyn Card, lent: &mut Lent, qpn: u32, record: &[u8]) -> Outcome {
+    card.enqueue(&mut lent.state, &lent.memory, qpn, record)
+}
+
+fn turn(card: &dyn Card, lent: &mut Lent) -> Outcome {
+    card.turn(&mut lent.state, &mut lent.memory)
+}
+
+/// Until the queues are full, and until they are empty; records of every kind, and with each byte that tells changed.
+#[test]
+fn tuned_engine_queues_and_takes_turns_as_the_reference() {
+    for state in states() {
+        let mut lent = lent(&state);
+        let records = [
+            fixture::write(64, 1),
+            fixture::write(4096, 4),
+            fixture::inline_write(512),
+            fixture::write(4097, 1),
+            vec![0; 576],
+            vec![0; 592],
+            vec![],
+        ];
+        for n in 0..100 {
+            let record = &records[if n < 90 { n % 2 } else { n % records.len() }];
+            same(&mut lent, |card, lent| enqueue(card, lent, n as u32 % 9, record));
+            if n % 3 == 0 {
+                same(&mut lent, turn);
+            }
+        }
+        while same(&mut lent, turn) != reference::Refusal::Nothing.into() {}
+        same(&mut lent, |card, lent| card.turn(&mut lent.state, &mut lent.memory[1..]));
+        same(&mut lent, |card, lent| card.enqueue(&mut lent.state, &lent.memory[1..], 0, &records[0]));
+    }
+    let record = fixture::write(64, 1);
+    let base = lent(&fixture::thin(Regions::Adjacent));
+    for at in (0..48).chain(556..record.len()) {
+        for value in VALUES {
+            let (mut record, mut lent) = (record.clone(), base.clone());
+            record[at] = value;
+            same(&mut lent, |card, lent| enqueue(card, lent, 0, &record));
+            same(&mut lent, turn);
+        }
+    }
+}
+
 #[test]
 fn tuned_engine_polls_as_the_reference() {
     for state in states() {
@@ -96,12 +144,20 @@ fn tuned_engine_polls_as_the_reference() {
     }
 }
 
-/// The bytes to change: all of a state whose regions are of adjacent bytes, but few of the page numbers that nobody looks at; the regions' of
-/// one whose regions lie over pages, and few others.
+/// The bytes to change: all of a state whose regions are of adjacent bytes, but few of those that nobody looks at, page numbers and places of queues;
+/// the regions' of one whose regions lie over pages, and few others; with queued sends the turn place and the pairs', and few others.
 fn changed(state: &[u8], at: usize) -> bool {
     let paged = state[region_row(0) + REGION_KIND] == PAGED;
+    let queued = state[sends_row(0) + SENDS_COUNT] != 0;
     let numbers = (PAGE_ROWS..PAIR_FLAGS).contains(&at);
-    at % 61 == 0 || if paged { (REGION_FLAGS..PAGE_ROWS).contains(&at) || numbers && at % 5 == 0 } else { !numbers }
+    match at {
+        RECORD_ROWS.. => at % 977 == 0,
+        _ if at % 61 == 0 || at == TURN => true,
+        _ if queued => at >= PAIR_FLAGS && (at < RECEIVE_ROWS || at >= SENDS_ROWS),
+        KIND_ROWS.. => false,
+        _ if paged => (REGION_FLAGS..PAGE_ROWS).contains(&at) || numbers && at % 5 == 0,
+        _ => !numbers,
+    }
 }
 
 #[test]
@@ -129,6 +185,10 @@ fn tuned_engine_accepts_as_the_reference() {
                 lent.state[at] = value;
                 let outcome = same_in_place(&mut lent, |card, lent| write(card, lent, 0, &record));
                 same_in_place(&mut lent, |card, lent| poll(card, lent, 1));
+                if (PAIR_FLAGS..RECORD_ROWS).contains(&at) || at == TURN {
+                    same_in_place(&mut lent, |card, lent| enqueue(card, lent, 1, &record));
+                    same_in_place(&mut lent, turn);
+                }
                 if outcome.answer == reference::Refusal::BadState as u8 {
                     refused += 1;
                 } else {

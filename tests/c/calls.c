@@ -1,5 +1,5 @@
 /* Each function of the header, called from C: receives wait, their queue pair fails, and they are flushed one by one; what is posted then
- * is flushed at once; a message goes from one region over pages to another. A call that gives anything else than this file expects is a
+ * is flushed at once; a message goes from one region over pages to another; sends are queued, and turns run them. A call that gives anything else than this file expects is a
  * line; the exit status is then 1. */
 #include "lesungkap.h"
 
@@ -287,6 +287,65 @@ static void page_lists(void)
     expect(paged[PAGED_BYTES] == PAGED_BYTES % 251, "a byte past the memory");
 }
 
+/* ---- queues and turns, on the card of the page lists */
+
+/* A write of no bytes, or a send, which takes a receive. */
+static uint32_t enqueue(uint32_t qpn, uint8_t opcode, size_t length, size_t memory_len)
+{
+    uint8_t record[LESUNGKAP_SEND_MOST_BYTES] = {0};
+    record[LESUNGKAP_SEND_OPCODE_AT] = opcode;
+    return lesungkap_enqueue(state, LESUNGKAP_STATE_BYTES, paged, memory_len, qpn, record, length);
+}
+
+static uint32_t turn(void) { return lesungkap_turn(state, LESUNGKAP_STATE_BYTES, paged, PAGED_BYTES); }
+
+/* The queue pair that is visited next, and how many sends are queued on each of the two. */
+static void expect_queues(uint32_t next, unsigned first, unsigned second, const char *what)
+{
+    struct lesungkap_qp qps[2] = {{0}, {0}};
+    uint32_t visited = 99;
+    expect(lesungkap_peek_turn(state, LESUNGKAP_STATE_BYTES, &visited) == LESUNGKAP_DONE && visited == next, what);
+    for (uint32_t qpn = 0; qpn < 2; qpn++) {
+        expect(lesungkap_peek_qp(state, LESUNGKAP_STATE_BYTES, qpn, &qps[qpn]) == LESUNGKAP_DONE, what);
+    }
+    expect(qps[0].queued == first && qps[1].queued == second, what);
+}
+
+static void queues_and_turns(void)
+{
+    const size_t whole = LESUNGKAP_SEND_BYTES;
+    struct lesungkap_send oldest;
+    uint8_t record[LESUNGKAP_SEND_BYTES] = {0};
+    expect(turn() == LESUNGKAP_NOTHING, "a turn without a queued send");
+    expect(enqueue(PAIR, LESUNGKAP_WRITE, whole, PAGED_BYTES - 1) == LESUNGKAP_MEMORY_LENGTH, "an enqueue with another memory");
+    expect(enqueue(PAIR, LESUNGKAP_WRITE, whole - 1, PAGED_BYTES) == LESUNGKAP_RECORD_LENGTH, "an enqueue of too short a record");
+    expect(enqueue(PAIR, 5, whole, PAGED_BYTES) == LESUNGKAP_BAD_FIELD, "an enqueue of opcode 5");
+    expect(enqueue(2, LESUNGKAP_WRITE, whole, PAGED_BYTES) == LESUNGKAP_NOT_LIVE, "an enqueue on no queue pair");
+    for (int n = 0; n < LESUNGKAP_QP_MOST_SENDS; n++) {
+        expect(enqueue(PAIR, n == 1 ? LESUNGKAP_SEND : LESUNGKAP_WRITE, whole, PAGED_BYTES) == LESUNGKAP_DONE, "an enqueue");
+    }
+    expect(enqueue(PAIR, LESUNGKAP_WRITE, whole, PAGED_BYTES) == LESUNGKAP_FULL, "a ninth send");
+    expect(enqueue(1, LESUNGKAP_WRITE, whole, PAGED_BYTES) == LESUNGKAP_DONE, "an enqueue on the other queue pair");
+    expect(lesungkap_post_send(state, LESUNGKAP_STATE_BYTES, paged, PAGED_BYTES, PAIR, record, whole) == LESUNGKAP_IN_USE, "a direct send");
+    expect_queues(0, 8, 1, "full queues");
+    expect(lesungkap_peek_send(state, LESUNGKAP_STATE_BYTES, PAIR, 1, &oldest) == LESUNGKAP_DONE && oldest.opcode == LESUNGKAP_SEND,
+           "the second send");
+    expect(lesungkap_peek_send(state, LESUNGKAP_STATE_BYTES, 1, 1, &oldest) == LESUNGKAP_NOTHING, "a send that isn't queued");
+    expect(turn() == LESUNGKAP_DONE, "a turn of the first queue pair");
+    expect_queues(1, 7, 1, "queues after a turn");
+    const uint32_t second = turn();
+    expect(lesungkap_answer(second) == LESUNGKAP_DONE && lesungkap_status(second) == LESUNGKAP_SUCCESS && lesungkap_served(second) == 1 &&
+               second >> 24 == 0, "a turn of the second");
+    expect(turn() == LESUNGKAP_NOTHING, "a turn where the oldest is held");
+    expect_queues(2, 7, 0, "queues that stay");
+    expect(lesungkap_turn(state, LESUNGKAP_STATE_BYTES, paged, PAGED_BYTES - 1) == LESUNGKAP_MEMORY_LENGTH, "a turn with another memory");
+    expect(move_to(LESUNGKAP_QP_ERROR) == LESUNGKAP_DONE && turn() == LESUNGKAP_FLUSHED << 8, "a turn that flushes");
+    expect(move_to(LESUNGKAP_QP_RESET) == LESUNGKAP_DONE && turn() == LESUNGKAP_NOTHING, "a queue that is dropped");
+    expect_queues(1, 0, 0, "empty queues");
+    state[LESUNGKAP_STATE_TURN_AT] = LESUNGKAP_QP_COUNT;
+    expect(turn() == LESUNGKAP_BAD_STATE && enqueue(PAIR, LESUNGKAP_WRITE, whole, PAGED_BYTES) == LESUNGKAP_BAD_STATE, "a turn place past the table");
+}
+
 int main(void)
 {
     resets();
@@ -294,5 +353,6 @@ int main(void)
     flushes();
     posted_in_error();
     page_lists();
+    queues_and_turns();
     return faults != 0;
 }

@@ -25,7 +25,7 @@ static uint8_t *random_bytes(size_t length)
 
 #define TRY(call) (peeked += (call) == LESUNGKAP_DONE)
 
-static unsigned peeked;
+static unsigned peeked, sends, inline_sum;
 
 /* Bytes of a record of this length that are likely to be read. */
 static void shape_command(uint8_t *bytes, size_t length, uint8_t command)
@@ -93,6 +93,19 @@ RECORD(register_mr_ack, LESUNGKAP_KEYS_ACK_BYTES, shape_ack(bytes, length))
 RECORD(query_device_ack, LESUNGKAP_DEVICE_ACK_BYTES, shape_ack(bytes, length))
 RECORD(query_port_ack, LESUNGKAP_PORT_ACK_BYTES, shape_ack(bytes, length))
 
+/* Queue pairs that are likely to be live, and queued sends that are likely to be read. */
+static void shape_queues(uint8_t *state, size_t length)
+{
+    for (size_t n = 0; length == LESUNGKAP_STATE_BYTES && n < LESUNGKAP_QP_COUNT * LESUNGKAP_QP_MOST_SENDS; n++) {
+        uint8_t *kind = state + LESUNGKAP_STATE_KINDS_AT + LESUNGKAP_STATE_KIND_ROW * n;
+        if (word() % 2) {
+            lesungkap_put_le_(kind + LESUNGKAP_STATE_KIND_COUNT_AT, 2,
+                              kind[LESUNGKAP_STATE_KIND_FLAGS_AT] & LESUNGKAP_FLAG_INLINE ? word() % 514 : word() % 6);
+        }
+        state[LESUNGKAP_STATE_QP_LIVE_AT + n % LESUNGKAP_QP_COUNT] = word() % 4 != 0;
+    }
+}
+
 static void try_state(void)
 {
     struct lesungkap_cq cq;
@@ -100,9 +113,12 @@ static void try_state(void)
     struct lesungkap_qp qp;
     struct lesungkap_completion completion;
     struct lesungkap_receive receive;
+    struct lesungkap_send send;
+    uint32_t next;
     uint64_t memory, page;
     size_t length = word() % 8 ? LESUNGKAP_STATE_BYTES : word() % (2 * LESUNGKAP_STATE_BYTES);
     uint8_t *state = random_bytes(length);
+    shape_queues(state, length);
     for (int n = 0; n < 100; n++) {
         uint32_t number = (uint32_t)(word() % 4 ? word() % (LESUNGKAP_MR_COUNT + 2) : word());
         uint32_t index = (uint32_t)(word() % 4 ? word() % 20 : word());
@@ -114,6 +130,13 @@ static void try_state(void)
         TRY(lesungkap_peek_qp(state, length, number, &qp));
         TRY(lesungkap_peek_completion(state, length, number, index, &completion));
         TRY(lesungkap_peek_receive(state, length, number, index, &receive));
+        TRY(lesungkap_peek_turn(state, length, &next));
+        if (lesungkap_peek_send(state, length, number % 10, index, &send) == LESUNGKAP_DONE) {
+            sends++;
+            for (uint32_t k = 0; send.inline_bytes != NULL && k < send.count; k++) {
+                inline_sum += send.inline_bytes[k];
+            }
+        }
     }
     free(state);
 }
@@ -134,6 +157,6 @@ int main(void)
         try_state();
     }
     EACH(SHOW)
-    printf("%6u  peeks\n", peeked);
-    return few || peeked < 1000;
+    printf("%6u  peeks\n%6u  queued sends\n", peeked, sends);
+    return few || peeked < 1000 || sends < 200 || inline_sum == 0;
 }

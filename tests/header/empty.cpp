@@ -46,6 +46,12 @@ int main()
     expect(LESUNGKAP_MEMORY_LENGTH, lesungkap_post_send(state.data(), state.size(), none.data(), 0, 0, none.data(), 0), "no memory");
     expect(LESUNGKAP_RECORD_LENGTH,
            lesungkap_post_send(state.data(), state.size(), memory.data(), memory.size(), 0, none.data(), 0), "no send record");
+    expect(LESUNGKAP_BAD_STATE, lesungkap_enqueue(nullptr, 0, nullptr, 0, 0, nullptr, 0), "enqueue of nothing");
+    expect(LESUNGKAP_MEMORY_LENGTH, lesungkap_enqueue(state.data(), state.size(), none.data(), 0, 0, none.data(), 0), "enqueue without memory");
+    expect(LESUNGKAP_RECORD_LENGTH,
+           lesungkap_enqueue(state.data(), state.size(), memory.data(), memory.size(), 0, none.data(), 0), "enqueue of no send record");
+    expect(LESUNGKAP_BAD_STATE, lesungkap_turn(nullptr, 0, nullptr, 0), "turn of nothing");
+    expect(LESUNGKAP_MEMORY_LENGTH, lesungkap_turn(state.data(), state.size(), none.data(), 0), "turn without memory");
     expect(LESUNGKAP_BAD_STATE, lesungkap_post_receive(nullptr, 0, 0, nullptr, 0), "post receive of nothing");
     expect(LESUNGKAP_RECORD_LENGTH, lesungkap_post_receive(state.data(), state.size(), 0, none.data(), 0), "no receive record");
     expect(LESUNGKAP_BAD_STATE, lesungkap_flush(none.data(), none.size(), 0), "flush of nothing");

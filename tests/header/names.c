@@ -40,5 +40,6 @@ int main(void)
         expect(is_own(lesungkap_qp_state_text, n) == (n < 4 || n == 6), "text of state", n);
     }
     expect(lesungkap_answer(0x0805) == 5 && lesungkap_status(0x0805) == 8, "parts of the result", 0x0805);
+    expect(lesungkap_answer(0x070300) == 0 && lesungkap_status(0x070300) == 3 && lesungkap_served(0x070300) == 7, "parts of the result", 0x070300);
     return faults != 0;
 }

@@ -42,6 +42,7 @@ OBJECT(mr)
 OBJECT(qp)
 RING(completion)
 RING(receive)
+RING(send)
 
 size_t wrap_put_query_device(uint8_t *bytes, size_t length) { return lesungkap_put_query_device(bytes, length); }
 unsigned wrap_get_query_device(const uint8_t *bytes, size_t length) { return lesungkap_get_query_device(bytes, length); }
@@ -55,4 +56,5 @@ unsigned wrap_get_ack(const uint8_t *bytes, size_t length) { return lesungkap_ge
 unsigned wrap_peek_pd(const uint8_t *state, size_t length, uint32_t pdn) { return lesungkap_peek_pd(state, length, pdn); }
 unsigned wrap_peek_page(const uint8_t *state, size_t length, uint32_t mrn, uint32_t index, uint64_t *page)
 { return lesungkap_peek_page(state, length, mrn, index, page); }
+unsigned wrap_peek_turn(const uint8_t *state, size_t length, uint32_t *qpn) { return lesungkap_peek_turn(state, length, qpn); }
 unsigned wrap_peek_memory(const uint8_t *state, size_t length, uint64_t *memory) { return lesungkap_peek_memory(state, length, memory); }

@@ -7,7 +7,7 @@ use std::fs;
 use std::path::Path;
 
 /// The files of the reference that an edit may change, each with the calls that it makes public.
-const FILES: [(&str, &[&str]); 10] = [
+const FILES: [(&str, &[&str]); 11] = [
     ("accept", &[]),
     ("answer", &[]),
     ("card", &[]),
@@ -18,6 +18,7 @@ const FILES: [(&str, &[&str]); 10] = [
     ("queues", &["reset", "post_receive", "flush", "poll"]),
     ("record", &[]),
     ("send", &["post_send"]),
+    ("turns", &["enqueue", "turn"]),
 ];
 
 type Sources = BTreeMap<&'static str, String>;

@@ -186,6 +186,47 @@ static void refused_pages(void)
     odd++;
 }
 
+/* An enqueue or a turn that is refused: for its record, its queue pair or its memory. */
+static void refused_queue(void)
+{
+    static uint8_t send[LESUNGKAP_SEND_BYTES];
+    const int is_turn = below(2) == 0;
+    const uint32_t result =
+        is_turn ? lesungkap_recorded_turn(&files, state, sizeof state, memory, sizeof memory - below(2))
+                : lesungkap_recorded_enqueue(&files, state, sizeof state, memory, sizeof memory - below(2), 8, send, sizeof send - below(2));
+    expect(result != LESUNGKAP_DONE, "an enqueue or a turn that can't be done");
+    odd++;
+}
+
+/* An enqueue that is done ends the tapes of its recorder, and so does a turn. */
+static void queues_end_the_tapes(void)
+{
+    static uint8_t other[LESUNGKAP_STATE_BYTES], bytes[4][1000], send[LESUNGKAP_SEND_BYTES];
+    const struct lesungkap_create_cq cq = {2};
+    const struct lesungkap_create_qp qp = {0, LESUNGKAP_QP_TYPE_RC, 0, 0, 0};
+    const struct lesungkap_modify_qp failed = {0, LESUNGKAP_MASK_STATE, LESUNGKAP_QP_ERROR, {0}, 0, 0};
+    struct lesungkap_recorder first = lesungkap_record_to_buffers(bytes[0], 1000, bytes[1], 1000);
+    expect(lesungkap_reset(other, sizeof other, sizeof memory) == LESUNGKAP_DONE, "a reset");
+    for (int n = 0; n < 4; n++) {
+        const size_t length = n == 0   ? lesungkap_put_create_pd(record, sizeof record)
+                              : n == 1 ? lesungkap_put_create_cq(record, sizeof record, &cq)
+                              : n == 2 ? lesungkap_put_create_qp(record, sizeof record, &qp)
+                                       : lesungkap_put_modify_qp(record, sizeof record, &failed);
+        expect(lesungkap_recorded_control(&first, other, sizeof other, record, length, ack, sizeof ack) == LESUNGKAP_DONE, "a queue pair in error");
+    }
+    struct lesungkap_recorder second = lesungkap_record_to_buffers(bytes[2], 1000, bytes[3], 1000);
+    expect(lesungkap_recorded_turn(&first, other, sizeof other, memory, sizeof memory) == LESUNGKAP_NOTHING, "a turn of nothing");
+    expect(lesungkap_recorded_enqueue(&first, other, sizeof other, memory, sizeof memory, 0, send, 1) == LESUNGKAP_RECORD_LENGTH, "no record");
+    expect(first.left_out == 2 && !first.failed && first.recorded == 4, "a refused enqueue and a refused turn left out");
+    expect(lesungkap_recorded_enqueue(&first, other, sizeof other, memory, sizeof memory, 0, send, sizeof send) == LESUNGKAP_DONE, "an enqueue");
+    expect(lesungkap_recorded_flush(&first, other, sizeof other, 0) == LESUNGKAP_NOTHING, "a call after it");
+    expect(first.failed && first.recorded == 4 && first.left_out == 2 && records_of(&first.calls) == 4 && records_of(&first.answers) == 4,
+           "tapes that end with an enqueue");
+    expect(lesungkap_recorded_turn(&second, other, sizeof other, memory, sizeof memory) == LESUNGKAP_FLUSHED << 8, "a turn");
+    expect(lesungkap_recorded_flush(&second, other, sizeof other, 0) == LESUNGKAP_NOTHING, "a call after it");
+    expect(second.failed && second.recorded == 0 && second.left_out == 0, "tapes that end with a turn");
+}
+
 /* A page list that is done ends the tapes of its recorder, and no call after it is recorded. */
 static void ends_the_tapes(void)
 {
@@ -221,7 +262,7 @@ static void one_call(void)
     case 8: post_send(); break;
     case 9:
     case 10: post_receive(); break;
-    case 11: below(20) ? flush() : refused_pages(); break;
+    case 11: below(10) ? flush() : below(2) ? refused_pages() : refused_queue(); break;
     default: poll(); break;
     }
 }
@@ -257,6 +298,7 @@ int main(int count, char **words)
         }
     }
     ends_the_tapes();
+    queues_end_the_tapes();
     expect(fclose(calls) == 0 && fclose(answers) == 0 && fclose(states) == 0, "a file that can't be written");
     expect(!files.failed && !buffers.failed && files.recorded == buffers.recorded, "a record that was lost");
     expect(files.left_out == odd && odd > 100, "calls left out");

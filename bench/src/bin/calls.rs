@@ -1,9 +1,9 @@
-//! Times the calls of the proved library (libengine.a) against the reference: unsignaled writes and polls that succeed.
+//! Times the calls of the proved library (libengine.a) against the reference: unsignaled writes, enqueues, turns and polls that succeed.
 //!
 //! usage: calls [CALLS]
 
 use bench::fixture::Regions;
-use bench::work::{polls, writes};
+use bench::work::{enqueues, polls, turns, writes};
 use bench::{compare, fixture, heading};
 use cards::{proved, Card, Reference};
 
@@ -22,10 +22,15 @@ fn main() {
             let (ours, theirs) = (writes(first, &state, &record), writes(&Reference, &state, &record));
             compare(&format!("write {name}, {tables}"), calls, ours, theirs);
         }
+        let mut queued = state.clone();
+        fixture::fill_sends(&mut queued);
+        compare(&format!("enqueue, {tables}"), calls, enqueues(first, &state), enqueues(&Reference, &state));
+        compare(&format!("turn of 64 bytes, {tables}"), calls, turns(first, &queued), turns(&Reference, &queued));
         let mut unread = state;
         fixture::fill_queues(&mut unread);
         compare(&format!("poll, {tables}"), calls, polls(first, &unread), polls(&Reference, &unread));
     }
     println!("Lent buffers are made once and never cleared in the timing. The reference copies one piece, and inline bytes, in place and");
-    println!("clears a staging array of 4,096 bytes only for several pieces. Refilling the queues before polls isn't timed.");
+    println!("clears a staging array of 4,096 bytes only for several pieces. Refilling the queues before polls and turns,");
+    println!("and emptying them before enqueues, isn't timed.");
 }

@@ -14,10 +14,13 @@ fn main() {
     heading(first.name(), Reference.name());
     let mut unread = fixture::full(Regions::Adjacent);
     fixture::fill_queues(&mut unread);
+    let mut queued = fixture::full(Regions::Adjacent);
+    fixture::fill_sends(&mut queued);
     for (name, state) in [
         ("thin tables", fixture::thin(Regions::Adjacent)),
         ("full tables", fixture::full(Regions::Adjacent)),
         ("full tables, 128 unread", unread),
+        ("full tables, 64 queued", queued),
     ] {
         compare(&format!("state test, {name}"), calls, state_tests(first, &state), state_tests(&Reference, &state));
     }

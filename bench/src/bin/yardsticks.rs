@@ -1,5 +1,5 @@
 //! Times the proved library (libengine.a) against both yardsticks in one run, for the figures that document 02 asks for in M-107: unsignaled writes of 64 and
-//! 4,096 bytes with status 0, and polls answered 0; and the state test alone, which also stands against a 4,096-byte copy. All of it with regions of adjacent
+//! 4,096 bytes with status 0, and polls answered 0; enqueues and turns of 64 bytes; and the state test alone, which also stands against a 4,096-byte copy. All of it with regions of adjacent
 //! bytes, and with regions over 16 pages each. The yardsticks are the reference and the tuned engine. A call that is not answered as it should be ends the run.
 //! Of 100,000 calls and more, work that takes above twice the reference's time is named on standard error, and the exit status is 1.
 //!
@@ -28,7 +28,7 @@ fn main() -> ExitCode {
             slow.extend(lines(calls, cards, regions, tables, &state));
         }
     }
-    println!("Lent buffers are made once and never cleared in the timing; refilling the queues before polls isn't timed.");
+    println!("Lent buffers are made once and never cleared in the timing; refilling or emptying queues before polls, turns and enqueues isn't timed.");
     if calls < LEAST_JUDGED || slow.is_empty() {
         return ExitCode::SUCCESS;
     }
@@ -42,8 +42,11 @@ fn lines(calls: u32, cards: [&dyn Card; 3], regions: Regions, tables: &str, stat
     let mut unread = state.to_vec();
     fixture::fill_queues(&mut unread);
     let mut slow = vec![state_line(format!("state test, {tables}{pages}"), calls, cards, state)];
+    let mut queued = state.to_vec();
+    fixture::fill_sends(&mut queued);
     if tables == "full" {
         slow.push(state_line(format!("state test, full, 128 unread{pages}"), calls, cards, &unread));
+        slow.push(state_line(format!("state test, full, 64 queued{pages}"), calls, cards, &queued));
     }
     let mut records = vec![("64 bytes", fixture::write(64, 1)), ("4,096 bytes", fixture::write(4096, 1))];
     if regions == Regions::Paged {
@@ -52,6 +55,8 @@ fn lines(calls: u32, cards: [&dyn Card; 3], regions: Regions, tables: &str, stat
     for (name, record) in records {
         slow.push(line(format!("write {name}, {tables}{pages}"), calls, cards.map(|card| work::writes(card, state, &record))));
     }
+    slow.push(line(format!("enqueue, {tables}{pages}"), calls, cards.map(|card| work::enqueues(card, state))));
+    slow.push(line(format!("turn of 64 bytes, {tables}{pages}"), calls, cards.map(|card| work::turns(card, &queued))));
     slow.push(line(format!("poll, {tables}{pages}"), calls, cards.map(|card| work::polls(card, &unread))));
     slow.into_iter().flatten().collect()
 }

@@ -1,16 +1,16 @@
 //! The test of answer 15. Flags and rows are read as words; eight live regions of one kind pass by a test that is enough for them, and where it
-//! fails each is tested by itself. Sixteen page numbers of a region are tested together, and where that fails those that it needs.
+//! fails each is tested by itself. Sixteen page numbers of a region are tested together, and where that fails those that it needs; so are the
+//! eight places of a queue.
 
 use super::{byte, get32, get64, part, State};
 use reference::layout::*;
+use reference::record::{INLINE, READ};
 
 /// Eight flags that are all 1.
 const ONES: u64 = 0x0101_0101_0101_0101;
 
 type Ring = [u8; MOST_PLACES * COMPLETION_BYTES];
 
-const REGION_ROW: usize = region_row(1) - region_row(0);
-const RECEIVE_ROW: usize = receive_row(0, 1) - receive_row(0, 0);
 const PAGE_NUMBERS: usize = MOST_PAGES * PAGE_ROW;
 
 /// The bits that access, domain and kind of a region can't have.
@@ -37,7 +37,7 @@ pub fn accepts(state: &State) -> bool {
     let domains = get64(state, DOMAIN_FLAGS);
     let queues = get64(state, QUEUE_FLAGS);
     let pairs = get64(state, PAIR_FLAGS);
-    if memory.wrapping_sub(1) >= MOST_MEMORY || (domains | queues | pairs) & !ONES != 0 {
+    if memory.wrapping_sub(1) >= MOST_MEMORY || state[TURN] >= PAIRS as u8 || (domains | queues | pairs) & !ONES != 0 {
         return false;
     }
     queues_ok(state, queues) && regions_ok(state, memory, domains == ONES) && pairs_ok(state, pairs, domains & queues == ONES)
@@ -235,6 +235,7 @@ fn pair_ok(state: &State, number: usize, all_named: bool) -> bool {
         && destination <= NO_DESTINATION.into()
         && destination != number as u64
         && receives_ok(state, number)
+        && sends_ok(state, number, pair >> (8 * PAIR_STATE) & 7)
 }
 
 /// The domain and the queues of a pair whose numbers are in their tables.
@@ -262,4 +263,49 @@ fn receives_ok(state: &State, number: usize) -> bool {
         }
     }
     true
+}
+
+// ---- queued sends
+
+/// States with a queue as a set of bits.
+const QUEUING: u64 = 1 << READY_TO_SEND | 1 << ERROR;
+
+#[inline(always)]
+fn sends_ok(state: &State, number: usize, phase: u64) -> bool {
+    let row = sends_row(number);
+    let (first, count) = (state[row + SENDS_FIRST], state[row + SENDS_COUNT]);
+    if count == 0 {
+        return first < MOST_QUEUED as u8;
+    }
+    first < MOST_QUEUED as u8
+        && count <= MOST_QUEUED as u8
+        && QUEUING >> phase & 1 == 1
+        && (all_places_ok(state, number) || held_ok(state, number, first, count))
+}
+
+/// Enough for all eight places: requests without inline bytes.
+#[inline(always)]
+fn all_places_ok(state: &State, number: usize) -> bool {
+    let kinds: &[u8; MOST_QUEUED * KIND_ROW] = part(state, kind_row(number, 0));
+    let mut outside = 0;
+    for place in 0..MOST_QUEUED {
+        let kind = get32(kinds, place * KIND_ROW);
+        // opcode up to 3 and no inline flag; a count up to 3, of pieces
+        outside |= kind & 0xfffc_f8fc;
+    }
+    outside == 0
+}
+
+#[inline(never)]
+fn held_ok(state: &State, number: usize, first: u8, count: u8) -> bool {
+    (0..count).all(|n| kind_ok(get32(state, kind_row(number, usize::from(first + n)))))
+}
+
+/// Opcode, flags and count of a request that post send takes.
+#[inline(always)]
+pub(super) fn kind_ok(kind: u32) -> bool {
+    let (opcode, flags, count) = (byte(kind, KIND_OPCODE), byte(kind, KIND_FLAGS), kind >> (8 * KIND_COUNT));
+    let inline = flags & u32::from(INLINE) != 0;
+    let most = if inline { MOST_INLINE } else { MOST_PIECES };
+    opcode <= READ.into() && flags < 2 * u32::from(INLINE) && !(inline && opcode == READ.into()) && count <= most as u32
 }

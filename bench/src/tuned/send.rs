@@ -6,7 +6,7 @@ use reference::record::*;
 use reference::Outcome;
 
 /// A record with one piece.
-const ONE_PIECE: usize = SEND_BYTES + PIECE_BYTES;
+pub(super) const ONE_PIECE: usize = SEND_BYTES + PIECE_BYTES;
 
 pub fn post_send(state: &mut [u8], memory: &mut [u8], qpn: u32, record: &[u8]) -> Outcome {
     if quick_write(state, memory, qpn, record).is_some() {
@@ -29,11 +29,26 @@ fn quick_write(state: &[u8], memory: &mut [u8], qpn: u32, record: &[u8]) -> Opti
         return None;
     }
     let record: &[u8; ONE_PIECE] = record.try_into().ok()?;
-    let silent = record[8] == WRITE && record[9] & !(FENCE | SOLICITED) == 0;
-    if memory.len() as u64 != get64(state, MEMORY_LENGTH) || !silent || get32(record, COUNT_AT) != 1 {
+    let number = qpn as usize;
+    if memory.len() as u64 != get64(state, MEMORY_LENGTH) || number >= PAIRS || get32(record, COUNT_AT) != 1 {
         return None;
     }
-    let (own, far) = ends(state, qpn as usize)?;
+    if !is_silent(record[OPCODE_AT], record[FLAGS_AT]) || state[sends_row(number) + SENDS_COUNT] != 0 {
+        return None;
+    }
+    write_one_piece(state, memory, number, record)
+}
+
+/// Whether a request is a write without a completion of its success.
+#[inline(always)]
+pub(super) fn is_silent(opcode: u8, flags: u8) -> bool {
+    opcode == WRITE && flags & !(FENCE | SOLICITED) == 0
+}
+
+/// Such a write of one piece done, or nothing done.
+#[inline(always)]
+pub(super) fn write_one_piece(state: &State, memory: &mut [u8], number: usize, record: &[u8; ONE_PIECE]) -> Option<()> {
+    let (own, far) = ends(state, number)?;
     let piece = Piece { address: get64(record, 576), length: get32(record, 584), key: get32(record, 588) };
     let length = piece.length as usize;
     if length.wrapping_sub(1) >= MOST_MESSAGE {

@@ -16,18 +16,20 @@ use Rattle.tables.specs.Card.{fresh, receiveOf}
 use Rattle.tables.specs.Commands.{commandOf, dataSize, numberCodec, registerCodec, createQpCodec, modifyQpCodec, ackNeed}
 use Rattle.tables.specs.Records.{sendCodec, sgeCodec, receiveCodec, sendChecks, receiveChecks, receiveSges, sendSge, inlineBytes, inlineLength, completionCodec}
 use Rattle.rules.specs.Lists.{stored}
-use Rattle.rules.specs.Touch.{requestOf, receiveIn, range, sgeBytes, sgeTotal, total, ownBytes, farBytes, byteIn, byteOf, message, delivered}
+use Rattle.rules.specs.Touch.{receiveIn, range, sgeBytes, sgeTotal, total, ownBytes, farBytes, byteIn, byteOf, message, delivered}
+use Rattle.tables.specs.Records.{requestOf}
 use Rattle.rules.specs.Pages.{pageRecordChecks, pageListChecks}
 use Rattle.rules.specs.Permit.{permits, permitsAll, place, lookup, covers}
 use Rattle.rules.specs.Control.{commandChecks, commandAck, commandEffect}
-use Rattle.rules.specs.Send.{pairChecks, readyChecks, placeChecks, holdChecks, deliveryChecks, runStatus, sendStatus, sendPuts, putAll, sendQps, sendEffect, sendMemory}
+use Rattle.rules.specs.Send.{pairChecks, readyChecks, placeChecks, holdChecks, queueChecks, deliveryChecks, runStatus, sendStatus, sendPuts, putAll, sendQps, sendEffect, sendMemory}
 use Rattle.rules.specs.Queues.{joinChecks, joinStatus, joinPuts, joined, received, flushChecks, flushed, pollChecks, polled}
+use Rattle.rules.specs.Turn.{passedOver, runnable, served, enqueueChecks, enqueued, turnChecks, headGone, turnEffect}
 use Rattle.rules.specs.Call.{Call}
 use Rattle.rules.specs.Contract.{bytesAfter}
 use Rattle.rules.specs.declared.Answer.the-variants.{Done}
-use Rattle.rules.specs.Calls.{checks, resetChecks, controlChecks, bufferChecks, statusOf, effect, memoryAfter, bufferAfter, step}
-use Rattle.judge.specs.Log.{fed, ackData}
-use Rattle.judge.specs.Judge.{judge, nearPasses, farPasses, near, far, passes, filled, waiting, standing, told, toldOfBoth, domain, peer, accepted, consumed, errored, rights}
+use Rattle.rules.specs.Calls.{checks, memoryChecks, resetChecks, controlChecks, bufferChecks, statusOf, valueOf, effect, memoryAfter, bufferAfter, step}
+use Rattle.judge.specs.Log.{fed, ackData, told, enqueuedOn, turnsOn, queued}
+use Rattle.judge.specs.Judge.{judge, nearPasses, farPasses, near, far, passes, filled, waiting, standing, toldOfBoth, domain, peer, accepted, consumed, errored, rights}
 use Rattle.judge.specs.Demand3.{Begins, AfterReset}
 use Rattle.judge.specs.Whole.{FromC}
 use Rattle.judge.proofs.Whole.{exported}
@@ -40,7 +42,7 @@ abbrev callsOf : List Line → List Call
 callsOf ls = map (λ (x : Line). x .call) ls
 
 computed : lines [] (exchanges (fresh 8) (callsOf run)) ≡ run
-unfolding exchanges lines fieldsAt putFields leAt putLe rows rowsFrom lowest lowestFrom anyBelow commandOf dataSize ackNeed numberCodec registerCodec createQpCodec modifyQpCodec sendCodec sgeCodec receiveCodec completionCodec sendChecks receiveChecks receiveSges receiveOf sendSge inlineBytes inlineLength pagesNeeded pageRecordChecks pageListChecks all stored requestOf receiveIn range sgeBytes sgeTotal total ownBytes farBytes byteOf message delivered permits permitsAll place lookup covers commandChecks commandAck commandEffect pairChecks readyChecks placeChecks holdChecks deliveryChecks runStatus sendStatus sendPuts putAll sendQps sendEffect sendMemory joinChecks joinStatus joinPuts joined received flushChecks flushed pollChecks polled checks resetChecks controlChecks bufferChecks statusOf effect memoryAfter bufferAfter step fed ackData judge nearPasses farPasses near far passes filled waiting standing told toldOfBoth domain peer accepted consumed errored rights byteIn
+unfolding exchanges lines fieldsAt putFields leAt putLe rows rowsFrom lowest lowestFrom anyBelow commandOf dataSize ackNeed numberCodec registerCodec createQpCodec modifyQpCodec sendCodec sgeCodec receiveCodec completionCodec sendChecks receiveChecks receiveSges receiveOf sendSge inlineBytes inlineLength pagesNeeded pageRecordChecks pageListChecks all stored requestOf receiveIn range sgeBytes sgeTotal total ownBytes farBytes byteOf message delivered permits permitsAll place lookup covers commandChecks commandAck commandEffect pairChecks readyChecks placeChecks holdChecks queueChecks deliveryChecks runStatus sendStatus sendPuts putAll sendQps sendEffect sendMemory joinChecks joinStatus joinPuts joined received flushChecks flushed pollChecks polled checks memoryChecks enqueueChecks enqueued turnChecks passedOver runnable served headGone turnEffect resetChecks controlChecks bufferChecks statusOf valueOf effect memoryAfter bufferAfter step fed ackData enqueuedOn turnsOn queued judge nearPasses farPasses near far passes filled waiting standing told toldOfBoth domain peer accepted consumed errored rights byteIn
 computed = refl
 
 module _ (l : List ℕ) (sized : length l ≡ stateSize) where

@@ -4,7 +4,7 @@ use mathlib.Core.Path.{_≡_, refl, ap, ap₂, _∙_}
 use mathlib.Core.Bool.{Bool, true, false, cond}
 use mathlib.Core.List.{List, [], _∷_, map}
 use mathlib.Core.Option.{some}
-use Prim.Native.Nat.{ℕ}
+use Prim.Native.Nat.{ℕ, _+_, _*_}
 use lib.Dec.{eqb}
 use lib.ListN.{length}
 use borrow.Author.Tests.{eq-eqb}
@@ -28,7 +28,9 @@ use Rattle.caller.specs.Made.{made, madeAll, Lists}
 use Rattle.caller.proofs.EveryCall.{exports}
 
 pub made-from-c : (l : List ℕ) (k : Call) → FromC l (made l k)
-made-from-c l k = record { result = codeOf (owed card accepts l k .answer); tells = refl; exports = exports l k }
+made-from-c l k =
+    let o = owed card accepts l k in
+    record { result = codeOf (o .answer) + 65536 * o .value; tells = refl; names = refl; exports = exports l k }
 
 pub all-linked : Lists
 unfolding Linked madeAll
@@ -50,7 +52,7 @@ accepted-usable l k e = go (given k .whole)
 -- ---- the exchanges of calls on the card c
 
 abbrev exchangeBy : Call → Result → Exchange
-exchangeBy k r = record { call = k; answer = r .answer; memory = r .memory; buffer = r .buffer }
+exchangeBy k r = record { call = k; answer = r .answer; value = r .value; memory = r .memory; buffer = r .buffer }
 
 unfoldable pub exchanges : Card → List Call → List Exchange
 exchanges c [] = []
@@ -63,7 +65,9 @@ module _ (l : List ℕ) (c : Card) (means : card l ≡ c) (k : Call) (ok : accep
   exchange-is : exchangeOf (made l k) ≡ exchangeBy k (step c k)
   exchange-is =
       let o = owed card accepts l k in
-      ap (λ (a : Answer). record { call = k; answer = a; memory = o .memory; buffer = o .buffer }) (code-back card accepts l k) ∙ ap (exchangeBy k) step-on
+      let t = code-back card accepts l k in
+      ap₂ (λ (a : Answer) (v : ℕ). record { call = k; answer = a; value = v; memory = o .memory; buffer = o .buffer }) (t .answer) (t .value) ∙
+      ap (exchangeBy k) step-on
 
   next-means : card (bytesAfter l k) ≡ step c k .card
   next-means = exports l k .tables ∙ ap (λ (r : Result). r .card) step-on
@@ -86,7 +90,7 @@ module _ (l : List ℕ) (sized : length l ≡ stateSize) (n : ℕ) (fits : step 
   owed-done = ap (λ (r : Result). r .answer) reset-is ∙ fits
 
   pub reset-answered : made l (Call.reset n) .left .answer ≡ Done 0
-  reset-answered = code-back card accepts l (Call.reset n) ∙ owed-done
+  reset-answered = code-back card accepts l (Call.reset n) .answer ∙ owed-done
 
   pub reset-means : card (bytesAfter l (Call.reset n)) ≡ step (card l) (Call.reset n) .card
   reset-means = exports l (Call.reset n) .tables ∙ ap (λ (r : Result). r .card) reset-is

@@ -1,9 +1,9 @@
 -- A run, by the bytes that its calls are given: two domains; writes, a send, inline bytes; a refused command, a refused
--- reset, a hold, a poll, a flush; work requests with the statuses 0, 1, 3, 4, 7 and 8; a queue pair that can be read from and
--- not written to; a region that is dropped under waiting receives, and a write under its key after that; a send and receives
--- posted in error; a second reset; and, after a third, a region over pages: a refused list, a write over a page border, and a
--- send whose later byte wins where a page is listed twice. proofs/Example.antt shows that it is a list of the judge's
--- theorem. Assumes nothing.
+-- reset, a hold, a poll, a flush; requests queued by both queue pairs, and the turns that run them, flush one and pass one
+-- over; work requests with the statuses 0, 1, 3, 4, 7 and 8; a queue pair that can be read from and not written to; a region
+-- that is dropped under waiting receives, and a write under its key after that; a send and receives posted in error; a second
+-- reset; and, after a third, a region over pages: a refused list, a write over a page border, and a send whose later byte
+-- wins where a page is listed twice. proofs/Example.antt shows that it is a list of the judge's theorem. Assumes nothing.
 use mathlib.Core.Bool.{true, false}
 use mathlib.Core.List.{List, [], _∷_, _++_, map}
 use mathlib.Core.Option.{none, some}
@@ -33,7 +33,7 @@ eightOf x y = x ∷ y ∷ 0 ∷ 0 ∷ 0 ∷ 0 ∷ 0 ∷ 0 ∷ []
 abbrev pub keyOf : (n : ℕ) → List ℕ
 keyOf n = 1 ∷ n ∷ 0 ∷ 0 ∷ []
 
--- the memory of every post send, but for those over pages
+-- the memory of every call that is lent one, but for those over pages
 abbrev pub memory : List ℕ
 memory = 1 ∷ 2 ∷ 3 ∷ 4 ∷ 5 ∷ 6 ∷ 7 ∷ 8 ∷ []
 
@@ -101,6 +101,13 @@ piece a n k = eight a ++ n ++ k
 abbrev pub two : List ℕ
 two = piece 101 (four 2) (keyOf 0)
 
+-- queue pair 0 or 1 enqueues a write of two bytes, or a send of two
+abbrev pub enqueue : (q opcode address : ℕ) → (key pieces : List ℕ) → Call
+enqueue q o a k ps = Call.enqueue q (sendRecord o 0 a k unused 1 ps) memory
+
+abbrev pub turn : Call
+turn = Call.turn memory
+
 -- queue pair 0 sends so many bytes from 100 on, to 200 under the key of slot 1, in a memory of two pages
 abbrev pub sendPaged : (opcode count : ℕ) → Call
 sendPaged o n =
@@ -122,29 +129,39 @@ poll = Call.poll 0 (replicate 24 0)
 
 -- ---- lines
 
--- a call without memory
+-- a call without memory, and one that leaves it and runs nothing
 abbrev pub plain : Call → Answer → Line
-plain k a = record { call = k; answer = a; memory = []; verdict = none }
+plain k a = record { call = k; answer = a; value = 0; memory = []; verdict = none }
+
+abbrev pub idle : Call → Answer → Line
+idle k a = record { call = k; answer = a; value = 0; memory = memory; verdict = none }
 
 abbrev pub done : Call → Line
 done k = plain k (Done 0)
 
--- a work request that the judge passes, and the memory after it; one that it does not pass, and its status; one that is held
+-- a work request that the judge passes, and the memory after it; one that it does not pass, and its status; one that is
+-- held; a turn of either kind, by the queue pair served
 abbrev pub passes : Call → List ℕ → Line
-passes k m = record { call = k; answer = Done 0; memory = m; verdict = some true }
+passes k m = record { call = k; answer = Done 0; value = 0; memory = m; verdict = some true }
 
 abbrev pub fails : Call → (status : ℕ) → Line
-fails k s = record { call = k; answer = Done s; memory = memory; verdict = some false }
+fails k s = record { call = k; answer = Done s; value = 0; memory = memory; verdict = some false }
+
+abbrev pub waits : Call → Line
+waits k = idle k (Held Peer)
+
+abbrev pub serves : (q : ℕ) → List ℕ → Line
+serves q m = record { call = turn; answer = Done 0; value = q; memory = m; verdict = some true }
+
+abbrev pub servesInVain : (q status : ℕ) → Line
+servesInVain q s = record { call = turn; answer = Done s; value = q; memory = memory; verdict = some false }
 
 -- a receive that waits, and one that is flushed at once
 abbrev pub queued : Call → Line
-queued k = record { call = k; answer = Done 0; memory = []; verdict = some true }
+queued k = record { call = k; answer = Done 0; value = 0; memory = []; verdict = some true }
 
 abbrev pub flushedAtOnce : Call → Line
-flushedAtOnce k = record { call = k; answer = Done 4; memory = []; verdict = some false }
-
-abbrev pub waits : Call → Line
-waits k = record { call = k; answer = Held Peer; memory = memory; verdict = none }
+flushedAtOnce k = record { call = k; answer = Done 4; value = 0; memory = []; verdict = some false }
 
 -- ---- the run
 
@@ -189,6 +206,29 @@ delivering =
     passes (send 2 0 0 (keyOf 0) unused 1 two) (1 ∷ 2 ∷ 3 ∷ 4 ∷ 5 ∷ 6 ∷ 2 ∷ 3 ∷ []) ∷
     done poll ∷
     []
+
+-- Queue pair 0 enqueues a write and a send, queue pair 1 two writes to queue pair 0, which has no access flags; a direct send
+-- of queue pair 0 finds its queue. The turns: the write is run; that of queue pair 1 fails; no receive waits for the send, which
+-- is passed over, and the other write is flushed; no head is left that may run. A move to 0 drops the send.
+abbrev pub turning : List Line
+turning =
+    done (move 1 3) ∷
+    idle (enqueue 0 0 200 (keyOf 1) two) (Done 0) ∷
+    idle (enqueue 0 2 0 (keyOf 0) two) (Done 0) ∷
+    idle (enqueue 1 0 100 (keyOf 0) (piece 201 (four 2) (keyOf 1))) (Done 0) ∷
+    idle (enqueue 1 0 100 (keyOf 0) (piece 201 (four 2) (keyOf 1))) (Done 0) ∷
+    idle (send 0 0 200 (keyOf 1) unused 1 two) (Refused 10) ∷
+    serves 0 (1 ∷ 2 ∷ 3 ∷ 4 ∷ 2 ∷ 3 ∷ 7 ∷ 8 ∷ []) ∷
+    servesInVain 1 8 ∷
+    servesInVain 1 4 ∷
+    idle turn (Refused 9) ∷
+    done poll ∷
+    done poll ∷
+    done poll ∷
+    done (move 1 0) ∷
+    done (allow 1 1 7) ∷
+    done (aim 1 0) ∷
+    again
 
 -- the key of the sender's own domain names nothing at the peer; the key of the peer's domain is not the sender's; 4,097 bytes
 -- are too many
@@ -252,7 +292,7 @@ paging =
     [])
 
 abbrev pub run : List Line
-run = setup ++ delivering ++ failing ++ allowing ++ dropping ++ ending ++ paging
+run = setup ++ delivering ++ turning ++ failing ++ allowing ++ dropping ++ ending ++ paging
 
 -- A reset over eight bytes of memory and the run after it, on any state that has its length.
 abbrev pub Example : (l : List ℕ) → Type 0

@@ -3,8 +3,8 @@
 use mathlib.Core.Path.{_≡_}
 use mathlib.Core.List.{List, map}
 use Prim.Native.Nat.{ℕ}
-use Rattle.rules.specs.Answer.{answerIn}
-use Rattle.rules.specs.Call.{Call, leaving}
+use Rattle.rules.specs.Answer.{answerIn, valueIn}
+use Rattle.rules.specs.Call.{Call}
 use Rattle.rules.specs.declared.Answer.{Answer}
 use Rattle.rules.specs.declared.Answer.the-variants.{Done}
 use Rattle.judge.specs.Demand3.{Seen, Begins, Linked, Each, OfWork, Judged, stateAfter}
@@ -12,20 +12,33 @@ use Rattle.judge.specs.Whole.{FromC}
 
 -- the call k, which returned r and left the state l′, the memory m′ and the answer buffer b′
 abbrev pub seen : Call → (r : ℕ) → (l′ m′ b′ : List ℕ) → Seen
-seen k r l′ m′ b′ = record { call = k; left = leaving (answerIn r) l′ m′ b′ }
+seen k r l′ m′ b′ =
+    record {
+      call = k;
+      left = record { answer = answerIn r; value = valueIn r; state = l′; memory = m′; buffer = b′ };
+    }
 
 -- the same without the state that it left, which the next call changes: the call and what it gave back
 pub record Exchange : Type 0 where
   pub call : Call
   pub answer : Answer
+  -- the queue pair that a turn served
+  pub value : ℕ
   pub memory : List ℕ
   pub buffer : List ℕ
 
 abbrev pub exchange : Call → (r : ℕ) → (m′ b′ : List ℕ) → Exchange
-exchange k r m′ b′ = record { call = k; answer = answerIn r; memory = m′; buffer = b′ }
+exchange k r m′ b′ = record { call = k; answer = answerIn r; value = valueIn r; memory = m′; buffer = b′ }
 
 abbrev pub exchangeOf : Seen → Exchange
-exchangeOf x = record { call = x .call; answer = x .left .answer; memory = x .left .memory; buffer = x .left .buffer }
+exchangeOf x =
+    record {
+      call = x .call;
+      answer = x .left .answer;
+      value = x .left .value;
+      memory = x .left .memory;
+      buffer = x .left .buffer;
+    }
 
 -- a list of calls after one that began a log, with these exchanges, which left the state l′
 pub record After (x : Seen) (begun : Begins FromC x) (es : List Exchange) (l′ : List ℕ) : Type 0 where

@@ -4,24 +4,26 @@ use mathlib.Core.Path.{_≡_}
 use mathlib.Core.Bool.{Bool, not}
 use mathlib.Core.List.{List, [], _∷_, map}
 use mathlib.Core.Option.{Option, none, some}
-use Prim.Native.Nat.{ℕ}
+use Prim.Native.Nat.{ℕ, _+_, _*_}
 use Rattle.validate.specs.Accept.{accepts}
 use Rattle.tables.specs.State.{card}
 use Rattle.rules.specs.Answer.{codeOf}
-use Rattle.rules.specs.Call.{Call, leaving}
+use Rattle.rules.specs.Call.{Call, given}
 use Rattle.rules.specs.Calls.{owed}
 use Rattle.rules.specs.Contract.{bytesAfter}
 use Rattle.rules.specs.declared.Answer.{Answer}
 use Rattle.rules.specs.declared.Answer.the-variants.{Done, Held, Refused}
 use Rattle.judge.specs.Log.{Log, fed}
 use Rattle.judge.specs.Judge.{Work, judge, flushesAtOnce}
-use Rattle.judge.specs.Demand3.{Seen, Begins, Linked, Each, OfWork, Judged, Flushes, workBy, postedOn}
+use Rattle.judge.specs.Demand3.{Seen, Begins, Linked, Each, OfWork, Judged, Flushes, workIn, postedOn}
 use Rattle.judge.specs.Whole.{FromC}
 use Rattle.caller.specs.Exchange.{seen, Exchange, exchangeOf}
 
 -- the call k on the state l, with the outcome that the promise of the exported function names
 abbrev pub made : (l : List ℕ) → Call → Seen
-made l k = let o = owed card accepts l k in seen k (codeOf (o .answer)) (bytesAfter l k) (o .memory) (o .buffer)
+made l k =
+    let o = owed card accepts l k in
+    seen k (codeOf (o .answer) + 65536 * o .value) (bytesAfter l k) (o .memory) (o .buffer)
 
 unfoldable pub madeAll : (l : List ℕ) → List Call → List Seen
 madeAll l [] = []
@@ -33,11 +35,12 @@ Lists = (l : List ℕ) (ks : List Call) → Linked FromC l (madeAll l ks)
 
 -- ---- what a run shows
 
--- a line of a run: a call, its answer, the memory after it, and the judge's verdict on the work request that it ran, or on
--- the receive that it posted, whether it waits
+-- a line of a run: a call, its answer, the queue pair that it served if it is a turn, the memory after it, and the judge's
+-- verdict on the work request that it ran, or on the receive that it posted, whether it waits
 pub record Line : Type 0 where
   pub call : Call
   pub answer : Answer
+  pub value : ℕ
   pub memory : List ℕ
   pub verdict : Option Bool
 
@@ -52,14 +55,14 @@ verdictBy l none (some q) (Refused n) = none
 verdictBy l none none a = none
 
 abbrev pub verdictOn : Log → Exchange → Option Bool
-verdictOn l e = verdictBy l (workBy l (e .call) (leaving (e .answer) [] (e .memory) (e .buffer))) (postedOn (e .call)) (e .answer)
+verdictOn l e = verdictBy l (workIn l (e .value) (given (e .call) .pair)) (postedOn (e .call)) (e .answer)
 
 -- the lines of calls after the log l
 unfoldable pub lines : Log → List Exchange → List Line
 lines l [] = []
 lines l (e ∷ es) =
-    record { call = e .call; answer = e .answer; memory = e .memory; verdict = verdictOn l e } ∷
-    lines (fed l (e .call) (e .answer) (e .buffer)) es
+    record { call = e .call; answer = e .answer; value = e .value; memory = e .memory; verdict = verdictOn l e } ∷
+    lines (fed l (e .call) (e .answer) (e .value) (e .buffer)) es
 
 -- The reset `first` and the calls after it are a list of the judge's theorem, each of whose work requests and receives is
 -- judged right, and these are its lines.

@@ -1,4 +1,4 @@
-// A caller of the seven exported functions. What each promises is what the judge's theorem asks of a call (FromC), on any
+// A caller of the nine exported functions. What each promises is what the judge's theorem asks of a call (FromC), on any
 // state, and calls in turn on one state are a list of that theorem. An export that promised less would leave this crate
 // unproved.
 ghost use mathlib.Core.List.{[], _∷_};
@@ -34,6 +34,20 @@ pub fn send(state: &mut [u8], memory: &mut [u8], qpn: u32, sent: &[u8]) -> u32
     engine::lesungkap_post_send(state, memory, qpn, sent)
 }
 
+pub fn enqueue(state: &mut [u8], memory: &[u8], qpn: u32, sent: &[u8]) -> u32
+    ensures { λ r. ⌜ FromC (now (state .entry))
+        (seen (Call.enqueue qpn (now (sent .entry)) (now (memory .entry))) r (now (state .exit)) (now (memory .entry)) []) ⌝ }
+{
+    engine::lesungkap_enqueue(state, memory, qpn, sent)
+}
+
+pub fn turn(state: &mut [u8], memory: &mut [u8]) -> u32
+    ensures { λ r. ⌜ FromC (now (state .entry))
+        (seen (Call.turn (now (memory .entry))) r (now (state .exit)) (now (memory .exit)) []) ⌝ }
+{
+    engine::lesungkap_turn(state, memory)
+}
+
 pub fn receive(state: &mut [u8], qpn: u32, posted: &[u8]) -> u32
     ensures { λ r. ⌜ FromC (now (state .entry)) (seen (Call.receive qpn (now (posted .entry))) r (now (state .exit)) [] []) ⌝ }
 {
@@ -60,11 +74,14 @@ pub struct Results {
     pages: u32,
     receive: u32,
     send: u32,
+    enqueue: u32,
+    turn: u32,
     flush: u32,
     poll: u32,
 }
 
-// The seven in turn on one state, which each finds as the last one left it.
+// The nine in turn on one state, which each finds as the last one left it. Post send has one memory, the two calls of send
+// queues another.
 pub fn run(
     state: &mut [u8],
     size: u64,
@@ -78,6 +95,8 @@ pub fn run(
     memory: &mut [u8],
     sender: u32,
     sent: &[u8],
+    queued: &[u8],
+    later: &mut [u8],
     cqn: u32,
     buffer: &mut [u8],
 ) -> Results
@@ -87,6 +106,8 @@ pub fn run(
         (now (keys .exit))
         ∷ exchange (Call.receive receiver (now (posted .entry))) (r .receive) [] []
         ∷ exchange (Call.send sender (now (sent .entry)) (now (memory .entry))) (r .send) (now (memory .exit)) []
+        ∷ exchange (Call.enqueue sender (now (queued .entry)) (now (later .entry))) (r .enqueue) (now (later .entry)) []
+        ∷ exchange (Call.turn (now (later .entry))) (r .turn) (now (later .exit)) []
         ∷ exchange (Call.flush receiver) (r .flush) [] []
         ∷ exchange (Call.poll cqn (now (buffer .entry))) (r .poll) [] (now (buffer .exit))
         ∷ [])
@@ -97,15 +118,19 @@ pub fn run(
     let third = register_pages(state, region, pages, keys);
     let fourth = receive(state, receiver, posted);
     let fifth = send(state, memory, sender, sent);
-    let sixth = flush(state, receiver);
-    let seventh = poll(state, cqn, buffer);
+    let sixth = enqueue(state, later, sender, queued);
+    let seventh = turn(state, later);
+    let eighth = flush(state, receiver);
+    let ninth = poll(state, cqn, buffer);
     Results {
         reset: first,
         control: second,
         pages: third,
         receive: fourth,
         send: fifth,
-        flush: sixth,
-        poll: seventh,
+        enqueue: sixth,
+        turn: seventh,
+        flush: eighth,
+        poll: ninth,
     }
 }

@@ -268,7 +268,7 @@ module _ (l k a : List ℕ) where
       done e =
           let s = left l (accepted l good) o (rest-none (controlChecks k a) (maybe [] (commandChecks (card l)) o) (rw (le-ltb (length a) (ackNeed k) room) e)) in
           let p = passed (classChecks (card l) k) e in
-          rw (← said (card l) a o (not-false (isSome o) (p .1 .1 .0))) (done-owes l call (tests ∙ e) (s .0) (s .1) (maybe l (commandBytes l) o) refl)
+          rw (← said (card l) a o (not-false (isSome o) (p .1 .1 .0))) (done-owes l call refl (tests ∙ e) (s .0) (s .1) (maybe l (commandBytes l) o) refl)
 
       pub control-done : (p : Outcome) (l′ : List ℕ) → Classed l k p l′ → (x : Ack) → x ≡ outcomeAck p → (r : Answer) → r ≡ outcomeAnswer p
           → (a′ : List ℕ) → a′ ≡ encodeAck x a → Owes l call r l′ [] a′

@@ -65,7 +65,7 @@ module _ (l k ps a : List ℕ) where
       unfolding effectBytes statusOf effect memoryAfter bufferAfter commandAck
       done e =
           let s = register-paged l (accepted l good) (registrationIn k) ps (passed e) in
-          done-owes l call (tests ∙ e) (s .meant) (s .still) (pagedBytes l (registrationIn k) ps) refl
+          done-owes l call refl (tests ∙ e) (s .meant) (s .still) (pagedBytes l (registrationIn k) ps) refl
 
       quiets : all (λ t. quiet (t .no)) (recordChecks (card l) k ps) ≡ true
       unfolding all pageListChecks

@@ -28,7 +28,8 @@ ghost use Prim.Native.Nat.{_<_};
 ghost use lib.ListN.{length};
 ghost use Rattle.validate.specs.Search.{freeQpn};
 ghost use Rattle.tables.specs.State.{card};
-ghost use Rattle.tables.specs.Layout.{stateSize};
+ghost use Rattle.wire.specs.Table.{putRow};
+ghost use Rattle.tables.specs.Layout.{stateSize, waitingT, sendHeadT};
 ghost use Rattle.tables.specs.Limits.{qpCount};
 ghost use Rattle.tables.specs.Commands.{Command};
 ghost use Rattle.rules.specs.Bytes.{commandBytes, newPair, movedPair, movedHead};
@@ -80,13 +81,22 @@ fn new_pair(r: CreateQp) -> QueuePair
     }
 }
 
-// The free number n is a new queue pair, on which no receive waits.
+// Where the waiting receives and the queued sends of queue pair n stand.
+fn store_heads(state: &mut [u8], n: usize, waiting: WaitingHead, sends: WaitingHead)
+    requires { ⌜ (n < qpCount) × (length (now state) ≡ stateSize) ⌝ }
+    ensures { λ _. ⌜ now (state .exit) ≡ putRow sendHeadT (putRow waitingT (now (state .entry)) n waiting) n sends ⌝ }
+{
+    rows::store_waiting(state, n, waiting);
+    rows::store_sends(state, n, sends);
+}
+
+// The free number n is a new queue pair, on which no receive waits and which has no queued send.
 fn put_pair(state: &mut [u8], n: usize, r: CreateQp)
     requires { ⌜ (n < qpCount) × (length (now state) ≡ stateSize) × (n ≡ freeQpn (card (now state))) × (createLive (card (now state)) r ≡ true) ⌝ }
     ensures { λ _. ⌜ now (state .exit) ≡ commandBytes (now (state .entry)) (Command.createQp r) ⌝ }
 {
-    let head = WaitingHead { first: 0, count: 0 };
-    rows::store_waiting(state, n, head);
+    let none = WaitingHead { first: 0, count: 0 };
+    store_heads(state, n, none, none);
     rows::store_qp(state, n, new_pair(r));
     rows::store_qp_flag(state, n, 1);
 }
@@ -179,16 +189,18 @@ fn moved_head(h: WaitingHead, to: u8) -> WaitingHead
     r
 }
 
-// The live queue pair in the state that it moves to; a move to 0 drops its receives, its destination and its access flags.
+// The live queue pair in the state that it moves to; a move to 0 drops its receives, its queued sends, its destination and its
+// access flags.
 fn move_pair(state: &mut [u8], r: ModifyQp)
     requires { ⌜ (r .qpn < qpCount) × (length (now state) ≡ stateSize) × (modifyBad r ≡ false) ⌝ }
     ensures { λ _. ⌜ now (state .exit) ≡ commandBytes (now (state .entry)) (Command.modifyQp r) ⌝ }
 {
     let n = r.qpn as usize;
     let p = rows::load_qp(state, n);
-    let h = rows::load_waiting(state, n);
+    let w = moved_head(rows::load_waiting(state, n), r.state);
+    let s = moved_head(rows::load_sends(state, n), r.state);
     rows::store_qp(state, n, moved_pair(p, r));
-    rows::store_waiting(state, n, moved_head(h, r.state));
+    store_heads(state, n, w, s);
 }
 
 pub fn modify_qp(state: &mut [u8], read: ModifyQpRead) -> Outcome

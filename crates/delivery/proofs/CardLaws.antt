@@ -15,17 +15,18 @@ use Rattle.wire.proofs.RingLaws.{ring-length}
 use Rattle.wire.proofs.ScanLaws.{and-left, and-right}
 use Rattle.wire.proofs.SlotLaws.{slot-out}
 use Rattle.tables.specs.Card.{Card, Cq, Qp, Receive, cqLive, withCq, withQp, tail, withWaiting, receiveOf, freeCq}
-use Rattle.tables.specs.Layout.{cqFlagT, cqT, qpFlagT, qpT, waitingT, pairCodec}
+use Rattle.tables.specs.Layout.{cqFlagT, cqT, qpFlagT, qpT, waitingT, sendHeadT, pairCodec}
 use Rattle.tables.specs.Limits.{cqCount, qpCount, mostPlaces, mostWaiting, mostAccess}
 use Rattle.tables.specs.Queue.{pushBytes}
 use Rattle.tables.specs.Records.{completionCodec}
-use Rattle.tables.specs.State.{PairRows, card, cqOf, qpOf, queueAt, pairAt, ringAt, receivesAt, posted, noCompletion, noRecord}
+use Rattle.tables.specs.State.{PairRows, card, cqOf, qpOf, queueAt, pairAt, ringAt, receivesAt, queuedAt, posted, noCompletion, noRecord}
 use Rattle.tables.specs.declared.QueuePair.{QueuePair}
 use Rattle.tables.proofs.KindLaws.{pair-card}
 use Rattle.tables.proofs.ObjectLaws.{cq-is, qp-below, qp-flag, qp-row}
 use Rattle.tables.proofs.StoreLaws.{pair-fits, qp-row-only, qp-row-at}
-use Rattle.validate.specs.Accept.{completionOk, isState, pairOk, qpSound}
-use Rattle.validate.proofs.AcceptedLaws.{Accepted, pairing}
+use Rattle.validate.specs.Accept.{completionOk, isState, pairOk, sendsOk, qpSound}
+use Rattle.validate.proofs.AcceptedLaws.{Accepted, pairing, sends-some, sends-sound}
+use Rattle.validate.proofs.SendLaws.{queue-first, queue-count}
 use Rattle.validate.proofs.KeptLaws.{pair-accepted}
 use Rattle.validate.proofs.QueueLaws.{queue-is, push-card, push-accepted}
 use Rattle.validate.proofs.WaitingLaws.{pair-sound, waiting-is, take-card, take-accepted}
@@ -131,7 +132,15 @@ module _ (l : List ℕ) (ok : Accepted l) (q : ℕ) (live : card l .qp q .live �
 
   -- the rows of the queue pair in error
   abbrev after : PairRows
-  after = record { flag = rowAt qpFlagT l q; row = erring (rowAt qpT l q); head = rowAt waitingT l q; ring = receivesAt l q }
+  after =
+      record {
+        flag = rowAt qpFlagT l q;
+        row = erring (rowAt qpT l q);
+        head = rowAt waitingT l q;
+        ring = receivesAt l q;
+        sends = rowAt sendHeadT l q;
+        queued = queuedAt l q;
+      }
 
   after-is : pairAt (putRow qpT l q (erring (rowAt qpT l q))) q ≡ after
   unfolding pairAt qpT
@@ -140,6 +149,13 @@ module _ (l : List ℕ) (ok : Accepted l) (q : ℕ) (live : card l .qp q .live �
   after-means : qpOf after ≡ inError (card l .qp q)
   unfolding qpOf pairAt
   after-means = rw (qp-row l q below row-live, eq-eqb (rowAt qpFlagT l q) 1 row-live)
+
+  -- a queue may stand in error
+  after-queue : sendsOk after ≡ true
+  unfolding pairAt
+  after-queue =
+      sends-some after (queue-first l ok q below row-live) (queue-count l ok q below row-live) refl
+      (sends-sound (pairAt l q) (pair-sound l ok q below row-live .queue))
 
   after-sound : qpSound (card l .pd) (cqLive (card l)) q after ≡ true
   unfolding pairAt
@@ -155,6 +171,7 @@ module _ (l : List ℕ) (ok : Accepted l) (q : ℕ) (live : card l .qp q .live �
         first = s .first;
         count = s .count;
         waiting = s .waiting;
+        queue = after-queue;
       })
 
   pub error-stands : (b : Bool) → Stands (errorBytes b l q) (withQp (card l) (errorIf b q (card l .qp)))

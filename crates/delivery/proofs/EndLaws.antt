@@ -28,7 +28,8 @@ use Rattle.rules.specs.declared.Cause.the-variants.{Place}
 use Rattle.rules.specs.Bytes.{pushAll}
 use Rattle.rules.specs.Lists.{isSome}
 use Rattle.rules.specs.Send.{holdChecks, readyChecks, isInError, senderPut, sendStatus, sendMemory}
-use Rattle.rules.specs.Touch.{Request, total}
+use Rattle.rules.specs.Touch.{total}
+use Rattle.tables.specs.Records.{Request}
 use Rattle.delivery.specs.Meet.{hasPlace, Sender, bare, endsAt, metBy, holding, isFree}
 use Rattle.delivery.specs.Deliver.{isSingle, totalBy, takenRow, Sending, Delivery}
 use Rattle.delivery.specs.Settle.{senderEntry, putFirst, settledBytes, Settling}

@@ -20,7 +20,8 @@ use Rattle.tables.specs.declared.Completion.{Completion}
 use Rattle.rules.specs.Lists.{isEmpty, orElse, names}
 use Rattle.rules.specs.Send.{peerOf, takenBy, canReceive, ready, room, hasPlaces, isInError, holdChecks, readyChecks, placeChecks, statusBy, runStatus, sendStatus, consumes, pushed, lengthBy, senderPut, receiverPut, sendPuts, ownUse, farUse}
 use Rattle.rules.specs.Permit.{permitsAll}
-use Rattle.rules.specs.Touch.{Request, takes, fills, total, sgeTotal, ownBytes, farBytes}
+use Rattle.rules.specs.Touch.{takes, fills, total, sgeTotal, ownBytes, farBytes}
+use Rattle.tables.specs.Records.{Request}
 use Rattle.delivery.proofs.CardLaws.{Can, CanAll}
 
 -- ---- what the tests tell

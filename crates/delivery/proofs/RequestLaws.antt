@@ -33,7 +33,8 @@ use Rattle.tables.specs.declared.WaitingHead.{WaitingHead}
 use Rattle.rules.specs.Lists.{isEmpty, orElse, stored}
 use Rattle.rules.specs.Permit.{Use, permitsAll, place}
 use Rattle.rules.specs.Send.{peerOf, takenBy, holdChecks, readyChecks, ownUse, farUse, statusBy, runStatus, sendStatus, sendMemory}
-use Rattle.rules.specs.Touch.{Request, Byte, takes, fills, reads, range, sgeBytes, sgeTotal, total, ownBytes, farBytes, message, delivered, cut}
+use Rattle.rules.specs.Touch.{Byte, takes, fills, reads, range, sgeBytes, sgeTotal, total, ownBytes, farBytes, message, delivered, cut}
+use Rattle.tables.specs.Records.{Request}
 use Rattle.rules.proofs.Runs.{cut-bytes, values-at}
 use Rattle.dma.specs.Grants.{allowsAll}
 use Rattle.dma.specs.Moves.{places, moved}

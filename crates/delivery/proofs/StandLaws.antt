@@ -19,7 +19,8 @@ use Rattle.tables.proofs.StoreLaws.{receive-fits}
 use Rattle.validate.proofs.WaitingLaws.{first-is}
 use Rattle.rules.specs.Lists.{isEmpty}
 use Rattle.rules.specs.Send.{holdChecks, peerOf, takenBy, isInError, sendStatus, consumes, fails, senderPut, sendPuts, putAll, errorIf, consumeIf, sendQps, sendEffect}
-use Rattle.rules.specs.Touch.{Request, takes}
+use Rattle.rules.specs.Touch.{takes}
+use Rattle.tables.specs.Records.{Request}
 use Rattle.rules.specs.Bytes.{pushAll, errorBytes, consumeBytes, sendBytes}
 use Rattle.delivery.proofs.CardLaws.{Stands, Can, CanAll, Open, opened, push-all, row-live, some-wait, error-stands, consume-stands, error-keeps, consume-keeps}
 use Rattle.delivery.proofs.LimitLaws.{Going, going, Flushing, flushing, sender-can, can-all, flushed-can}

@@ -19,7 +19,8 @@ use Rattle.tables.specs.declared.ReceiveRecord.{ReceiveRecord}
 use Rattle.tables.specs.declared.SendRecord.{SendRecord}
 use Rattle.tables.specs.declared.Sge.{Sge}
 use Rattle.rules.specs.Send.{Put, sendStatus, consumes, fails, sendPuts, senderPut, receiverPut, putAll, pushed}
-use Rattle.rules.specs.Touch.{Request, takes, total}
+use Rattle.rules.specs.Touch.{takes, total}
+use Rattle.tables.specs.Records.{Request}
 use Rattle.rules.specs.Bytes.{pushAll, errorBytes, sendBytes}
 use Rattle.delivery.specs.Meet.{endsAt}
 use Rattle.delivery.specs.Deliver.{takenRow}

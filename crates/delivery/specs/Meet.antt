@@ -18,7 +18,8 @@ use Rattle.tables.specs.declared.QueuePair.{QueuePair}
 use Rattle.rules.specs.Answer.{answered}
 use Rattle.rules.specs.Lists.{isSome}
 use Rattle.rules.specs.Send.{holdChecks, canReceive}
-use Rattle.rules.specs.Touch.{Request, takes}
+use Rattle.rules.specs.Touch.{takes}
+use Rattle.tables.specs.Records.{Request}
 use Rattle.rules.specs.declared.Answer.the-variants.{Held}
 use Rattle.rules.specs.declared.Cause.the-variants.{Peer, Place}
 use Rattle.delivery.specs.declared.meet.Ends.{Ends}

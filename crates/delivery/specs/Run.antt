@@ -17,7 +17,8 @@ use Rattle.tables.specs.declared.Sge.{Sge}
 use Rattle.rules.specs.Answer.{answered}
 use Rattle.rules.specs.Bytes.{sendBytes}
 use Rattle.rules.specs.Send.{holdChecks, isInError, sendStatus, sendMemory}
-use Rattle.rules.specs.Touch.{Request, reads}
+use Rattle.rules.specs.Touch.{reads}
+use Rattle.tables.specs.Records.{Request}
 use Rattle.rules.specs.declared.Answer.{Answer}
 use Rattle.delivery.specs.Meet.{bare, endsAt}
 use Rattle.delivery.specs.declared.meet.Ends.{Ends}

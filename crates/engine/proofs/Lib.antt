@@ -1,3 +1,4 @@
 pub mod DirectLaws
 pub mod OwedLaws
 pub mod RecordLaws
+pub mod TurnLaws

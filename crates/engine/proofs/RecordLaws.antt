@@ -1,7 +1,7 @@
 -- From a send record to the request that post send hands on: its limits, and that it fares as the rules' request of the record. Assumes nothing.
 use mathlib.Core.Path.{_≡_, refl, sym, ap, subst, _∙_}
 use mathlib.Core.Bool.{Bool, true, false, cond, not, false≢true}
-use mathlib.Core.List.{List, _∷_}
+use mathlib.Core.List.{List, [], _∷_}
 use mathlib.Core.Option.{Option, none, some}
 use Prim.Native.Nat.{ℕ, zero, suc, _+_, _*_, _≤_}
 use native.Mathlib.Omega.{arith}
@@ -16,16 +16,18 @@ use Rattle.wire.specs.Rows.{rowsFrom, rows}
 use Rattle.wire.proofs.ScanLaws.{and-off}
 use Rattle.tables.specs.Card.{Card}
 use Rattle.tables.specs.Limits.{mostSges, mostInline}
-use Rattle.tables.specs.Records.{isSignaled, isInline, inlineLength, inlineBytes, sendCodec, sendChecks, sendSge, sendRead, sendReadBy}
+use Rattle.tables.specs.Records.{isSignaled, isInline, inlineLength, inlineBytes, inlineIn, requestWith, sendCodec, sendChecks, sendSge, sendRead, sendReadBy}
 use Rattle.tables.specs.State.{card}
+use Rattle.tables.proofs.ReadingLaws.{inline-length}
 use Rattle.tables.specs.declared.SendRead.the-variants as send
 use Rattle.tables.specs.declared.SendRecord.{SendRecord}
 use Rattle.tables.specs.declared.Sge.{Sge}
 use Rattle.rules.specs.Bytes.{sendBytes}
 use Rattle.rules.specs.Send.{holdChecks, readyChecks, deliveryChecks, runStatus, sendStatus, sendPuts, sendMemory}
-use Rattle.rules.specs.Touch.{Request, requestOf, total, ownBytes, farBytes, message, delivered}
+use Rattle.rules.specs.Touch.{total, ownBytes, farBytes, message, delivered}
+use Rattle.tables.specs.Records.{Request, requestOf}
 use Rattle.rules.specs.declared.Answer.{Answer}
-use Rattle.delivery.specs.Run.{requestBy, Bounded, ranBytes, ranMemory, Ran}
+use Rattle.delivery.specs.Run.{requestBy, Bounded, Carried, ranBytes, ranMemory, Ran}
 
 -- s begins the send record x, which passes its own tests
 pub record Posted (x : List ℕ) (s : SendRecord) : Type 0 where
@@ -64,6 +66,11 @@ bounds x g =
           rw (length-take-le (inlineLength x) (drop 48 x) (simp length-drop (omega arith))) h);
       there = λ i. and-off (isInline s) (eqb (s .opcode) 4) (p .1 .1 .1 .0) i;
     }
+
+-- the inline bytes that the reader hands back, by the record's numbers
+inline-is : (x : List ℕ) → inlineBytes x ≡ inlineIn (decode sendCodec x 0) x
+unfolding inlineBytes
+inline-is x = rw (inline-length x)
 
 -- ---- its entries
 
@@ -128,9 +135,33 @@ pub delivery-opcode : ByOpcode deliveryChecks
 unfolding ByOpcode deliveryChecks
 delivery-opcode c q r r′ e = rw (hold-opcode c q r r′ e)
 
+-- the state's bytes after two requests that no rule tells apart
+same-bytes : (r r′ : Request) → Alike r r′ → (l : List ℕ) (q : ℕ) → sendBytes l q r ≡ sendBytes l q r′
+unfolding sendBytes
+same-bytes r r′ k l q = rw (k .status (card l) q, k .puts (card l) q (sendStatus (card l) q r′), k .opcode)
+
+-- the bytes x are a record whose numbers are s: those of a queued record stand elsewhere
+module _ (x : List ℕ) (s : SendRecord) (few : isInline s ≡ false → s .count ≤ mostSges) (sges : List Sge) (i : sges ≡ rows mostSges (sendSge x))
+    (b : List ℕ) (j : isInline s ≡ true → b ≡ inlineIn s x) where
+  alike-with : Alike (requestBy s sges b) (requestWith s x)
+  alike-with =
+      let inline : Bool = isInline s in
+      alike s inline b (cond inline (inlineIn s x) []) (take (s .count) sges) (cond inline [] (rows (s .count) (sendSge x)))
+      (λ h. rw h (j h)) (λ h. rw h (ap (take (s .count)) i ∙ entries-are x (s .count) (few h)))
+
+  pub carried-with : (l : List ℕ) (q : ℕ) (m : List ℕ) (st : ℕ) (l′ m′ : List ℕ) → Carried l q (requestBy s sges b) m st l′ m′ →
+      Carried l q (requestWith s x) m st l′ m′
+  carried-with l q m st l′ m′ w =
+      let k = alike-with in
+      record {
+        status = w .status ∙ k .status (card l) q;
+        bytes = w .bytes ∙ same-bytes (requestBy s sges b) (requestWith s x) k l q;
+        memory = w .memory ∙ k .memory (card l) q m;
+      }
+
 module _ (tests : Card → ℕ → Request → List Check) (by : ByOpcode tests) where
   ran-alike : (r r′ : Request) → Alike r r′ → (l : List ℕ) (q : ℕ) (m : List ℕ) (a : Answer) (l′ m′ : List ℕ) → Ran tests l q r m a l′ m′ → Ran tests l q r′ m a l′ m′
-  unfolding ByOpcode sendBytes
+  unfolding ByOpcode
   ran-alike r r′ k l q m a l′ m′ w =
       let t : refusal (tests (card l) q r′) ≡ refusal (tests (card l) q r) = ap refusal (sym (by (card l) q r r′ (k .opcode))) in
       let o : Option ℕ = refusal (tests (card l) q r) in
@@ -141,7 +172,7 @@ module _ (tests : Card → ℕ → Request → List Check) (by : ByOpcode tests)
       }
     where
       bytes : (o : Option ℕ) → ranBytes o l q r ≡ ranBytes o l q r′
-      bytes none = rw (k .status (card l) q, k .puts (card l) q (sendStatus (card l) q r′), k .opcode)
+      bytes none = same-bytes r r′ k l q
       bytes (some n) = refl
 
       memory : (o : Option ℕ) → ranMemory o l q r m ≡ ranMemory o l q r′ m
@@ -149,18 +180,14 @@ module _ (tests : Card → ℕ → Request → List Check) (by : ByOpcode tests)
       memory (some n) = refl
 
   module _ (x : List ℕ) (s : SendRecord) (p : Posted x s) where
-    abbrev head : SendRecord
-    head = decode sendCodec x 0
-
     pub ran-record : (l : List ℕ) (q : ℕ) (m : List ℕ) (sges : List Sge) → sges ≡ rows mostSges (sendSge x) → (b : List ℕ) → b ≡ inlineBytes x →
         (a : Answer) (l′ m′ : List ℕ) → Ran tests l q (requestBy s sges b) m a l′ m′ → Ran tests l q (requestOf x) m a l′ m′
     unfolding requestOf
     ran-record l q m sges i b j a l′ m′ w =
-        let k : Alike (requestBy head sges b) (requestOf x) =
-        alike head (isInline head) b (inlineBytes x) (take (head .count) sges) (rows (head .count) (sendSge x)) (λ h. j)
-        (λ h. ap (take (head .count)) i ∙ entries-are x (head .count) (bounds x (p .good) .plain h)) in
-        ran-alike (requestBy s sges b) (requestOf x) (subst (λ (y : SendRecord). Alike (requestBy y sges b) (requestOf x)) (sym (p .head)) k)
-        l q m a l′ m′ w
+        subst (λ (y : SendRecord). Ran tests l q (requestWith y x) m a l′ m′) (p .head)
+        (ran-alike (requestBy s sges b) (requestWith s x)
+        (alike-with x s (rw (p .head) (bounds x (p .good) .plain)) sges i b (λ h. j ∙ inline-is x ∙ ap (λ (y : SendRecord). inlineIn y x) (sym (p .head))))
+        l q m a l′ m′ w)
 
 module _ (x : List ℕ) (s : SendRecord) (p : Posted x s) where
   pub bounded : Bounded s (inlineBytes x)

@@ -6,6 +6,7 @@ ghost use Rattle.rules.specs.Call.{Call};
 ghost use Rattle.rules.specs.Contract.{Exports};
 
 pub mod send;
+pub mod turn;
 
 // ---- calls from C: each answers with its number in bits 0 to 7 and its status in bits 8 to 15
 
@@ -66,4 +67,21 @@ pub extern "C" fn lesungkap_poll(state: &mut [u8], cqn: u32, buffer: &mut [u8]) 
     ensures { λ r. ⌜ Exports (now (state .entry)) (Call.poll cqn (now (buffer .entry))) r (now (state .exit)) [] (now (buffer .exit)) ⌝ }
 {
     rules::code(queues::poll(state, cqn, buffer))
+}
+
+#[no_mangle]
+pub extern "C" fn lesungkap_enqueue(state: &mut [u8], memory: &[u8], qpn: u32, sent: &[u8]) -> u32
+    ensures { λ r. ⌜ Exports (now (state .entry)) (Call.enqueue qpn (now (sent .entry)) (now (memory .entry))) r (now (state .exit)) (now (memory .entry)) [] ⌝ }
+{
+    rules::code(queues::sends::enqueue(state, memory, qpn, sent))
+}
+
+// Bits 16 to 23 of its result are the queue pair served.
+#[no_mangle]
+pub extern "C" fn lesungkap_turn(state: &mut [u8], memory: &mut [u8]) -> u32
+    ensures { λ r. ⌜ Exports (now (state .entry)) (Call.turn (now (memory .entry))) r (now (state .exit)) (now (memory .exit)) [] ⌝ }
+{
+    let t = turn::turn(state, memory);
+    let a = t.answer;
+    rules::code(a) + 65536 * t.qpn
 }

@@ -12,7 +12,8 @@ use borrow.Author.Tests.{leb-true, ne-eqb}
 use Rattle.wire.proofs.ScanLaws.{and-left, and-right}
 use Rattle.tables.specs.Limits.{mostMessage}
 use Rattle.rules.specs.Lists.{stored}
-use Rattle.rules.specs.Touch.{Request, Byte, fills, total, sgeTotal, sgeBytes, range, ownBytes, farBytes}
+use Rattle.rules.specs.Touch.{Byte, fills, total, sgeTotal, sgeBytes, range, ownBytes, farBytes}
+use Rattle.tables.specs.Records.{Request}
 use Rattle.rules.proofs.Ranges.{all-in}
 use Rattle.rules.proofs.Stored.{stored-length, stored-other, stored-last, map-at, range-length, sge-length}
 use Rattle.judge.specs.Log.{Log}

@@ -11,27 +11,31 @@ use borrow.Author.Tests.{eqb-true, ltb-false}
 use Rattle.wire.specs.Checks.{Passed}
 use Rattle.wire.proofs.ScanLaws.{and-left}
 use Rattle.wire.proofs.SlotLaws.{split, same}
-use Rattle.tables.specs.Card.{Card, Cq, Qp, Receive, freeCq, tail, withCq}
+use Rattle.wire.specs.Slots.{upd}
+use Rattle.tables.specs.Card.{Card, Cq, Qp, Receive, freeCq, tail, withCq, withQueue}
 use Rattle.tables.proofs.AckLaws.{need-least}
 use Rattle.tables.specs.Commands.{Command, commandOf, ackLeast, ackFields, encodeAck, numbersOf, ackNeed}
 use Rattle.validate.specs.Search.{freeCqn, freeQpn}
 use Rattle.tables.specs.declared.Completion.{Completion}
 use Rattle.rules.specs.Lists.{isEmpty, when, maybe}
-use Rattle.rules.specs.Touch.{Request, requestOf, receiveIn, fills, reads}
+use Rattle.rules.specs.Touch.{receiveIn, fills, reads}
+use Rattle.tables.specs.Records.{Request, requestOf}
 use Rattle.rules.specs.Control.{commandChecks, commandAck, commandEffect}
-use Rattle.rules.specs.Send.{Put, peerOf, consumes, fails, senderOpcode, receiverOpcode, senderPut, receiverPut, errorIf, consumeIf, sendStatus, sendPuts, pushed, putAll, sendQps, sendEffect}
+use Rattle.rules.specs.Turn.{served, headOf, enqueued, headGone, turnEffect}
+use Rattle.rules.specs.Send.{Put, isInError, peerOf, consumes, fails, senderOpcode, receiverOpcode, senderPut, receiverPut, errorIf, consumeIf, sendStatus, sendPuts, pushed, putAll, sendQps, sendEffect}
 use Rattle.rules.specs.Queues.{flushesAtOnce, flushedPut, joinStatus, joinPuts, flushChecks, flushPut, flushed, joined, received, polled}
 use Rattle.rules.specs.Call.{Call}
-use Rattle.rules.specs.Calls.{checks, controlChecks, effect, statusOf, bufferAfter, bufferRefused, owed}
+use Rattle.rules.specs.Calls.{checks, controlChecks, effect, statusOf, valueOf, bufferAfter, bufferRefused, owed}
 use Rattle.rules.specs.declared.Answer.the-variants.{Done}
+use Rattle.rules.proofs.Sent.{sent-live}
 use Rattle.rules.proofs.Tests.{passed-before, passed-after}
-use Rattle.judge.specs.Log.{Log, PairNote, noteCommand, ackData, Note}
+use Rattle.judge.specs.Log.{Log, PairNote, noteCommand, ackData, Note, nextOn}
 use Rattle.judge.specs.Whole.{Met}
 use Rattle.judge.specs.Demand3.{Seen, heard, stateAfter, Linked, AfterReset}
 use Rattle.judge.specs.Count.{puts, putInto, staysBy, stays, PutsBy, Puts, receivePuts, Tally, none-yet, countedBy, noted, completed, tallied, tallyAfter, Counted}
 use Rattle.judge.proofs.Acks.{ack-back}
 use Rattle.judge.proofs.Pairs.{error-waiting}
-use Rattle.judge.proofs.Agree.{sendable, finds-receive}
+use Rattle.judge.proofs.Agree.{Going, sendable, turning, finds-receive}
 use Rattle.judge.proofs.Run.{of-owed, of-refused, fresh-card}
 use Rattle.wire.specs.Codec.{putFields}
 
@@ -87,13 +91,16 @@ received-puts c q w n = go (flushesAtOnce c q)
     go false = sym (append-nil (c .cq n .entries))
 
 call-puts : (c : Card) (k : Call) (n : ℕ) → effect c k .cq n .entries ≡ stays c k n ++ putInto n (puts c k)
-unfolding effect sendEffect flushed polled stays puts putInto
+unfolding effect enqueued turnEffect headGone sendEffect flushed polled stays puts putInto
 call-puts c (Call.reset m) n = refl
 call-puts c (Call.control k a) n = known-puts c (commandOf k) n ∙ sym (append-nil (maybe (c .cq n .entries) (λ x. staysBy c x n (c .cq n .entries)) (commandOf k)))
 call-puts c (Call.registerPages k ps a) n = sym (append-nil (c .cq n .entries))
 call-puts c (Call.send q x m) n = put-all (sendPuts c q (requestOf x) (sendStatus c q (requestOf x))) (c .cq) n
 call-puts c (Call.receive q x) n = received-puts c q (receiveIn x) n
 call-puts c (Call.flush q) n = put-all (flushPut c q ∷ []) (c .cq) n
+call-puts c (Call.enqueue q x m) n = sym (append-nil (c .cq n .entries))
+call-puts c (Call.turn m) n =
+    put-all (sendPuts c (served c) (headOf c (served c)) (sendStatus c (served c) (headOf c (served c)))) (c .cq) n
 call-puts c (Call.poll i b) n = polled-puts c i n ∙ sym (append-nil (cond (eqb i n) (tail (c .cq n .entries)) (c .cq n .entries)))
 
 pub call-puts-by : (st : List ℕ) (l : Log) (cardOf : List ℕ → Card) (accepts : List ℕ → Bool) (x : Seen) → Met cardOf accepts st x → Puts cardOf st l x
@@ -174,26 +181,12 @@ posted-counts c q w t a st = go (flushesAtOnce c q)
 
 -- ---- a send
 
-error-live : (b : Bool) (q : ℕ) (f : ℕ → Qp) (j : ℕ) → errorIf b q f j .live ≡ f j .live
-error-live false q f j = refl
-error-live true q f j = split q (λ j. errorIf true q f j .live ≡ f j .live) (rw same) (λ j e. rw e) j
-
-consume-live : (b : Bool) (q : ℕ) (f : ℕ → Qp) (j : ℕ) → consumeIf b q f j .live ≡ f j .live
-consume-live false q f j = refl
-consume-live true q f j = split q (λ j. consumeIf true q f j .live ≡ f j .live) (rw same) (λ j e. rw e) j
-
 module _ (c : Card) (q : ℕ) (r : Request) (s : ℕ) where
   abbrev d : ℕ
   d = peerOf c q
 
   abbrev f : ℕ → Qp
   f = errorIf (fails s) q (c .qp)
-
-  sent-live : (j : ℕ) → sendQps c q r s j .live ≡ c .qp j .live
-  unfolding sendQps
-  sent-live j =
-      error-live (eqb s 7) d (consumeIf (consumes (r .opcode) s) d f) j ∙ consume-live (consumes (r .opcode) s) d f j ∙
-      error-live (fails s) q (c .qp) j
 
   sender-count : (j : ℕ) → (eqb q j && leb 3 (senderOpcode (r .opcode))) ≡ false
   sender-count j = go (reads (r .opcode)) (fills (r .opcode)) (eqb q j)
@@ -243,15 +236,35 @@ module _ (c : Card) (q : ℕ) (r : Request) (s : ℕ) where
           (λ i x. rw x (let k = ap length (same-waiting i) in omega arith)) j
 
 -- a note of a work request counts nothing by itself
-sent-noted : (b : Bool) (r : Request) (s w : ℕ) (v : Tally) → when b (countedBy (PairNote.sent r s) w) v ≡ v
-sent-noted true r s w v = refl
-sent-noted false r s w v = refl
+sent-noted : (b t : Bool) (r : Request) (s w : ℕ) (v : Tally) → when b (countedBy (PairNote.sent t r s) w) v ≡ v
+sent-noted true t r s w v = refl
+sent-noted false t r s w v = refl
+
+-- a request sent or run by a turn, whatever it does to the queues: f are the queue pairs after it
+module _ (c : Card) (q : ℕ) (r : Request) (going : isInError (c .qp q) ≡ false → Going c q r) (t : ℕ → Tally) (a : Counts (c .qp) t) where
+  abbrev st : ℕ
+  st = sendStatus c q r
+
+  sent-counts : (b : Bool) (f : ℕ → Qp) → ((j : ℕ) → f j .live ≡ sendQps c q r st j .live) → ((j : ℕ) → f j .waiting ≡ sendQps c q r st j .waiting) →
+      (note : Request) →
+      Counts f
+      (λ j. completed (receivePuts j (sendPuts c q r st)) (when (eqb q j) (countedBy (PairNote.sent b note st) (length (c .qp j .waiting))) (t j)))
+  sent-counts b f lives waits note j e =
+      rw (sent-noted (eqb q j) b note st (length (c .qp j .waiting)) (t j), sent-count c q r st j, waits j)
+      (takes-some (c .qp j) (t j) (cond (consumes (r .opcode) st && eqb (peerOf c q) j) 1 0) (sendQps c q r st j .waiting)
+      (sent-waiting c q r st (finds-receive c q r going) j) (a j) (sym (lives j ∙ sent-live c q r st j) ∙ e))
+
+other-queue : (f : ℕ → Qp) (q : ℕ) (rs : List Request) (j : ℕ) →
+    (upd f q (withQueue (f q) rs) j .live ≡ f j .live) × (upd f q (withQueue (f q) rs) j .waiting ≡ f j .waiting)
+other-queue f q rs =
+    split q (λ j. (upd f q (withQueue (f q) rs) j .live ≡ f j .live) × (upd f q (withQueue (f q) rs) j .waiting ≡ f j .waiting))
+    (rw same (refl, refl)) (λ j e. rw e (refl, refl))
 
 -- ---- every accepted call
 
 counts-call : (c : Card) (k : Call) (l : Log) (t : ℕ → Tally) → Passed (checks c k) → Counts (c .qp) t →
-    Counts (effect c k .qp) (tallied c l k (Done (statusOf c k)) (bufferAfter c k) t)
-unfolding checks controlChecks flushChecks effect sendEffect flushed polled statusOf bufferAfter tallied puts receivePuts
+    Counts (effect c k .qp) (tallied c l k (Done (statusOf c k)) (valueOf c k) (bufferAfter c k) t)
+unfolding checks controlChecks flushChecks effect sendEffect enqueued turnEffect headGone flushed polled statusOf valueOf bufferAfter tallied puts receivePuts
 counts-call c (Call.reset n) l t p a = λ q e. absurd (false≢true e)
 counts-call c (Call.control k b) l t p a =
     known (commandOf k) (passed-after (controlChecks k b) (maybe [] (commandChecks c) (commandOf k)) p)
@@ -272,12 +285,16 @@ counts-call c (Call.control k b) l t p a =
         (λ q. same-sums (commandEffect c x .qp q) (noted (noteCommand x (numbersOf (commandAck c x))) q (length (c .qp q .waiting)) (t q)) (command c t a x q))
 counts-call c (Call.registerPages k ps b) l t p a = λ q. same-sums (c .qp q) (t q) (a q)
 counts-call c (Call.send q x m) l t p a =
-    let o = sendable c q x m p in
     let r : Request = requestOf x in
-    let s : ℕ = sendStatus c q (requestOf x) in
-    λ j e. rw (sent-noted (eqb q j) r s (length (c .qp j .waiting)) (t j), sent-count c q r s j)
-    (takes-some (c .qp j) (t j) (cond (consumes (r .opcode) s && eqb (peerOf c q) j) 1 0) (sendQps c q r s j .waiting)
-    (sent-waiting c q r s (finds-receive c q r o) j) (a j) (sym (sent-live c q r s j) ∙ e))
+    sent-counts c q r (sendable c q x m p .going) t a false (sendQps c q r (sendStatus c q r)) (λ j. refl) (λ j. refl) r
+counts-call c (Call.enqueue q x m) l t p a =
+    split q _ (rw same (same-sums (c .qp q) (t q) (a q))) (λ j e. rw e (same-sums (c .qp j) (t j) (a j)))
+counts-call c (Call.turn m) l t p a =
+    let q : ℕ = served c in
+    let r : Request = headOf c q in
+    let f : ℕ → Qp = sendQps c q r (sendStatus c q r) in
+    sent-counts c q r (turning c m p .going) t a true (upd f q (withQueue (f q) (tail (f q .queue))))
+    (λ j. other-queue f q (tail (f q .queue)) j .0) (λ j. other-queue f q (tail (f q .queue)) j .1) (nextOn l q)
 counts-call c (Call.receive q x) l t p a = posted-counts c q (receiveIn x) t a (joinStatus c q)
 counts-call c (Call.flush q) l t p a =
     split q _
@@ -290,11 +307,11 @@ counts-call c (Call.poll n b) l t p a = λ q. same-sums (c .qp q) (t q) (a q)
 module _ (Made : (st : List ℕ) → Seen → Type 0) (cardOf : List ℕ → Card) (accepts : List ℕ → Bool)
     (met : (st : List ℕ) (x : Seen) → Made st x → Met cardOf accepts st x) where
   counts-on : (st : List ℕ) (l : Log) (k : Call) (t : ℕ → Tally) → Counts (cardOf st .qp) t →
-      let r = owed cardOf accepts st k in Counts (r .card .qp) (tallied (cardOf st) l k (r .answer) (r .buffer) t)
+      let r = owed cardOf accepts st k in Counts (r .card .qp) (tallied (cardOf st) l k (r .answer) (r .value) (r .buffer) t)
   unfolding tallied
   counts-on st l k t a =
-      of-owed (λ c k r. Counts (c .qp) t → Counts (r .card .qp) (tallied c l k (r .answer) (r .buffer) t))
-      (λ c k n h. of-refused (λ r. Counts (c .qp) (tallied c l k r (bufferRefused n k) t)) (λ e. h) (λ e. h) n)
+      of-owed (λ c k r. Counts (c .qp) t → Counts (r .card .qp) (tallied c l k (r .answer) (r .value) (r .buffer) t))
+      (λ c k n h. of-refused (λ r. Counts (c .qp) (tallied c l k r 0 (bufferRefused n k) t)) (λ e. h) (λ e. h) n)
       (λ c k p h. counts-call c k l t p h) cardOf accepts st k a
 
   counts-list : (st : List ℕ) (l : Log) (t : ℕ → Tally) (xs : List Seen) → Counts (cardOf st .qp) t → Linked Made st xs →
@@ -303,8 +320,8 @@ module _ (Made : (st : List ℕ) → Seen → Type 0) (cardOf : List ℕ → Car
   counts-list st l t [] a h = a
   counts-list st l t (x ∷ xs) a h =
       let m = met st x (h .0) in
-      counts-list (x .left .state) (heard l x) (tallied (cardOf st) l (x .call) (x .left .answer) (x .left .buffer) t) xs
-      (rw (m .card, m .answer, m .buffer) (counts-on st l (x .call) t a)) (h .1)
+      counts-list (x .left .state) (heard l x) (tallied (cardOf st) l (x .call) (x .left .answer) (x .left .value) (x .left .buffer) t) xs
+      (rw (m .card, m .answer, m .value, m .buffer) (counts-on st l (x .call) t a)) (h .1)
 
   pub counted : Counted Made cardOf
   unfolding AfterReset

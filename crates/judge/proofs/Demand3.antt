@@ -10,7 +10,8 @@ use Rattle.wire.specs.Scan.{all}
 use Rattle.tables.specs.Limits.{mostMessage, qpCount}
 use Rattle.tables.specs.Card.{Card, Receive}
 use Rattle.rules.specs.Lists.{isSome, orElse, stored}
-use Rattle.rules.specs.Touch.{Request, Byte, fills, total, sgeTotal, ownBytes, farBytes, message, delivered}
+use Rattle.rules.specs.Touch.{Byte, fills, total, sgeTotal, ownBytes, farBytes, message, delivered}
+use Rattle.tables.specs.Records.{Request}
 use Rattle.rules.specs.Permit.{Use, permits, permitsAll, place, partyOf}
 use Rattle.rules.specs.Send.{peerOf, takenBy, isInError, ownUse, farUse, statusBy, runStatus, sendStatus, sendMemory}
 use Rattle.judge.specs.Log.{Log}

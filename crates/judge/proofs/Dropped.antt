@@ -8,16 +8,21 @@ use lib.Dec.{leb}
 use Rattle.wire.specs.Checks.{Check, refusal}
 use Rattle.wire.proofs.ScanLaws.{and-left, and-right}
 use Rattle.tables.specs.Limits.{mostMessage}
+use Rattle.wire.proofs.SlotLaws.{split, same}
 use Rattle.tables.specs.Card.{Card}
-use Rattle.rules.specs.Touch.{Request, total, farBytes}
+use Rattle.rules.specs.Touch.{fills, total, farBytes}
+use Rattle.tables.specs.Records.{Request}
 use Rattle.tables.specs.Commands.{Command, commandOf}
 use Rattle.rules.specs.Answer.{isDone}
 use Rattle.rules.specs.Call.{Call}
 use Rattle.rules.specs.Calls.{checks, effect, settled, usable, owedChecks, owed}
 use Rattle.rules.specs.Control.{commandEffect}
 use Rattle.rules.specs.Permit.{lookup}
-use Rattle.rules.specs.Send.{takenBy, isInError}
-use Rattle.rules.specs.Dropped.{Reaches, farKey}
+use Rattle.rules.specs.Turn.{headGone}
+use Rattle.rules.specs.Send.{peerOf, takenBy, isInError, sendStatus, sendEffect, sendMemory}
+use Rattle.rules.specs.declared.Answer.{Answer}
+use Rattle.rules.specs.declared.Answer.the-variants.{Done}
+use Rattle.rules.specs.Dropped.{LostBy, Reaches, farKey}
 use Rattle.rules.proofs.Answers.{answered-not-done}
 use Rattle.rules.proofs.Dropped.{lost, same-checks}
 use Rattle.judge.specs.Log.{Log}
@@ -57,8 +62,46 @@ module _ (c : Card) (l : Log) (a : Agree c l) (q : ℕ) (r : Request) {m : List 
   no-region : lookup (c .mr) (farKey c q r i) ≡ none
   no-region = Keys.finds-none (c .memory) (c .mr) (standing l) (ended l) (handed l) (Distinct l) (a .keys) (farKey c q r i) (rw far-bytes at (s .gone))
 
+-- where the head of the queue has left, too
+module _ (c c′ : Card) (q : ℕ) (r : Request) (a : Answer) (m m′ : List ℕ) where
+  gone-waiting : (j : ℕ) → headGone c′ q .qp j .waiting ≡ c′ .qp j .waiting
+  unfolding headGone
+  gone-waiting = split q (λ j. headGone c′ q .qp j .waiting ≡ c′ .qp j .waiting) (rw same) (λ j e. rw e)
+
+  gone-state : (j : ℕ) → headGone c′ q .qp j .state ≡ c′ .qp j .state
+  unfolding headGone
+  gone-state = split q (λ j. headGone c′ q .qp j .state ≡ c′ .qp j .state) (rw same) (λ j e. rw e)
+
+  lost-gone : (b : Bool) → LostBy b c c′ q r a m m′ → LostBy b c (headGone c′ q) q r a m m′
+  unfolding headGone
+  lost-gone true f =
+      record {
+        answer = f .answer;
+        memory = f .memory;
+        puts = f .puts;
+        receiver = f .receiver;
+        consumed = gone-waiting (peerOf c q) ∙ f .consumed;
+        sender-state = gone-state q ∙ f .sender-state;
+        peer-state = gone-state (peerOf c q) ∙ f .peer-state;
+      }
+  lost-gone false f =
+      record {
+        answer = f .answer;
+        memory = f .memory;
+        puts = f .puts;
+        sender-state = gone-state q ∙ f .sender-state;
+        others = λ j e. rw e (f .others j e);
+      }
+
 pub fruitless : Shows Loses
-fruitless c l a q r m p i s = lost c q r m i (reaches c l a q r p i s) (no-region c l a q r p i s)
+fruitless =
+    record {
+      posted = λ c l a q r m p i s. lost c q r m i (reaches c l a q r p i s) (no-region c l a q r p i s);
+      turned =
+          λ c l a q r m p i s.
+          lost-gone c (sendEffect c q r) q r (Done (sendStatus c q r)) m (sendMemory c q r m) (fills (r .opcode))
+          (lost c q r m i (reaches c l a q r p i s) (no-region c l a q r p i s));
+    }
 
 -- ---- a held post send stays held
 

@@ -15,16 +15,18 @@ use Rattle.tables.specs.Records.{sendCodec, sgeCodec, receiveCodec, sendChecks,
 use Rattle.rules.specs.declared.Answer.{Answer}
 use Rattle.rules.specs.declared.Cause.the-variants.{Peer, Place}
 use Rattle.rules.specs.declared.Answer.the-variants.{Done, Held}
-use Rattle.rules.specs.Lists.{stored}
-use Rattle.rules.specs.Touch.{requestOf, receiveIn, range, sgeBytes, sgeTotal, total, ownBytes, farBytes, byteIn, byteOf, message, delivered}
+use Rattle.rules.specs.Lists.{maybe, stored}
+use Rattle.rules.specs.Touch.{receiveIn, range, sgeBytes, sgeTotal, total, ownBytes, farBytes, byteIn, byteOf, message, delivered}
+use Rattle.tables.specs.Records.{requestOf}
 use Rattle.rules.specs.Permit.{permits, permitsAll, place, lookup, covers}
 use Rattle.rules.specs.Control.{commandChecks, commandAck, commandEffect}
-use Rattle.rules.specs.Send.{pairChecks, readyChecks, placeChecks, holdChecks, deliveryChecks, runStatus, sendStatus, sendPuts, putAll, sendQps, sendEffect, sendMemory}
+use Rattle.rules.specs.Send.{pairChecks, readyChecks, placeChecks, holdChecks, queueChecks, deliveryChecks, runStatus, sendStatus, sendPuts, putAll, sendQps, sendEffect, sendMemory}
 use Rattle.rules.specs.Queues.{joinChecks, joinStatus, joinPuts, joined, received, flushChecks, flushed, pollChecks, polled}
-use Rattle.rules.specs.Call.{Call}
-use Rattle.rules.specs.Calls.{checks, resetChecks, controlChecks, bufferChecks, statusOf, effect, memoryAfter, bufferAfter, step}
-use Rattle.judge.specs.Log.{Log, fed, ackData}
-use Rattle.judge.specs.Judge.{flushesAtOnce, judge, nearPasses, farPasses, near, far, passes, filled, waiting, standing, told, toldOfBoth, domain, peer, accepted, consumed, errored, rights}
+use Rattle.rules.specs.Call.{Call, given}
+use Rattle.rules.specs.Calls.{memoryChecks, checks, resetChecks, controlChecks, bufferChecks, statusOf, effect, memoryAfter, bufferAfter, step}
+use Rattle.judge.specs.Log.{Log, fed, ackData, told}
+use Rattle.judge.specs.Demand3.{workIn, postedOn}
+use Rattle.judge.specs.Judge.{flushesAtOnce, judge, nearPasses, farPasses, near, far, passes, filled, waiting, standing, toldOfBoth, domain, peer, accepted, consumed, errored, rights}
 
 abbrev pub mem : List ℕ
 mem = 1 ∷ 2 ∷ 3 ∷ 4 ∷ 5 ∷ 6 ∷ 7 ∷ 8 ∷ []
@@ -83,20 +85,14 @@ abbrev pub setup : List Call
 setup = opened 0 7
 
 -- the judge's verdict on a work request, and on a receive whether it waits
-abbrev says : Log → Call → Bool
-says l (Call.reset n) = true
-says l (Call.control k a) = true
-says l (Call.registerPages k ps a) = true
-says l (Call.send q x m) = judge l (record { qpn = q; request = requestOf x })
-says l (Call.receive q x) = not (flushesAtOnce l q)
-says l (Call.flush q) = true
-says l (Call.poll n b) = true
+abbrev says : Log → Call → (value : ℕ) → Bool
+says l k v = maybe (maybe true (λ q. not (flushesAtOnce l q)) (postedOn k)) (judge l) (workIn l v (given k .pair))
 
 unfoldable pub run : Card → Log → List Call → List (Answer × (List ℕ × Bool))
 run c l [] = []
 run c l (k ∷ ks) =
     let r = step c k in
-    (r .answer, (r .memory, says l k)) ∷ run (r .card) (fed l k (r .answer) (r .buffer)) ks
+    (r .answer, (r .memory, says l k (r .value))) ∷ run (r .card) (fed l k (r .answer) (r .value) (r .buffer)) ks
 
 -- queue pair 0 is in error: a write that would pass and a receive are flushed; queue pair 1, on which a receive waits, is moved there, and another
 -- joins; the eighth completion fills the queue, and a write and a receive are held
@@ -120,7 +116,7 @@ pub works : drop 11 (run (fresh 8) [] (setup ++ (posted 0 257 ∷ posted 2 0 ∷
     ∷ (Held Place, (1 ∷ 2 ∷ 3 ∷ 4 ∷ 5 ∷ 6 ∷ 7 ∷ 8 ∷ [], false))
     ∷ (Held Place, ([], false))
     ∷ []
-unfolding run fieldsAt putFields leAt putLe rows rowsFrom lowest lowestFrom anyBelow commandOf dataSize ackNeed numberCodec registerCodec createQpCodec modifyQpCodec sendCodec sgeCodec receiveCodec completionCodec sendChecks receiveChecks receiveSges receiveOf sendSge inlineBytes inlineLength all stored requestOf receiveIn range sgeBytes sgeTotal total ownBytes farBytes byteOf message delivered permits permitsAll place lookup covers commandChecks commandAck commandEffect pairChecks readyChecks placeChecks holdChecks deliveryChecks runStatus sendStatus sendPuts putAll sendQps sendEffect sendMemory joinChecks joinStatus joinPuts joined received flushChecks flushed pollChecks polled checks resetChecks controlChecks bufferChecks statusOf effect memoryAfter bufferAfter step fed ackData judge nearPasses farPasses near far passes filled waiting standing told toldOfBoth domain peer accepted consumed errored rights byteIn
+unfolding run fieldsAt putFields leAt putLe rows rowsFrom lowest lowestFrom anyBelow commandOf dataSize ackNeed numberCodec registerCodec createQpCodec modifyQpCodec sendCodec sgeCodec receiveCodec completionCodec sendChecks receiveChecks receiveSges receiveOf sendSge inlineBytes inlineLength all stored requestOf receiveIn range sgeBytes sgeTotal total ownBytes farBytes byteOf message delivered permits permitsAll place lookup covers commandChecks commandAck commandEffect pairChecks readyChecks placeChecks holdChecks queueChecks deliveryChecks runStatus sendStatus sendPuts putAll sendQps sendEffect sendMemory joinChecks joinStatus joinPuts joined received flushChecks flushed pollChecks polled checks memoryChecks resetChecks controlChecks bufferChecks statusOf effect memoryAfter bufferAfter step fed ackData judge nearPasses farPasses near far passes filled waiting standing told toldOfBoth domain peer accepted consumed errored rights byteIn
 works = refl
 
 -- ---- what a queue pair's access flags open
@@ -132,7 +128,7 @@ shown ks = drop 11 (run (fresh 8) [] ks)
 -- a peer that can be read from and not written to: a read, and a write
 pub readable : shown (opened 0 4 ++ (posted 4 257 ∷ posted 0 257 ∷ []))
     ≡ (Done 0, (1 ∷ 5 ∷ 6 ∷ 4 ∷ 5 ∷ 6 ∷ 7 ∷ 8 ∷ [], true)) ∷ (Done 8, (1 ∷ 2 ∷ 3 ∷ 4 ∷ 5 ∷ 6 ∷ 7 ∷ 8 ∷ [], false)) ∷ []
-unfolding run fieldsAt putFields leAt putLe rows rowsFrom lowest lowestFrom anyBelow commandOf dataSize ackNeed numberCodec registerCodec createQpCodec modifyQpCodec sendCodec sgeCodec receiveCodec completionCodec sendChecks receiveChecks receiveSges receiveOf sendSge inlineBytes inlineLength all stored requestOf receiveIn range sgeBytes sgeTotal total ownBytes farBytes byteOf message delivered permits permitsAll place lookup covers commandChecks commandAck commandEffect deliveryChecks sendStatus sendPuts putAll sendQps sendEffect sendMemory joinChecks joined flushChecks flushed pollChecks polled checks resetChecks controlChecks bufferChecks statusOf effect memoryAfter bufferAfter step fed ackData judge nearPasses farPasses near far passes filled waiting standing told domain rights peer accepted consumed pairChecks holdChecks readyChecks runStatus errored toldOfBoth byteIn
+unfolding run fieldsAt putFields leAt putLe rows rowsFrom lowest lowestFrom anyBelow commandOf dataSize ackNeed numberCodec registerCodec createQpCodec modifyQpCodec sendCodec sgeCodec receiveCodec completionCodec sendChecks receiveChecks receiveSges receiveOf sendSge inlineBytes inlineLength all stored requestOf receiveIn range sgeBytes sgeTotal total ownBytes farBytes byteOf message delivered permits permitsAll place lookup covers commandChecks commandAck commandEffect queueChecks deliveryChecks sendStatus sendPuts putAll sendQps sendEffect sendMemory joinChecks joined flushChecks flushed pollChecks polled checks memoryChecks resetChecks controlChecks bufferChecks statusOf effect memoryAfter bufferAfter step fed ackData judge nearPasses farPasses near far passes filled waiting standing told domain rights peer accepted consumed pairChecks holdChecks readyChecks runStatus errored toldOfBoth byteIn
 readable = refl
 
 -- set anew with bit 2, kept without it, and gone after a move to 0, even one with bit 2; the sender's flags do not count
@@ -142,7 +138,7 @@ pub writable : shown (opened 7 0 ++ (modified 1 5 3 0 2 ∷ posted 0 257 ∷ mod
     ∷ (Done 0, ([], true)) ∷ (Done 0, ([], true)) ∷ (Done 0, ([], true))
     ∷ (Done 8, (1 ∷ 2 ∷ 3 ∷ 4 ∷ 5 ∷ 6 ∷ 7 ∷ 8 ∷ [], false))
     ∷ []
-unfolding run fieldsAt putFields leAt putLe rows rowsFrom lowest lowestFrom anyBelow commandOf dataSize ackNeed numberCodec registerCodec createQpCodec modifyQpCodec sendCodec sgeCodec receiveCodec completionCodec sendChecks receiveChecks receiveSges receiveOf sendSge inlineBytes inlineLength all stored requestOf receiveIn range sgeBytes sgeTotal total ownBytes farBytes byteOf message delivered permits permitsAll place lookup covers commandChecks commandAck commandEffect deliveryChecks sendStatus sendPuts putAll sendQps sendEffect sendMemory joinChecks joined flushChecks flushed pollChecks polled checks resetChecks controlChecks bufferChecks statusOf effect memoryAfter bufferAfter step fed ackData judge nearPasses farPasses near far passes filled waiting standing told domain rights peer accepted consumed pairChecks holdChecks readyChecks runStatus errored toldOfBoth byteIn
+unfolding run fieldsAt putFields leAt putLe rows rowsFrom lowest lowestFrom anyBelow commandOf dataSize ackNeed numberCodec registerCodec createQpCodec modifyQpCodec sendCodec sgeCodec receiveCodec completionCodec sendChecks receiveChecks receiveSges receiveOf sendSge inlineBytes inlineLength all stored requestOf receiveIn range sgeBytes sgeTotal total ownBytes farBytes byteOf message delivered permits permitsAll place lookup covers commandChecks commandAck commandEffect queueChecks deliveryChecks sendStatus sendPuts putAll sendQps sendEffect sendMemory joinChecks joined flushChecks flushed pollChecks polled checks memoryChecks resetChecks controlChecks bufferChecks statusOf effect memoryAfter bufferAfter step fed ackData judge nearPasses farPasses near far passes filled waiting standing told domain rights peer accepted consumed pairChecks holdChecks readyChecks runStatus errored toldOfBoth byteIn
 writable = refl
 
 -- ---- what calls leave in their buffers, byte by byte
@@ -159,7 +155,7 @@ pub send-read : requestOf sendBytes
       opcode = 3;
       signaled = true;
       inline = false;
-      bytes = 50 ∷ [];
+      bytes = [];
       imm = 117835012;
       address = 8 + 9 * 2 ^ 56;
       key = 10 + 11 * 2 ^ 24;
@@ -187,7 +183,7 @@ pub acks : take 3 (drop 2 (buffers (fresh 8) setup))
     ∷ (0 ∷ 1 ∷ 0 ∷ 0 ∷ 0 ∷ 1 ∷ 1 ∷ 0 ∷ 0 ∷ 1 ∷ 1 ∷ 0 ∷ 0 ∷ [])
     ∷ (0 ∷ 0 ∷ 0 ∷ 0 ∷ 0 ∷ 9 ∷ 9 ∷ 9 ∷ 9 ∷ 9 ∷ 9 ∷ 9 ∷ 9 ∷ [])
     ∷ []
-unfolding buffers fieldsAt putFields leAt putLe rows rowsFrom lowest lowestFrom anyBelow commandOf dataSize ackNeed numberCodec registerCodec createQpCodec modifyQpCodec commandChecks commandAck commandEffect checks controlChecks statusOf effect memoryAfter bufferAfter step
+unfolding buffers fieldsAt putFields leAt putLe rows rowsFrom lowest lowestFrom anyBelow commandOf dataSize ackNeed numberCodec registerCodec createQpCodec modifyQpCodec commandChecks commandAck commandEffect checks memoryChecks controlChecks statusOf effect memoryAfter bufferAfter step
 acks = refl
 
 -- wr_id, status, opcode, zero, byte length, immediate, owner: the sender's completion, its receiver's, a failed write's; byte 24 stays
@@ -197,5 +193,5 @@ pub polled-bytes :
     ∷ (1 ∷ 0 ∷ 0 ∷ 0 ∷ 0 ∷ 0 ∷ 0 ∷ 2 ∷ 0 ∷ 3 ∷ 0 ∷ 0 ∷ 2 ∷ 0 ∷ 0 ∷ 0 ∷ 4 ∷ 5 ∷ 6 ∷ 7 ∷ 1 ∷ 0 ∷ 0 ∷ 0 ∷ 99 ∷ [])
     ∷ (7 ∷ 0 ∷ 0 ∷ 0 ∷ 0 ∷ 0 ∷ 0 ∷ 0 ∷ 8 ∷ 1 ∷ 0 ∷ 0 ∷ 0 ∷ 0 ∷ 0 ∷ 0 ∷ 0 ∷ 0 ∷ 0 ∷ 0 ∷ 0 ∷ 0 ∷ 0 ∷ 0 ∷ 99 ∷ [])
     ∷ []
-unfolding buffers fieldsAt putFields leAt putLe rows rowsFrom lowest lowestFrom anyBelow commandOf dataSize ackNeed numberCodec registerCodec createQpCodec modifyQpCodec sendCodec sgeCodec receiveCodec completionCodec sendChecks receiveChecks receiveSges receiveOf sendSge inlineBytes inlineLength all stored requestOf receiveIn range sgeBytes sgeTotal total ownBytes farBytes byteOf message delivered permits permitsAll place lookup covers commandChecks commandAck commandEffect pairChecks readyChecks placeChecks holdChecks deliveryChecks runStatus sendStatus sendPuts putAll sendQps sendEffect sendMemory joinChecks joinStatus joinPuts joined received flushChecks flushed pollChecks polled checks resetChecks controlChecks bufferChecks statusOf effect memoryAfter bufferAfter step byteIn
+unfolding buffers fieldsAt putFields leAt putLe rows rowsFrom lowest lowestFrom anyBelow commandOf dataSize ackNeed numberCodec registerCodec createQpCodec modifyQpCodec sendCodec sgeCodec receiveCodec completionCodec sendChecks receiveChecks receiveSges receiveOf sendSge inlineBytes inlineLength all stored requestOf receiveIn range sgeBytes sgeTotal total ownBytes farBytes byteOf message delivered permits permitsAll place lookup covers commandChecks commandAck commandEffect pairChecks readyChecks placeChecks holdChecks queueChecks deliveryChecks runStatus sendStatus sendPuts putAll sendQps sendEffect sendMemory joinChecks joinStatus joinPuts joined received flushChecks flushed pollChecks polled checks memoryChecks resetChecks controlChecks bufferChecks statusOf effect memoryAfter bufferAfter step byteIn
 polled-bytes = refl

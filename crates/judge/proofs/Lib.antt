@@ -1,5 +1,6 @@
 pub mod Example
 pub mod PagesExample
+pub mod TurnsExample
 pub mod Refuted
 pub mod Pinned
 pub mod Rights
@@ -12,5 +13,7 @@ pub mod Bytes
 pub mod Run
 pub mod Apart
 pub mod Count
+pub mod FairPinned
+pub mod Fair
 pub mod Dropped
 pub mod Whole

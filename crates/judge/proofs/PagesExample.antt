@@ -16,16 +16,17 @@ use Rattle.tables.specs.State.{pagesNeeded}
 use Rattle.rules.specs.declared.Answer.{Answer}
 use Rattle.rules.specs.declared.Answer.the-variants.{Done}
 use Rattle.rules.specs.Lists.{stored}
-use Rattle.rules.specs.Touch.{requestOf, receiveIn, range, sgeBytes, sgeTotal, total, ownBytes, farBytes, byteIn, byteOf, message, delivered}
+use Rattle.rules.specs.Touch.{receiveIn, range, sgeBytes, sgeTotal, total, ownBytes, farBytes, byteIn, byteOf, message, delivered}
+use Rattle.tables.specs.Records.{requestOf}
 use Rattle.rules.specs.Pages.{pageRecordChecks, pageListChecks}
 use Rattle.rules.specs.Permit.{permits, permitsAll, place, lookup, covers}
 use Rattle.rules.specs.Control.{commandChecks, commandAck, commandEffect}
-use Rattle.rules.specs.Send.{pairChecks, readyChecks, holdChecks, deliveryChecks, runStatus, sendStatus, sendPuts, putAll, sendQps, sendEffect, sendMemory}
+use Rattle.rules.specs.Send.{pairChecks, readyChecks, holdChecks, queueChecks, deliveryChecks, runStatus, sendStatus, sendPuts, putAll, sendQps, sendEffect, sendMemory}
 use Rattle.rules.specs.Queues.{joinChecks, joinStatus, joinPuts, joined, received}
 use Rattle.rules.specs.Call.{Call}
-use Rattle.rules.specs.Calls.{checks, controlChecks, statusOf, effect, memoryAfter, bufferAfter, step}
-use Rattle.judge.specs.Log.{Log, fed, ackData}
-use Rattle.judge.specs.Judge.{judge, judgedMemory, readSide, writtenSide, sources, placed, nearPasses, farPasses, near, far, passes, filled, waiting, standing, told, toldOfBoth, domain, peer, accepted, consumed, errored, rights}
+use Rattle.rules.specs.Calls.{memoryChecks, checks, controlChecks, statusOf, effect, memoryAfter, bufferAfter, step}
+use Rattle.judge.specs.Log.{Log, fed, ackData, told}
+use Rattle.judge.specs.Judge.{judge, judgedMemory, readSide, writtenSide, sources, placed, nearPasses, farPasses, near, far, passes, filled, waiting, standing, toldOfBoth, domain, peer, accepted, consumed, errored, rights}
 use Rattle.judge.proofs.Example.{command, control, registered, modified, created, run, buffers}
 
 -- two pages
@@ -90,7 +91,7 @@ pub works : map shown (drop 11 (run (fresh 8192) [] (setup ++ (posted 0 4 ∷ po
     ∷ (Done 0, ([], true))
     ∷ (Done 8, (1 ∷ 2 ∷ 3 ∷ 4 ∷ 5 ∷ 6 ∷ 0 ∷ 0 ∷ [], false))
     ∷ []
-unfolding run fieldsAt putFields leAt putLe rows rowsFrom lowest lowestFrom anyBelow commandOf dataSize ackNeed numberCodec registerCodec createQpCodec modifyQpCodec sendCodec sgeCodec receiveCodec completionCodec sendChecks receiveChecks receiveSges receiveOf sendSge inlineBytes inlineLength pagesNeeded pageRecordChecks pageListChecks all stored requestOf receiveIn range sgeBytes sgeTotal total ownBytes farBytes byteIn byteOf message delivered permits permitsAll place lookup covers commandChecks commandAck commandEffect pairChecks readyChecks holdChecks deliveryChecks runStatus sendStatus sendPuts putAll sendQps sendEffect sendMemory joinChecks joinStatus joinPuts joined received checks controlChecks statusOf effect memoryAfter bufferAfter step fed ackData judge nearPasses farPasses near far passes filled waiting standing told toldOfBoth domain peer accepted consumed errored rights
+unfolding run fieldsAt putFields leAt putLe rows rowsFrom lowest lowestFrom anyBelow commandOf dataSize ackNeed numberCodec registerCodec createQpCodec modifyQpCodec sendCodec sgeCodec receiveCodec completionCodec sendChecks receiveChecks receiveSges receiveOf sendSge inlineBytes inlineLength pagesNeeded pageRecordChecks pageListChecks all stored requestOf receiveIn range sgeBytes sgeTotal total ownBytes farBytes byteIn byteOf message delivered permits permitsAll place lookup covers commandChecks commandAck commandEffect pairChecks readyChecks holdChecks queueChecks deliveryChecks runStatus sendStatus sendPuts putAll sendQps sendEffect sendMemory joinChecks joinStatus joinPuts joined received checks memoryChecks controlChecks statusOf effect memoryAfter bufferAfter step fed ackData judge nearPasses farPasses near far passes filled waiting standing told toldOfBoth domain peer accepted consumed errored rights
 works = refl
 
 -- ---- what the judge makes of the log
@@ -98,18 +99,18 @@ works = refl
 -- what it has heard of the calls
 unfoldable pub heard : Card → Log → List Call → Log
 heard c l [] = l
-heard c l (k ∷ ks) = let r = step c k in heard (r .card) (fed l k (r .answer) (r .buffer)) ks
+heard c l (k ∷ ks) = let r = step c k in heard (r .card) (fed l k (r .answer) (r .value) (r .buffer)) ks
 
 -- the bytes that it takes the first two addresses of the region over pages for, those on both sides of the second border, and the last
 pub means : map (λ (a : ℕ). placed (heard (fresh 8192) [] (take 4 setup)) (record { address = a; key = 257 })) (4096 ∷ 4097 ∷ 4098 ∷ 8193 ∷ 8194 ∷ 12289 ∷ [])
     ≡ 8190 ∷ 8191 ∷ 0 ∷ 4095 ∷ 4096 ∷ 8191 ∷ []
-unfolding heard placed fieldsAt putFields leAt putLe rows rowsFrom lowest lowestFrom anyBelow commandOf dataSize ackNeed numberCodec registerCodec createQpCodec modifyQpCodec sendCodec sgeCodec receiveCodec completionCodec sendChecks receiveChecks receiveSges receiveOf sendSge inlineBytes inlineLength pagesNeeded pageRecordChecks pageListChecks all stored requestOf receiveIn range sgeBytes sgeTotal total ownBytes farBytes byteIn byteOf message delivered permits permitsAll place lookup covers commandChecks commandAck commandEffect pairChecks readyChecks holdChecks deliveryChecks runStatus sendStatus sendPuts putAll sendQps sendEffect sendMemory joinChecks joinStatus joinPuts joined received checks controlChecks statusOf effect memoryAfter bufferAfter step fed ackData judge nearPasses farPasses near far passes filled waiting standing told toldOfBoth domain peer accepted consumed errored rights
+unfolding heard placed fieldsAt putFields leAt putLe rows rowsFrom lowest lowestFrom anyBelow commandOf dataSize ackNeed numberCodec registerCodec createQpCodec modifyQpCodec sendCodec sgeCodec receiveCodec completionCodec sendChecks receiveChecks receiveSges receiveOf sendSge inlineBytes inlineLength pagesNeeded pageRecordChecks pageListChecks all stored requestOf receiveIn range sgeBytes sgeTotal total ownBytes farBytes byteIn byteOf message delivered permits permitsAll place lookup covers commandChecks commandAck commandEffect pairChecks readyChecks holdChecks queueChecks deliveryChecks runStatus sendStatus sendPuts putAll sendQps sendEffect sendMemory joinChecks joinStatus joinPuts joined received checks memoryChecks controlChecks statusOf effect memoryAfter bufferAfter step fed ackData judge nearPasses farPasses near far passes filled waiting standing told toldOfBoth domain peer accepted consumed errored rights
 means = refl
 
 -- the memory that it expects of the write and of the read
 pub expects : map (λ (o : ℕ). ends (judgedMemory (heard (fresh 8192) [] setup) (record { qpn = 0; request = requestOf (asked o 4) }) mem)) (0 ∷ 4 ∷ [])
     ≡ (5 ∷ 6 ∷ 3 ∷ 4 ∷ 5 ∷ 6 ∷ 3 ∷ 4 ∷ []) ∷ (1 ∷ 2 ∷ 0 ∷ 0 ∷ 1 ∷ 2 ∷ 0 ∷ 0 ∷ []) ∷ []
-unfolding heard placed judgedMemory readSide writtenSide sources fieldsAt putFields leAt putLe rows rowsFrom lowest lowestFrom anyBelow commandOf dataSize ackNeed numberCodec registerCodec createQpCodec modifyQpCodec sendCodec sgeCodec receiveCodec completionCodec sendChecks receiveChecks receiveSges receiveOf sendSge inlineBytes inlineLength pagesNeeded pageRecordChecks pageListChecks all stored requestOf receiveIn range sgeBytes sgeTotal total ownBytes farBytes byteIn byteOf message delivered permits permitsAll place lookup covers commandChecks commandAck commandEffect pairChecks readyChecks holdChecks deliveryChecks runStatus sendStatus sendPuts putAll sendQps sendEffect sendMemory joinChecks joinStatus joinPuts joined received checks controlChecks statusOf effect memoryAfter bufferAfter step fed ackData judge nearPasses farPasses near far passes filled waiting standing told toldOfBoth domain peer accepted consumed errored rights
+unfolding heard placed judgedMemory readSide writtenSide sources fieldsAt putFields leAt putLe rows rowsFrom lowest lowestFrom anyBelow commandOf dataSize ackNeed numberCodec registerCodec createQpCodec modifyQpCodec sendCodec sgeCodec receiveCodec completionCodec sendChecks receiveChecks receiveSges receiveOf sendSge inlineBytes inlineLength pagesNeeded pageRecordChecks pageListChecks all stored requestOf receiveIn range sgeBytes sgeTotal total ownBytes farBytes byteIn byteOf message delivered permits permitsAll place lookup covers commandChecks commandAck commandEffect pairChecks readyChecks holdChecks queueChecks deliveryChecks runStatus sendStatus sendPuts putAll sendQps sendEffect sendMemory joinChecks joinStatus joinPuts joined received checks memoryChecks controlChecks statusOf effect memoryAfter bufferAfter step fed ackData judge nearPasses farPasses near far passes filled waiting standing told toldOfBoth domain peer accepted consumed errored rights
 expects = refl
 
 -- ---- acks
@@ -120,5 +121,5 @@ pub acks : drop 3 (buffers (fresh 8192) (take 4 setup ++ (paged (4096 ∷ 0 ∷ 
     ∷ (1 ∷ 9 ∷ 9 ∷ 9 ∷ 9 ∷ 9 ∷ 9 ∷ 9 ∷ 9 ∷ 9 ∷ 9 ∷ 9 ∷ 9 ∷ [])
     ∷ (1 ∷ 9 ∷ 9 ∷ 9 ∷ 9 ∷ 9 ∷ 9 ∷ 9 ∷ 9 ∷ 9 ∷ 9 ∷ 9 ∷ 9 ∷ [])
     ∷ []
-unfolding buffers fieldsAt putFields leAt putLe rows rowsFrom lowest lowestFrom anyBelow commandOf dataSize ackNeed numberCodec registerCodec pagesNeeded pageRecordChecks pageListChecks all commandChecks commandAck commandEffect checks controlChecks statusOf effect memoryAfter bufferAfter step
+unfolding buffers fieldsAt putFields leAt putLe rows rowsFrom lowest lowestFrom anyBelow commandOf dataSize ackNeed numberCodec registerCodec pagesNeeded pageRecordChecks pageListChecks all commandChecks commandAck commandEffect checks memoryChecks controlChecks statusOf effect memoryAfter bufferAfter step
 acks = refl

@@ -20,12 +20,13 @@ use Rattle.tables.specs.Records.{sendCodec, sgeCodec, receiveCodec, receiveSges
 use Rattle.rules.specs.declared.Answer.{Answer}
 use Rattle.rules.specs.declared.Answer.the-variants.{Done}
 use Rattle.rules.specs.Lists.{stored}
-use Rattle.rules.specs.Touch.{requestOf, receiveIn, range, sgeBytes, sgeTotal, total, ownBytes, farBytes, byteIn, byteOf}
+use Rattle.rules.specs.Touch.{receiveIn, range, sgeBytes, sgeTotal, total, ownBytes, farBytes, byteIn, byteOf}
+use Rattle.tables.specs.Records.{requestOf}
 use Rattle.rules.specs.Control.{commandChecks, commandAck, commandEffect}
 use Rattle.rules.specs.Call.{Call, leaving}
-use Rattle.rules.specs.Calls.{checks, resetChecks, controlChecks, statusOf, effect, memoryAfter, bufferAfter, step}
-use Rattle.judge.specs.Log.{Log, fed, ackData}
-use Rattle.judge.specs.Judge.{judge, nearPasses, farPasses, near, far, passes, placed, filled, waiting, standing, told, toldOfBoth, domain, peer, accepted, consumed, errored, rights, writtenSide, readSide, sources}
+use Rattle.rules.specs.Calls.{memoryChecks, checks, resetChecks, controlChecks, statusOf, effect, memoryAfter, bufferAfter, step}
+use Rattle.judge.specs.Log.{Log, fed, ackData, told, Note, PairNote, queued, enqueuedOn, turnsOn}
+use Rattle.judge.specs.Judge.{judge, nearPasses, farPasses, near, far, passes, placed, filled, waiting, standing, toldOfBoth, domain, peer, accepted, consumed, errored, rights, writtenSide, readSide, sources}
 use Rattle.judge.specs.Demand3.{Seen, heard, Claim, Each, logAfter, stateAfter, workBy, OfWork, Judged, postedOn, Flushes, Linked, AfterReset, Demand3, target, source}
 use Rattle.judge.proofs.Example.{command, control, setup, record-of, posted, waited, mem}
 
@@ -33,13 +34,20 @@ use Rattle.judge.proofs.Example.{command, control, setup, record-of, po
 
 abbrev everyCall : List Call
 everyCall =
-    Call.reset 8 ∷ control (command 4 0) ∷ Call.registerPages [] [] [] ∷ posted 0 257 ∷ waited 1 ∷ Call.flush 1 ∷ Call.poll 0 [] ∷ []
+    Call.reset 8 ∷ control (command 4 0) ∷ Call.registerPages [] [] [] ∷ posted 0 257 ∷ waited 1 ∷ Call.flush 1 ∷ Call.poll 0 [] ∷
+    Call.enqueue 0 (record-of 0 257) mem ∷ Call.turn mem ∷ []
 
-pub work-requests : map (λ k. workBy [] k (leaving (Done 0) [] [] [])) everyCall
-    ≡ none ∷ none ∷ none ∷ some (record { qpn = 0; request = requestOf (record-of 0 257) }) ∷ none ∷ none ∷ none ∷ []
+-- of a turn that served queue pair 0, on which this was enqueued
+abbrev one-queued : Log
+one-queued = Note.ofPair 0 (PairNote.enqueued (requestOf (record-of 0 257))) ∷ []
+
+pub work-requests : map (λ k. workBy one-queued k (leaving (Done 0) [] [] [])) everyCall
+    ≡ none ∷ none ∷ none ∷ some (record { qpn = 0; request = requestOf (record-of 0 257) }) ∷ none ∷ none ∷ none ∷ none ∷
+    some (record { qpn = 0; request = requestOf (record-of 0 257) }) ∷ []
+unfolding queued enqueuedOn turnsOn told
 work-requests = refl
 
-pub posted-receives : map postedOn everyCall ≡ none ∷ none ∷ none ∷ none ∷ some 1 ∷ none ∷ none ∷ []
+pub posted-receives : map postedOn everyCall ≡ none ∷ none ∷ none ∷ none ∷ some 1 ∷ none ∷ none ∷ none ∷ none ∷ []
 posted-receives = refl
 
 -- ---- lists
@@ -74,17 +82,17 @@ differ x y d e = eqb-false x y d e
 
 -- a write under the key of no region that has succeeded
 pub false-success : Allowed (OfWork Judged) (ends (posted 0 258) 0 mem) → ⊥
-unfolding shown step checks resetChecks controlChecks statusOf effect memoryAfter bufferAfter commandOf dataSize ackNeed numberCodec registerCodec createQpCodec modifyQpCodec commandChecks commandAck commandEffect lowest lowestFrom anyBelow fieldsAt putFields leAt putLe rows rowsFrom fed ackData logAfter stateAfter sendCodec sgeCodec sendSge inlineBytes inlineLength requestOf all range sgeBytes sgeTotal total ownBytes farBytes judge nearPasses farPasses near far passes filled waiting standing told toldOfBoth domain peer accepted consumed errored rights
+unfolding shown step checks memoryChecks resetChecks controlChecks statusOf effect memoryAfter bufferAfter commandOf dataSize ackNeed numberCodec registerCodec createQpCodec modifyQpCodec commandChecks commandAck commandEffect lowest lowestFrom anyBelow fieldsAt putFields leAt putLe rows rowsFrom fed ackData logAfter stateAfter sendCodec sgeCodec sendSge inlineBytes inlineLength requestOf all range sgeBytes sgeTotal total ownBytes farBytes judge nearPasses farPasses near far passes filled waiting standing told toldOfBoth domain peer accepted consumed errored rights
 false-success h = true≢false (claimed (OfWork Judged) (ends (posted 0 258) 0 mem) h .correct .verdict)
 
 -- one that must succeed and has failed
 pub false-failure : Allowed (OfWork Judged) (ends (posted 0 257) 8 mem) → ⊥
-unfolding shown step checks resetChecks controlChecks statusOf effect memoryAfter bufferAfter commandOf dataSize ackNeed numberCodec registerCodec createQpCodec modifyQpCodec commandChecks commandAck commandEffect lowest lowestFrom anyBelow fieldsAt putFields leAt putLe rows rowsFrom fed ackData logAfter stateAfter sendCodec sgeCodec sendSge inlineBytes inlineLength requestOf all range sgeBytes sgeTotal total ownBytes farBytes judge nearPasses farPasses near far passes filled waiting standing told toldOfBoth domain peer accepted consumed errored rights
+unfolding shown step checks memoryChecks resetChecks controlChecks statusOf effect memoryAfter bufferAfter commandOf dataSize ackNeed numberCodec registerCodec createQpCodec modifyQpCodec commandChecks commandAck commandEffect lowest lowestFrom anyBelow fieldsAt putFields leAt putLe rows rowsFrom fed ackData logAfter stateAfter sendCodec sgeCodec sendSge inlineBytes inlineLength requestOf all range sgeBytes sgeTotal total ownBytes farBytes judge nearPasses farPasses near far passes filled waiting standing told toldOfBoth domain peer accepted consumed errored rights
 false-failure h = true≢false (sym (claimed (OfWork Judged) (ends (posted 0 257) 8 mem) h .correct .verdict))
 
 -- one that was flushed on a queue pair that is not in error
 pub false-flush : Allowed (OfWork Judged) (ends (posted 0 258) 4 mem) → ⊥
-unfolding shown step checks resetChecks controlChecks statusOf effect memoryAfter bufferAfter commandOf dataSize ackNeed numberCodec registerCodec createQpCodec modifyQpCodec commandChecks commandAck commandEffect lowest lowestFrom anyBelow fieldsAt putFields leAt putLe rows rowsFrom fed ackData logAfter stateAfter sendCodec sgeCodec sendSge inlineBytes inlineLength requestOf all range sgeBytes sgeTotal total ownBytes farBytes judge nearPasses farPasses near far passes filled waiting standing told toldOfBoth domain peer accepted consumed errored rights
+unfolding shown step checks memoryChecks resetChecks controlChecks statusOf effect memoryAfter bufferAfter commandOf dataSize ackNeed numberCodec registerCodec createQpCodec modifyQpCodec commandChecks commandAck commandEffect lowest lowestFrom anyBelow fieldsAt putFields leAt putLe rows rowsFrom fed ackData logAfter stateAfter sendCodec sgeCodec sendSge inlineBytes inlineLength requestOf all range sgeBytes sgeTotal total ownBytes farBytes judge nearPasses farPasses near far passes filled waiting standing told toldOfBoth domain peer accepted consumed errored rights
 false-flush h = true≢false (claimed (OfWork Judged) (ends (posted 0 258) 4 mem) h .correct .in-error)
 
 -- ---- its bytes, of which two are written, to the memory bytes 4 and 5
@@ -97,7 +105,7 @@ none-between j a b = omega arith
 
 -- the second has another value than its source
 pub wrong-byte : Allowed (OfWork Judged) (ends (posted 0 257) 0 (1 ∷ 2 ∷ 3 ∷ 4 ∷ 2 ∷ 9 ∷ 7 ∷ 8 ∷ [])) → ⊥
-unfolding shown step checks resetChecks controlChecks statusOf effect memoryAfter bufferAfter commandOf dataSize ackNeed numberCodec registerCodec createQpCodec modifyQpCodec commandChecks commandAck commandEffect lowest lowestFrom anyBelow fieldsAt putFields leAt putLe rows rowsFrom fed ackData logAfter stateAfter sendCodec sgeCodec sendSge inlineBytes inlineLength requestOf all range sgeBytes sgeTotal total ownBytes farBytes judge nearPasses farPasses near far passes filled waiting standing told toldOfBoth domain peer accepted consumed errored rights placed byteOf byteIn target source writtenSide readSide sources
+unfolding shown step checks memoryChecks resetChecks controlChecks statusOf effect memoryAfter bufferAfter commandOf dataSize ackNeed numberCodec registerCodec createQpCodec modifyQpCodec commandChecks commandAck commandEffect lowest lowestFrom anyBelow fieldsAt putFields leAt putLe rows rowsFrom fed ackData logAfter stateAfter sendCodec sgeCodec sendSge inlineBytes inlineLength requestOf all range sgeBytes sgeTotal total ownBytes farBytes judge nearPasses farPasses near far passes filled waiting standing told toldOfBoth domain peer accepted consumed errored rights placed byteOf byteIn target source writtenSide readSide sources
 wrong-byte h =
     differ 9 3 refl
     (claimed (OfWork Judged) (ends (posted 0 257) 0 (1 ∷ 2 ∷ 3 ∷ 4 ∷ 2 ∷ 9 ∷ 7 ∷ 8 ∷ [])) h .bytewise .written refl 1 one-of-two
@@ -105,7 +113,7 @@ wrong-byte h =
 
 -- both are right, and so is a third
 pub other-byte : Allowed (OfWork Judged) (ends (posted 0 257) 0 (1 ∷ 2 ∷ 3 ∷ 4 ∷ 2 ∷ 3 ∷ 4 ∷ 8 ∷ [])) → ⊥
-unfolding shown step checks resetChecks controlChecks statusOf effect memoryAfter bufferAfter commandOf dataSize ackNeed numberCodec registerCodec createQpCodec modifyQpCodec commandChecks commandAck commandEffect lowest lowestFrom anyBelow fieldsAt putFields leAt putLe rows rowsFrom fed ackData logAfter stateAfter sendCodec sgeCodec sendSge inlineBytes inlineLength requestOf all range sgeBytes sgeTotal total ownBytes farBytes judge nearPasses farPasses near far passes filled waiting standing told toldOfBoth domain peer accepted consumed errored rights placed byteOf byteIn target source writtenSide readSide sources
+unfolding shown step checks memoryChecks resetChecks controlChecks statusOf effect memoryAfter bufferAfter commandOf dataSize ackNeed numberCodec registerCodec createQpCodec modifyQpCodec commandChecks commandAck commandEffect lowest lowestFrom anyBelow fieldsAt putFields leAt putLe rows rowsFrom fed ackData logAfter stateAfter sendCodec sgeCodec sendSge inlineBytes inlineLength requestOf all range sgeBytes sgeTotal total ownBytes farBytes judge nearPasses farPasses near far passes filled waiting standing told toldOfBoth domain peer accepted consumed errored rights placed byteOf byteIn target source writtenSide readSide sources
 other-byte h =
     differ 4 7 refl
     (claimed (OfWork Judged) (ends (posted 0 257) 0 (1 ∷ 2 ∷ 3 ∷ 4 ∷ 2 ∷ 3 ∷ 4 ∷ 8 ∷ [])) h .bytewise .others refl 6 not-written)
@@ -117,7 +125,7 @@ other-byte h =
 
 -- one is written by a request that failed
 pub byte-on-failure : Allowed (OfWork Judged) (ends (posted 0 258) 8 (1 ∷ 2 ∷ 3 ∷ 4 ∷ 2 ∷ 6 ∷ 7 ∷ 8 ∷ [])) → ⊥
-unfolding shown step checks resetChecks controlChecks statusOf effect memoryAfter bufferAfter commandOf dataSize ackNeed numberCodec registerCodec createQpCodec modifyQpCodec commandChecks commandAck commandEffect lowest lowestFrom anyBelow fieldsAt putFields leAt putLe rows rowsFrom fed ackData logAfter stateAfter sendCodec sgeCodec sendSge inlineBytes inlineLength requestOf all range sgeBytes sgeTotal total ownBytes farBytes judge nearPasses farPasses near far passes filled waiting standing told toldOfBoth domain peer accepted consumed errored rights
+unfolding shown step checks memoryChecks resetChecks controlChecks statusOf effect memoryAfter bufferAfter commandOf dataSize ackNeed numberCodec registerCodec createQpCodec modifyQpCodec commandChecks commandAck commandEffect lowest lowestFrom anyBelow fieldsAt putFields leAt putLe rows rowsFrom fed ackData logAfter stateAfter sendCodec sgeCodec sendSge inlineBytes inlineLength requestOf all range sgeBytes sgeTotal total ownBytes farBytes judge nearPasses farPasses near far passes filled waiting standing told toldOfBoth domain peer accepted consumed errored rights
 byte-on-failure h =
     differ 2 5 refl
     (ap (λ (m : List ℕ). getD m 4 0)
@@ -127,14 +135,14 @@ byte-on-failure h =
 
 -- flushed on a queue pair that is not in error
 pub false-status : Allowed Flushes (ends (waited 1) 4 []) → ⊥
-unfolding shown step checks resetChecks controlChecks statusOf effect memoryAfter bufferAfter commandOf dataSize ackNeed numberCodec registerCodec createQpCodec modifyQpCodec commandChecks commandAck commandEffect lowest lowestFrom anyBelow fieldsAt putFields leAt putLe rows rowsFrom fed ackData logAfter stateAfter sendCodec sgeCodec sendSge inlineBytes inlineLength requestOf all range sgeBytes sgeTotal total ownBytes farBytes judge nearPasses farPasses near far passes filled waiting standing told toldOfBoth domain peer accepted consumed errored rights receiveCodec receiveSges receiveOf receiveIn
+unfolding shown step checks memoryChecks resetChecks controlChecks statusOf effect memoryAfter bufferAfter commandOf dataSize ackNeed numberCodec registerCodec createQpCodec modifyQpCodec commandChecks commandAck commandEffect lowest lowestFrom anyBelow fieldsAt putFields leAt putLe rows rowsFrom fed ackData logAfter stateAfter sendCodec sgeCodec sendSge inlineBytes inlineLength requestOf all range sgeBytes sgeTotal total ownBytes farBytes judge nearPasses farPasses near far passes filled waiting standing told toldOfBoth domain peer accepted consumed errored rights receiveCodec receiveSges receiveOf receiveIn
 false-status h = differ 4 0 refl (claimed Flushes (ends (waited 1) 4 []) h)
 
 -- ---- the statement itself
 
 -- it is false of calls that may have any outcome
 pub not-of-any : Demand3 (λ st x. Unit {0}) → ⊥
-unfolding Each Linked AfterReset shown step checks resetChecks controlChecks statusOf effect memoryAfter bufferAfter commandOf dataSize ackNeed numberCodec registerCodec createQpCodec modifyQpCodec commandChecks commandAck commandEffect lowest lowestFrom anyBelow fieldsAt putFields leAt putLe rows rowsFrom fed ackData logAfter stateAfter sendCodec sgeCodec sendSge inlineBytes inlineLength requestOf all range sgeBytes sgeTotal total ownBytes farBytes judge nearPasses farPasses near far passes filled waiting standing told toldOfBoth domain peer accepted consumed errored rights
+unfolding Each Linked AfterReset shown step checks memoryChecks resetChecks controlChecks statusOf effect memoryAfter bufferAfter commandOf dataSize ackNeed numberCodec registerCodec createQpCodec modifyQpCodec commandChecks commandAck commandEffect lowest lowestFrom anyBelow fieldsAt putFields leAt putLe rows rowsFrom fed ackData logAfter stateAfter sendCodec sgeCodec sendSge inlineBytes inlineLength requestOf all range sgeBytes sgeTotal total ownBytes farBytes judge nearPasses farPasses near far passes filled waiting standing told toldOfBoth domain peer accepted consumed errored rights
 not-of-any h =
     true≢false
     (h (ends (Call.reset 8) 0 []) (record { before = []; base = []; begin = refl; made = tt; done = refl }) (ends (posted 0 258) 0 mem ∷ []) (tt, tt) .0 .correct .verdict)

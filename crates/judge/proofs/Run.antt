@@ -14,13 +14,14 @@ use Rattle.tables.specs.Card.{Card, fresh}
 use Rattle.tables.specs.Layout.{stateSize}
 use Rattle.rules.specs.Answer.{answered, number, isDone}
 use Rattle.rules.specs.Call.{Call, given, memoryOf, Outcome}
-use Rattle.rules.specs.Calls.{checks, effect, statusOf, memoryAfter, bufferRefused, settled, step, owed, usable, Result, Meets}
+use Rattle.rules.specs.Calls.{checks, effect, statusOf, valueOf, memoryAfter, bufferRefused, settled, step, owed, usable, Result, Meets}
 use Rattle.rules.specs.declared.Answer.{Answer}
 use Rattle.rules.specs.declared.Cause.{Cause}
-use Rattle.rules.specs.Touch.{Request, requestOf}
+use Rattle.tables.specs.Records.{Request, requestOf}
 use Rattle.tables.specs.Records.{receiveChecks}
 use Rattle.rules.specs.Queues.{flushesAtOnce, joinChecks, joinStatus}
 use Rattle.rules.proofs.Tests.{passed-after}
+use Rattle.rules.specs.Turn.{served, headOf, headGone, turnEffect}
 use Rattle.rules.specs.Send.{sendStatus, sendEffect, sendMemory}
 use Rattle.rules.specs.declared.Cause.the-variants.{Peer, Place}
 use Rattle.rules.specs.declared.Answer.the-variants.{Done, Held, Refused}
@@ -29,7 +30,7 @@ use Rattle.judge.specs.Log.{Log, begins, fed}
 use Rattle.judge.specs.Judge.{Work, waiting}
 use Rattle.judge.specs.Whole.{Met}
 use Rattle.judge.specs.Demand3.{Judged, postedOn, FlushedBy, Flushes, Seen, heard, Claim, Each, logAfter, stateAfter, workBy, work, WorkClaim, WhenDone, OfWork, Linked, Begins, AfterReset, Every, Resumed, Steady}
-use Rattle.judge.proofs.Agree.{Agree, start, Sendable, sendable, accepted-call}
+use Rattle.judge.proofs.Agree.{Agree, start, Sendable, sendable, turning, same-head, turn-sendable, accepted-call}
 use Rattle.judge.proofs.Demand3.{works, Proves}
 use Rattle.judge.proofs.Bytes.{judged}
 
@@ -65,48 +66,59 @@ of-refused F held refused n = go (eqb n 5) (eqb n 6)
 -- ---- the agreement after a call
 
 abbrev Agrees : Log → Card → Call → Result → Type 0
-Agrees l c k r = Agree c l → Agree (r .card) (fed l k (r .answer) (r .buffer))
+Agrees l c k r = Agree c l → Agree (r .card) (fed l k (r .answer) (r .value) (r .buffer))
 
 agrees-refused : (l : Log) (c : Card) (k : Call) (n : ℕ) → Agrees l c k (settled (some n) c k)
 unfolding fed
-agrees-refused l c k n = of-refused (λ r. Agree c l → Agree c (fed l k r (bufferRefused n k))) (λ x a. a) (λ x a. a) n
+agrees-refused l c k n = of-refused (λ r. Agree c l → Agree c (fed l k r 0 (bufferRefused n k))) (λ x a. a) (λ x a. a) n
 
 -- ---- a claim of a work request, where the agreement proves it: of the cards before and after it, too
 
 abbrev pub CardClaim : Type 1
 CardClaim = (l : Log) → (c c′ : Card) → Work → (s : ℕ) → (m m′ : List ℕ) → Type 0
 
-abbrev pub Shows : CardClaim → Type 0
-Shows P =
+-- of a request with the card c′ after it
+abbrev Shown : CardClaim → (after : Card → (q : ℕ) → Request → Card) → Type 0
+Shown P after =
     (c : Card) (l : Log) (a : Agree c l) (q : ℕ) (r : Request) (m : List ℕ) → Sendable c q r m →
-    P l c (sendEffect c q r) (works q r) (sendStatus c q r) m (sendMemory c q r m)
+    P l c (after c q r) (works q r) (sendStatus c q r) m (sendMemory c q r m)
+
+-- posted, or run by a turn
+pub record Shows (P : CardClaim) : Type 0 where
+  pub posted : Shown P sendEffect
+  pub turned : Shown P (λ c q r. headGone (sendEffect c q r) q)
 
 module _ (P : CardClaim) (shows : Shows P) (l : Log) where
   abbrev Right : Card → Call → Result → Type 0
-  Right c k r = Agree c l → (o : Outcome) → WhenDone (λ w s. P l c (r .card) w s (memoryOf k) (r .memory)) (workBy l k o) (r .answer)
+  Right c k r = Agree c l → (o : Outcome) → o .value ≡ r .value → WhenDone (λ w s. P l c (r .card) w s (memoryOf k) (r .memory)) (workBy l k o) (r .answer)
 
   ran-none : (f : Work → ℕ → Type 0) (w : Option Work) (n : ℕ) → WhenDone f w (answered 0 (some n))
   ran-none f none n = tt
   ran-none f (some w) n = of-refused (WhenDone f (some w)) (λ x. tt) (λ x. tt) n
 
   right-done : (c : Card) (k : Call) → Passed (checks c k) → Right c k (settled none c k)
-  unfolding statusOf memoryAfter effect
-  right-done c (Call.reset n) p a o = tt
-  right-done c (Call.control k b) p a o = tt
-  right-done c (Call.registerPages k ps b) p a o = tt
-  right-done c (Call.send q x m) p a o = shows c l a q (requestOf x) m (sendable c q x m p)
-  right-done c (Call.receive q x) p a o = tt
-  right-done c (Call.flush q) p a o = tt
-  right-done c (Call.poll n b) p a o = tt
+  unfolding statusOf valueOf memoryAfter effect turnEffect
+  right-done c (Call.reset n) p a o e = tt
+  right-done c (Call.control k b) p a o e = tt
+  right-done c (Call.registerPages k ps b) p a o e = tt
+  right-done c (Call.send q x m) p a o e = shows .posted c l a q (requestOf x) m (sendable c q x m p)
+  right-done c (Call.receive q x) p a o e = tt
+  right-done c (Call.flush q) p a o e = tt
+  right-done c (Call.enqueue q x m) p a o e = tt
+  right-done c (Call.turn m) p a o e =
+      let t = turning c m p in
+      rw (e, same-head c l a (served c) (t .live))
+      (shows .turned c l a (served c) (headOf c (served c)) m (turn-sendable c l a m t))
+  right-done c (Call.poll n b) p a o e = tt
 
   right : (k : Call) (cardOf : List ℕ → Card) (accepts : List ℕ → Bool) (st : List ℕ) → Right (cardOf st) k (owed cardOf accepts st k)
   right k cardOf accepts st =
-      of-owed Right (λ c k n a o. ran-none (λ w s. P l c c w s (memoryOf k) (memoryOf k)) (workBy l k o) n) right-done cardOf accepts st k
+      of-owed Right (λ c k n a o e. ran-none (λ w s. P l c c w s (memoryOf k) (memoryOf k)) (workBy l k o) n) right-done cardOf accepts st k
 
 module _ (cardOf : List ℕ → Card) (accepts : List ℕ → Bool) where
   pub still-agrees : (st : List ℕ) (l : Log) (x : Seen) → Agree (cardOf st) l → Met cardOf accepts st x → Agree (cardOf (x .left .state)) (heard l x)
   still-agrees st l x a h =
-      rw (h .card, h .answer, h .buffer) (of-owed (Agrees l) (agrees-refused l) (λ c k p a. accepted-call c k l p a) cardOf accepts st (x .call) a)
+      rw (h .card, h .answer, h .value, h .buffer) (of-owed (Agrees l) (agrees-refused l) (λ c k p a. accepted-call c k l p a) cardOf accepts st (x .call) a)
 
   pub of-cards : (P : CardClaim) → Shows P → (st : List ℕ) (l : Log) (x : Seen) → Agree (cardOf st) l → Met cardOf accepts st x →
       WhenDone (λ w s. P l (cardOf st) (cardOf (x .left .state)) w s (memoryOf (x .call)) (x .left .memory)) (work l x) (x .left .answer)
@@ -117,10 +129,10 @@ module _ (cardOf : List ℕ → Card) (accepts : List ℕ → Bool) where
       go k o h =
           let r : Result = owed cardOf accepts st k in
           rw (h .answer, h .card, h .memory)
-          (right P shows l k cardOf accepts st a (record { answer = r .answer; state = o .state; memory = r .memory; buffer = o .buffer }))
+          (right P shows l k cardOf accepts st a o (h .value))
 
   pub of-work : (P : WorkClaim) → Proves P → (st : List ℕ) (l : Log) (x : Seen) → Agree (cardOf st) l → Met cardOf accepts st x → OfWork P st l x
-  of-work P proves = of-cards (λ l c c′ w s m m′. P l w s m m′) proves
+  of-work P proves = of-cards (λ l c c′ w s m m′. P l w s m m′) (record { posted = proves; turned = proves })
 
   -- a receive that is done is flushed, or waits, by the log
   flushes-card : (l : Log) (c : Card) (k : Call) → Passed (checks c k) → Agree c l → FlushedBy l (postedOn k) (Done (statusOf c k))
@@ -133,6 +145,8 @@ module _ (cardOf : List ℕ → Card) (accepts : List ℕ → Bool) where
       let h = a .pairs q (not-false _ (passed-after (receiveChecks x) (joinChecks c q) p .0)) in
       rw (← h .errs, ← h .waits) refl
   flushes-card l c (Call.flush q) p a = tt
+  flushes-card l c (Call.enqueue q x m) p a = tt
+  flushes-card l c (Call.turn m) p a = tt
   flushes-card l c (Call.poll n b) p a = tt
 
   flushes-none : (l : Log) (o : Option ℕ) (n : ℕ) → FlushedBy l o (answered 0 (some n))
@@ -192,6 +206,8 @@ fresh-done c (Call.registerPages k ps a) p base e d = absurd (Option·some-ne-no
 fresh-done c (Call.send q x m) p base e d = absurd (Option·some-ne-none base (sym e))
 fresh-done c (Call.receive q x) p base e d = absurd (Option·some-ne-none base (sym e))
 fresh-done c (Call.flush q) p base e d = absurd (Option·some-ne-none base (sym e))
+fresh-done c (Call.enqueue q x m) p base e d = absurd (Option·some-ne-none base (sym e))
+fresh-done c (Call.turn m) p base e d = absurd (Option·some-ne-none base (sym e))
 fresh-done c (Call.poll n b) p base e d = absurd (Option·some-ne-none base (sym e))
 
 -- Made is what is known of the calls of a list, and makes them meet their contract
@@ -205,7 +221,7 @@ module _ (Made : (st : List ℕ) → Seen → Type 0) (cardOf : List ℕ → Car
       (of-owed FreshAfter (λ c k n base e d. absurd (not-refused n d)) fresh-done cardOf accepts (b .before) (x .call) (b .base) (b .begin)
       (sym (h .answer) ∙ b .done))
 
-  begun : (x : Seen) (b : Begins Made x) → Agree (cardOf (x .left .state)) (b .base)
+  pub begun : (x : Seen) (b : Begins Made x) → Agree (cardOf (x .left .state)) (b .base)
   begun x b = fresh-agrees (cardOf (x .left .state)) (b .base) (fresh-card x b)
 
   -- from any card that agrees with a log

@@ -10,8 +10,8 @@ use Rattle.validate.specs.Accept.{accepts}
 use Rattle.validate.proofs.AcceptedLaws.{accepted}
 use Rattle.tables.specs.State.{card}
 use Rattle.tables.specs.Layout.{stateSize}
-use Rattle.rules.specs.Answer.{answerIn}
-use Rattle.rules.specs.Call.{leaving}
+use Rattle.rules.specs.Answer.{answerIn, valueIn, isDone}
+use Rattle.rules.specs.Call.{Outcome}
 use Rattle.rules.specs.Calls.{owed, Meets}
 use Rattle.rules.proofs.Answers.{code-back}
 use Rattle.rules.proofs.Exported.{met}
@@ -25,6 +25,7 @@ use Rattle.judge.proofs.Run.{still-agrees, of-cards, every, every-work,
 use Rattle.judge.proofs.Dropped.{fruitless, stays-held}
 use Rattle.judge.proofs.Bytes.{judged}
 use Rattle.judge.proofs.Apart.{apart}
+use Rattle.judge.proofs.Fair.{fair}
 use Rattle.judge.proofs.Count.{call-puts-by, counted}
 
 accepted-length : (l : List ℕ) → accepts l ≡ true → eqb (length l) stateSize ≡ true
@@ -45,6 +46,7 @@ of-all Made met =
       held = stays-held card accepts Made met;
       put = every Made card accepts met (Puts card) (λ st l x a h. call-puts-by st l card accepts x h);
       counted = counted Made card accepts met;
+      fair = fair Made card accepts met;
     }
 
 pub whole : Whole (Met card accepts)
@@ -53,8 +55,30 @@ whole = of-all (Met card accepts) (λ st x h. h)
 -- and of those that the exported functions make
 met-from-c : (st : List ℕ) (x : Seen) → FromC st x → Met card accepts st x
 met-from-c st x h =
-    let e : x .left .answer ≡ owed card accepts st (x .call) .answer = h .tells ∙ ap answerIn (h .exports .code) ∙ code-back card accepts st (x .call) in
-    subst (λ r. Meets card accepts st (x .call) (leaving r (x .left .state) (x .left .memory) (x .left .buffer))) (sym e) (met st (x .call) (h .exports))
+    let t = code-back card accepts st (x .call) in
+    let e : x .left .answer ≡ owed card accepts st (x .call) .answer = h .tells ∙ ap answerIn (h .exports .code) ∙ t .answer in
+    let v : x .left .value ≡ owed card accepts st (x .call) .value = h .names ∙ ap valueIn (h .exports .code) ∙ t .value in
+    go (x .left) e v (met st (x .call) (h .exports))
+  where
+    go : (o : Outcome) → o .answer ≡ owed card accepts st (x .call) .answer → o .value ≡ owed card accepts st (x .call) .value →
+        Meets card accepts st (x .call)
+        (record {
+          answer = owed card accepts st (x .call) .answer;
+          value = owed card accepts st (x .call) .value;
+          state = o .state;
+          memory = o .memory;
+          buffer = o .buffer;
+        }) → Meets card accepts st (x .call) o
+    go o e v m =
+        record {
+          answer = e;
+          value = v;
+          card = m .card;
+          memory = m .memory;
+          buffer = m .buffer;
+          kept = λ d. m .kept (ap isDone (sym e) ∙ d);
+          sound = λ d. m .sound (ap isDone (sym e) ∙ d);
+        }
 
 pub exported : Whole FromC
 exported = of-all FromC met-from-c

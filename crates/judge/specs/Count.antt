@@ -16,6 +16,7 @@ use Rattle.rules.specs.declared.Answer.{Answer}
 use Rattle.rules.specs.declared.Answer.the-variants.{Done, Held, Refused}
 use Rattle.rules.specs.Lists.{when, maybe}
 use Rattle.rules.specs.Send.{Put, sendPuts, sendStatus}
+use Rattle.rules.specs.Turn.{served, headOf}
 use Rattle.rules.specs.Queues.{flushPut, joinPuts}
 use Rattle.rules.specs.Call.{Call, OnPair, given}
 use Rattle.judge.specs.Log.{Log, Note, PairNote, entry, note, begins}
@@ -29,6 +30,8 @@ putsOn c OnPair.nothing = []
 putsOn c (OnPair.sends q r) = sendPuts c q r (sendStatus c q r)
 putsOn c (OnPair.receives q w) = joinPuts c q w
 putsOn c (OnPair.flushes q) = flushPut c q ∷ []
+putsOn c (OnPair.enqueues q r) = []
+putsOn c OnPair.turns = let q = served c in sendPuts c q (headOf c q) (sendStatus c q (headOf c q))
 
 unfoldable pub puts : Card → Call → List Put
 unfolding putsOn
@@ -61,6 +64,8 @@ stays c (Call.registerPages k ps a) n = c .cq n .entries
 stays c (Call.send q x m) n = c .cq n .entries
 stays c (Call.receive q x) n = c .cq n .entries
 stays c (Call.flush q) n = c .cq n .entries
+stays c (Call.enqueue q x m) n = c .cq n .entries
+stays c (Call.turn m) n = c .cq n .entries
 stays c (Call.poll i b) n = cond (eqb i n) (tail (c .cq n .entries)) (c .cq n .entries)
 
 -- the completion queues after a call, by its answer; c is the card before it and c′ the card after it
@@ -97,7 +102,8 @@ countedBy (PairNote.changed r) w t =
     cond (eqb (r .state) 0) (record { accepted = t .accepted; put = t .put; dropped = t .dropped + w }) t
 countedBy (PairNote.posted r s) w t = record { accepted = t .accepted + 1; put = t .put; dropped = t .dropped }
 countedBy PairNote.flushed w t = t
-countedBy (PairNote.sent r s) w t = t
+countedBy (PairNote.enqueued r) w t = t
+countedBy (PairNote.sent q r s) w t = t
 
 abbrev pub noted : Note → (q w : ℕ) → Tally → Tally
 noted (Note.ofKey n) q w t = t
@@ -111,18 +117,18 @@ abbrev pub unlessBegun : Option Log → Tally → Tally
 unlessBegun none t = t
 unlessBegun (some base) t = none-yet
 
--- the tallies after a call, with the card c and the log l before it; b is the answer buffer after it
-unfoldable pub tallied : Card → Log → Call → Answer → (b : List ℕ) → (ℕ → Tally) → ℕ → Tally
-tallied c l k (Done s) b t q =
+-- the tallies after a call, with the card c and the log l before it; v is the value and b the answer buffer that it leaves
+unfoldable pub tallied : Card → Log → Call → Answer → (v : ℕ) → (b : List ℕ) → (ℕ → Tally) → ℕ → Tally
+tallied c l k (Done s) v b t q =
     unlessBegun (begins k)
-    (completed (receivePuts q (puts c k)) (noted (note l (entry k s b)) q (length (c .qp q .waiting)) (t q)))
-tallied c l k (Held e) b t q = t q
-tallied c l k (Refused n) b t q = t q
+    (completed (receivePuts q (puts c k)) (noted (note l (entry k s v b)) q (length (c .qp q .waiting)) (t q)))
+tallied c l k (Held e) v b t q = t q
+tallied c l k (Refused n) v b t q = t q
 
 unfoldable pub tallyAfter : (cardOf : List ℕ → Card) → (ℕ → Tally) → (st : List ℕ) → Log → List Seen → ℕ → Tally
 tallyAfter cardOf t st l [] = t
 tallyAfter cardOf t st l (x ∷ xs) =
-    tallyAfter cardOf (tallied (cardOf st) l (x .call) (x .left .answer) (x .left .buffer) t) (x .left .state) (heard l x) xs
+    tallyAfter cardOf (tallied (cardOf st) l (x .call) (x .left .answer) (x .left .value) (x .left .buffer) t) (x .left .state) (heard l x) xs
 
 -- after every list of calls that follows a reset answered 0, for every live queue pair
 abbrev pub Counted : (Made : (st : List ℕ) → Seen → Type 0) → (cardOf : List ℕ → Card) → Type 0

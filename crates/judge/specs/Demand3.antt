@@ -13,7 +13,7 @@ use Rattle.rules.specs.declared.Answer.the-variants.{Done, Held, Refused}
 use Rattle.rules.specs.Answer.{number}
 use Rattle.rules.specs.Call.{Call, OnPair, given, memoryOf, Outcome}
 use Rattle.rules.specs.Touch.{Byte}
-use Rattle.judge.specs.Log.{Log, begins, fed}
+use Rattle.judge.specs.Log.{Log, nextOn, begins, fed}
 use Rattle.judge.specs.Judge.{errored, flushesAtOnce, Party, Right, passes, placed}
 use Rattle.judge.specs.Judge.{Work, judge, moves, judgedMemory, writtenSide, Source, sources, valueOf}
 
@@ -82,7 +82,7 @@ pub record Seen : Type 0 where
 
 -- the log after it
 abbrev pub heard : Log → Seen → Log
-heard l x = fed l (x .call) (x .left .answer) (x .left .buffer)
+heard l x = fed l (x .call) (x .left .answer) (x .left .value) (x .left .buffer)
 
 -- what may be claimed of a call: st is the state that it was given, l the log before it
 abbrev pub Claim : Type 1
@@ -103,15 +103,18 @@ unfoldable pub stateAfter : List ℕ → List Seen → List ℕ
 stateAfter st [] = st
 stateAfter st (x ∷ xs) = stateAfter (x .left .state) xs
 
--- the work request that a call runs, if it does, seen with the log before it: a post send's
-abbrev pub workIn : OnPair → Option Work
-workIn OnPair.nothing = none
-workIn (OnPair.sends q r) = some (record { qpn = q; request = r })
-workIn (OnPair.receives q w) = none
-workIn (OnPair.flushes q) = none
+-- the work request that a call runs, if it does, seen with the log before it: a post send's; 02, M-108: of a turn, "the turn's own answer names the
+-- QP", v, "and by the log its record is the oldest enqueued there .. that no turn has taken"
+abbrev pub workIn : Log → (v : ℕ) → OnPair → Option Work
+workIn l v OnPair.nothing = none
+workIn l v (OnPair.sends q r) = some (record { qpn = q; request = r })
+workIn l v (OnPair.receives q w) = none
+workIn l v (OnPair.flushes q) = none
+workIn l v (OnPair.enqueues q r) = none
+workIn l v OnPair.turns = some (record { qpn = v; request = nextOn l v })
 
 abbrev pub workBy : Log → Call → Outcome → Option Work
-workBy l k o = workIn (given k .pair)
+workBy l k o = workIn l (o .value) (given k .pair)
 
 abbrev pub work : Log → Seen → Option Work
 work l x = workBy l (x .call) (x .left)
@@ -138,6 +141,8 @@ postedIn OnPair.nothing = none
 postedIn (OnPair.sends q r) = none
 postedIn (OnPair.receives q w) = some q
 postedIn (OnPair.flushes q) = none
+postedIn (OnPair.enqueues q r) = none
+postedIn OnPair.turns = none
 
 abbrev pub postedOn : Call → Option ℕ
 postedOn k = postedIn (given k .pair)

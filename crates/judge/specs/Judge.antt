@@ -11,8 +11,9 @@ use Rattle.tables.specs.Limits.{mostMessage}
 use Rattle.tables.specs.Card.{Receive, noReceive}
 use Rattle.tables.specs.declared.Registration.{Registration}
 use Rattle.rules.specs.Lists.{names, isEmpty, when, stored}
-use Rattle.rules.specs.Touch.{Request, Byte, total, sgeTotal, ownBytes, farBytes, byteOf}
-use Rattle.judge.specs.Log.{Log, Note, KeyNote, PairNote}
+use Rattle.rules.specs.Touch.{Byte, total, sgeTotal, ownBytes, farBytes, byteOf}
+use Rattle.tables.specs.Records.{Request}
+use Rattle.judge.specs.Log.{Log, Note, KeyNote, PairNote, told}
 
 -- ---- "A key's registration, the latest that handed it out, stands unless a later deregister names its mrn."
 
@@ -38,14 +39,7 @@ standing (Note.ofKey n ∷ l) k = standingBy n k (standing l k)
 standing (Note.ofPair q n ∷ l) k = standing l k
 standing (Note.other ∷ l) k = standing l k
 
--- ---- facts of a queue pair
-
--- what its own notes tell: f is what one of them makes of what was told before it, a what is told before the first
-unfoldable pub told : {A : Type 0} → (f : PairNote → A → A) → (a : A) → Log → (q : ℕ) → A
-told f a [] q = a
-told f a (Note.ofKey n ∷ l) q = told f a l q
-told f a (Note.ofPair x n ∷ l) q = when (eqb x q) (f n) (told f a l q)
-told f a (Note.other ∷ l) q = told f a l q
+-- ---- facts of a queue pair; 02, M-108: "Demands 2 and 3 read a turn as the work request it runs"
 
 -- "A QP's domain is in the latest create that gave its number"
 abbrev pub domainBy : PairNote → Option ℕ → Option ℕ
@@ -53,7 +47,8 @@ domainBy (PairNote.created r) o = some (r .pd)
 domainBy (PairNote.changed r) o = o
 domainBy (PairNote.posted w s) o = o
 domainBy PairNote.flushed o = o
-domainBy (PairNote.sent r s) o = o
+domainBy (PairNote.enqueued r) o = o
+domainBy (PairNote.sent t r s) o = o
 
 unfoldable pub domain : Log → (q : ℕ) → Option ℕ
 domain l q = told domainBy none l q
@@ -64,7 +59,8 @@ peerBy (PairNote.created r) o = o
 peerBy (PairNote.changed r) o = cond (eqb (r .state) 2) (some (r .dest)) o
 peerBy (PairNote.posted w s) o = o
 peerBy PairNote.flushed o = o
-peerBy (PairNote.sent r s) o = o
+peerBy (PairNote.enqueued r) o = o
+peerBy (PairNote.sent t r s) o = o
 
 unfoldable pub peer : Log → (q : ℕ) → Option ℕ
 peer l q = told peerBy none l q
@@ -76,7 +72,8 @@ rightsBy (PairNote.created r) f = 0
 rightsBy (PairNote.changed r) f = cond (eqb (r .state) 0) 0 (cond (eqb (r .mask / 4 % 2) 1) (r .flags) f)
 rightsBy (PairNote.posted w s) f = f
 rightsBy PairNote.flushed f = f
-rightsBy (PairNote.sent r s) f = f
+rightsBy (PairNote.enqueued r) f = f
+rightsBy (PairNote.sent t r s) f = f
 
 unfoldable pub rights : Log → (q : ℕ) → ℕ
 rights l q = told rightsBy 0 l q
@@ -95,7 +92,8 @@ acceptedBy (PairNote.created r) ws = []
 acceptedBy (PairNote.changed r) ws = cond (eqb (r .state) 0) [] ws
 acceptedBy (PairNote.posted w s) ws = cond (eqb s 0) (ws ++ (w ∷ [])) ws
 acceptedBy PairNote.flushed ws = ws
-acceptedBy (PairNote.sent r s) ws = ws
+acceptedBy (PairNote.enqueued r) ws = ws
+acceptedBy (PairNote.sent t r s) ws = ws
 
 unfoldable pub accepted : Log → (q : ℕ) → List Receive
 accepted l q = told acceptedBy [] l q
@@ -106,7 +104,8 @@ consumedBy (PairNote.created r) own named n = cond own 0 n
 consumedBy (PairNote.changed r) own named n = cond (own && eqb (r .state) 0) 0 n
 consumedBy (PairNote.posted w s) own named n = n
 consumedBy PairNote.flushed own named n = cond own (suc n) n
-consumedBy (PairNote.sent r s) own named n =
+consumedBy (PairNote.enqueued r) own named n = n
+consumedBy (PairNote.sent t r s) own named n =
     cond (named && (leb 1 (r .opcode) && leb (r .opcode) 3 && (eqb s 0 || eqb s 7))) (suc n) n
 
 unfoldable pub consumed : Log → (q : ℕ) → ℕ
@@ -122,7 +121,8 @@ erroredBy (PairNote.created r) own named b = not own && b
 erroredBy (PairNote.changed r) own named b = cond own (eqb (r .state) 6) b
 erroredBy (PairNote.posted w s) own named b = b
 erroredBy PairNote.flushed own named b = b
-erroredBy (PairNote.sent r s) own named b = (named && eqb s 7) || ((own && not (eqb s 0)) || b)
+erroredBy (PairNote.enqueued r) own named b = b
+erroredBy (PairNote.sent t r s) own named b = (named && eqb s 7) || ((own && not (eqb s 0)) || b)
 
 unfoldable pub errored : Log → (q : ℕ) → Bool
 errored l q = toldOfBoth erroredBy false l q

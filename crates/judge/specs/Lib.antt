@@ -5,4 +5,5 @@ pub mod Apart
 pub mod Distinct
 pub mod Dropped
 pub mod Count
+pub mod Fair
 pub mod Whole

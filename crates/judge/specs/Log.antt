@@ -1,8 +1,10 @@
 -- The judge's log, document 01, "The judge": it is fed each call's arguments, answer, status and ack data, and keeps the calls
 -- answered 0. Assumes nothing.
-use mathlib.Core.List.{List, [], _∷_}
+use mathlib.Core.Bool.{Bool, true, false, cond}
+use mathlib.Core.List.{List, [], _∷_, _++_}
 use mathlib.Core.Option.{Option, none, some}
-use Prim.Native.Nat.{ℕ, _+_}
+use Prim.Native.Nat.{ℕ, suc, _+_}
+use lib.Dec.{eqb}
 use lib.ListN.{getD, take, drop}
 use Rattle.wire.specs.Codec.{fieldsAt}
 use Rattle.tables.specs.Card.{Receive}
@@ -13,15 +15,18 @@ use Rattle.tables.specs.declared.Registration.{Registration}
 use Rattle.rules.specs.declared.Answer.{Answer}
 use Rattle.rules.specs.declared.Answer.the-variants.{Done, Held, Refused}
 use Rattle.rules.specs.Call.{Call, given, registrationIn}
-use Rattle.rules.specs.Touch.{Request, requestOf, receiveIn}
-use Rattle.rules.specs.Lists.{maybe}
+use Rattle.rules.specs.Touch.{receiveIn, noRequest}
+use Rattle.tables.specs.Records.{Request, requestOf}
+use Rattle.rules.specs.Lists.{maybe, when}
 
 -- ---- what the judge is fed
 
--- a call answered 0, its status, and the numbers of its ack after the ack byte
+-- a call answered 0, its status, what it returned beside it (02, M-108: "the turn's own answer names the QP"), and the numbers of its ack after
+-- the ack byte
 pub record Entry : Type 0 where
   pub call : Call
   pub status : ℕ
+  pub value : ℕ
   pub ack : List ℕ
 
 -- they are read out of the answer buffer after the call, by the layout that they were written by
@@ -32,9 +37,9 @@ ackData k b = drop 1 (fieldsAt (take (1 + ackNumbers k) ackFields) b 0)
 abbrev pub ackOf : Call → (b : List ℕ) → List ℕ
 ackOf k b = maybe [] (λ c. ackData c b) (given k .command)
 
--- of the call k, done with the status s; b is the answer buffer after it
-abbrev pub entry : Call → (s : ℕ) → (b : List ℕ) → Entry
-entry k s b = record { call = k; status = s; ack = ackOf k b }
+-- of the call k, done with the status s and the value v beside it; b is the answer buffer after it
+abbrev pub entry : Call → (s v : ℕ) → (b : List ℕ) → Entry
+entry k s v b = record { call = k; status = s; value = v; ack = ackOf k b }
 
 -- ---- what it keeps
 
@@ -50,8 +55,10 @@ pub data PairNote : Type 0 where
   -- a receive, and the status of its call
   posted : Receive → (status : ℕ) → PairNote
   flushed : PairNote
-  -- a work request and its status
-  sent : Request → (status : ℕ) → PairNote
+  -- a request that joined the queue
+  enqueued : Request → PairNote
+  -- a work request and its status; queued says that a turn took it out of the queue
+  sent : (queued : Bool) → Request → (status : ℕ) → PairNote
 
 -- what a call answered 0 tells
 pub data Note : Type 0 where
@@ -62,6 +69,47 @@ pub data Note : Type 0 where
 -- "It keeps the calls answered 0, in order, and no tables": what each of them told, the latest first
 abbrev pub Log : Type 0
 Log = List Note
+
+-- what a queue pair's own notes tell: f is what one of them makes of what was told before it, a what is told before the first
+unfoldable pub told : {A : Type 0} → (f : PairNote → A → A) → (a : A) → Log → (q : ℕ) → A
+told f a [] q = a
+told f a (Note.ofKey n ∷ l) q = told f a l q
+told f a (Note.ofPair x n ∷ l) q = when (eqb x q) (f n) (told f a l q)
+told f a (Note.other ∷ l) q = told f a l q
+
+-- ---- 02, M-108: "by the log its record is the oldest enqueued there, since that QP's creation and last move to 0, that no turn has taken"
+
+abbrev pub enqueuedBy : PairNote → List Request → List Request
+enqueuedBy (PairNote.created r) rs = []
+enqueuedBy (PairNote.changed r) rs = cond (eqb (r .state) 0) [] rs
+enqueuedBy (PairNote.posted w s) rs = rs
+enqueuedBy PairNote.flushed rs = rs
+enqueuedBy (PairNote.enqueued r) rs = rs ++ (r ∷ [])
+enqueuedBy (PairNote.sent t r s) rs = rs
+
+unfoldable pub enqueuedOn : Log → (q : ℕ) → List Request
+enqueuedOn l q = told enqueuedBy [] l q
+
+-- how many of them turns have taken
+abbrev pub turnsBy : PairNote → ℕ → ℕ
+turnsBy (PairNote.created r) n = 0
+turnsBy (PairNote.changed r) n = cond (eqb (r .state) 0) 0 n
+turnsBy (PairNote.posted w s) n = n
+turnsBy PairNote.flushed n = n
+turnsBy (PairNote.enqueued r) n = n
+turnsBy (PairNote.sent t r s) n = cond t (suc n) n
+
+unfoldable pub turnsOn : Log → (q : ℕ) → ℕ
+turnsOn l q = told turnsBy 0 l q
+
+unfoldable pub queued : Log → (q : ℕ) → List Request
+queued l q = drop (turnsOn l q) (enqueuedOn l q)
+
+-- the request that a turn which served q ran
+abbrev pub nextOn : Log → (q : ℕ) → Request
+nextOn l q = getD (queued l q) 0 noRequest
+
+-- ---- what each call tells
 
 -- a registration, by the numbers of its ack: mrn, lkey, rkey; its pages are none where its bytes are adjacent
 abbrev pub noteRegistration : (ack : List ℕ) → Registration → (pages : List ℕ) → Note
@@ -80,19 +128,21 @@ noteCommand (Command.createQp r) a = Note.ofPair (getD a 0 0) (PairNote.created 
 noteCommand (Command.modifyQp r) a = Note.ofPair (r .qpn) (PairNote.changed r)
 noteCommand (Command.destroyQp q) a = Note.other
 
--- 02, M-105: demand 3's "list takes this call too"; the pages are those of the call's arguments
-abbrev pub noteCall : Call → (status : ℕ) → (ack : List ℕ) → Note
-noteCall (Call.reset n) s a = Note.other
-noteCall (Call.control k b) s a = maybe Note.other (λ c. noteCommand c a) (commandOf k)
-noteCall (Call.registerPages k ps b) s a = noteRegistration a (registrationIn k) ps
-noteCall (Call.send q x m) s a = Note.ofPair q (PairNote.sent (requestOf x) s)
-noteCall (Call.receive q x) s a = Note.ofPair q (PairNote.posted (receiveIn x) s)
-noteCall (Call.flush q) s a = Note.ofPair q PairNote.flushed
-noteCall (Call.poll n b) s a = Note.other
+-- each with its status s, the value v beside it, and its ack's numbers a, seen with the log before it. 02, M-105: demand 3's "list takes this call
+-- too"; the pages are those of the call's arguments. M-108: "Demand 3's list takes enqueues and turns too".
+abbrev pub noteCall : Log → Call → (s v : ℕ) → (a : List ℕ) → Note
+noteCall l (Call.reset n) s v a = Note.other
+noteCall l (Call.control k b) s v a = maybe Note.other (λ c. noteCommand c a) (commandOf k)
+noteCall l (Call.registerPages k ps b) s v a = noteRegistration a (registrationIn k) ps
+noteCall l (Call.send q x m) s v a = Note.ofPair q (PairNote.sent false (requestOf x) s)
+noteCall l (Call.receive q x) s v a = Note.ofPair q (PairNote.posted (receiveIn x) s)
+noteCall l (Call.flush q) s v a = Note.ofPair q PairNote.flushed
+noteCall l (Call.enqueue q x m) s v a = Note.ofPair q (PairNote.enqueued (requestOf x))
+noteCall l (Call.turn m) s v a = Note.ofPair v (PairNote.sent true (nextOn l v) s)
+noteCall l (Call.poll n b) s v a = Note.other
 
--- a call is seen with the log before it; these calls tell by themselves what they tell
 abbrev pub note : Log → Entry → Note
-note l e = noteCall (e .call) (e .status) (e .ack)
+note l e = noteCall l (e .call) (e .status) (e .value) (e .ack)
 
 -- a reset answered 0 begins a new log, with nothing under it; no other call does
 abbrev pub begins : Call → Option Log
@@ -102,6 +152,8 @@ begins (Call.registerPages k ps a) = none
 begins (Call.send q x m) = none
 begins (Call.receive q x) = none
 begins (Call.flush q) = none
+begins (Call.enqueue q x m) = none
+begins (Call.turn m) = none
 begins (Call.poll n b) = none
 
 abbrev pub added : Option Log → Log → Entry → Log
@@ -109,7 +161,7 @@ added none l e = note l e ∷ l
 added (some base) l e = base
 
 -- "any other call adds nothing"
-unfoldable pub fed : Log → Call → Answer → (b : List ℕ) → Log
-fed l k (Done s) b = added (begins k) l (entry k s b)
-fed l k (Held c) b = l
-fed l k (Refused n) b = l
+unfoldable pub fed : Log → Call → Answer → (v : ℕ) → (b : List ℕ) → Log
+fed l k (Done s) v b = added (begins k) l (entry k s v b)
+fed l k (Held c) v b = l
+fed l k (Refused n) v b = l

@@ -114,4 +114,4 @@ module _ (l : List ℕ) (q : ℕ) where
         unfolding statusOf memoryAfter bufferAfter effect effectBytes
         flush-done e l′ t =
             let f : Flushable l q = record { placed = record { pair = s; place = e }; waits = waits } in
-            done-owes l k (order ∙ rw (s .ok, s .live, six, waits, e)) (flush-card f) (flush-accepted f) l′ t
+            done-owes l k refl (order ∙ rw (s .ok, s .live, six, waits, e)) (flush-card f) (flush-accepted f) l′ t

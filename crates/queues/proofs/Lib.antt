@@ -4,3 +4,4 @@ pub mod PollLaws
 pub mod ReceiveLaws
 pub mod PutLaws
 pub mod FlushLaws
+pub mod EnqueueLaws

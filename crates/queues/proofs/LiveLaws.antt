@@ -1,5 +1,5 @@
--- A live completion queue and a live queue pair of an accepted state: what the tests of poll, post receive and flush see, as the rows
--- say it. Assumes nothing.
+-- A live completion queue and a live queue pair of an accepted state: what the tests of poll, post receive, flush and enqueue see, as
+-- the rows say it. Assumes nothing.
 use mathlib.Core.Path.{_≡_, refl, sym, ap, _∙_}
 use mathlib.Core.Bool.{true, false}
 use mathlib.Core.List.{List, [], _∷_}
@@ -12,13 +12,14 @@ use borrow.Author.Tests.{ne-eqb, eqb-true, eqb-false, ltb-true, leb-false}
 use Rattle.wire.specs.Table.{rowAt}
 use Rattle.wire.proofs.RingLaws.{ring-length}
 use Rattle.tables.specs.Card.{Cq, Qp, receiveOf}
-use Rattle.tables.specs.Layout.{cqFlagT, cqT, qpFlagT, qpT, waitingT}
-use Rattle.tables.specs.Limits.{cqCount, qpCount, mostPlaces, mostWaiting}
+use Rattle.tables.specs.Layout.{cqFlagT, cqT, qpFlagT, qpT, waitingT, sendHeadT}
+use Rattle.tables.specs.Limits.{cqCount, qpCount, mostPlaces, mostWaiting, mostQueued}
 use Rattle.tables.specs.State.{card, queueAt, pairAt, ringAt, receivesAt, posted, noCompletion, noRecord}
 use Rattle.tables.specs.declared.QueueHead.{QueueHead}
 use Rattle.tables.specs.declared.QueuePair.{QueuePair}
 use Rattle.tables.specs.declared.WaitingHead.{WaitingHead}
 use Rattle.tables.proofs.ObjectLaws.{cq-live, cq-below, qp-below, qp-flag, qp-row}
+use Rattle.tables.proofs.QueuedLaws.{queue-length}
 use Rattle.validate.proofs.AcceptedLaws.{Accepted, accepted}
 use Rattle.validate.proofs.QueueLaws.{queue-is, queue-sound}
 use Rattle.validate.proofs.WaitingLaws.{pair-sound}
@@ -111,6 +112,13 @@ module _ {l : List ℕ} {q : ℕ} (s : LivePair l q) where
   -- a fifth receive does not fit, and a fourth does
   pub receive-room : leb mostWaiting (length (card l .qp q .waiting)) ≡ false → w .count < mostWaiting
   receive-room e = leb-false mostWaiting (w .count) (sym (ap (leb mostWaiting) waiting-count) ∙ e)
+
+  pub queue-count : length (card l .qp q .queue) ≡ rowAt sendHeadT l q .count
+  queue-count = queue-length l q pair-below pair-flag
+
+  -- a ninth queued send does not fit, and an eighth does
+  pub queue-room : leb mostQueued (length (card l .qp q .queue)) ≡ false → rowAt sendHeadT l q .count < mostQueued
+  queue-room e = leb-false mostQueued (rowAt sendHeadT l q .count) (sym (ap (leb mostQueued) queue-count) ∙ e)
 
   pub some-wait : isEmpty (card l .qp q .waiting) ≡ false → 0 < w .count
   some-wait e = let z = eqb-false (w .count) 0 (sym waiting-none ∙ e) in omega arith

@@ -70,6 +70,6 @@ module _ (l : List ℕ) (n : ℕ) (b : List ℕ) where
         poll-done e o l′ b′ t w =
             let shown : e ≡ oldestEntry (card l) n = o ∙ sym (oldest-is l (queue-ok s) n (queue-below s) (queue-flag s) unread-some) in
             rw (w, shown)
-            (done-owes l k (by-count ∙ rw (ne-eqb (h .count) 0 some-unread))
+            (done-owes l k refl (by-count ∙ rw (ne-eqb (h .count) 0 some-unread))
             (pop-card l (queue-ok s) n (queue-below s) (queue-flag s) unread-some)
             (pop-accepted l (queue-ok s) n (queue-below s) (queue-flag s) unread-some) l′ t)

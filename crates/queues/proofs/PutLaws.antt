@@ -1,5 +1,5 @@
 -- The completion of a flushed receive, put into the queue that has a place: the bytes after it, and the card that they mean. Assumes nothing.
-use mathlib.Core.Path.{_≡_, refl, sym, ap, _∙_}
+use mathlib.Core.Path.{_≡_, sym, ap, _∙_}
 use mathlib.Core.Bool.{true}
 use mathlib.Core.List.{List, [], _∷_}
 use Prim.Native.Nat.{ℕ, _+_, _*_, _^_, _<_}
@@ -8,11 +8,14 @@ use native.Mathlib.Omega.{arith}
 use lib.ListN.{length}
 use borrow.Author.Tests.{lt-ltb}
 use Rattle.wire.specs.Codec.{Fit, Fits}
+use Rattle.wire.specs.Parts.{partsEnd}
 use Rattle.wire.specs.Ring.{ringPlace}
 use Rattle.wire.specs.Table.{rowAt, finish, putRow}
+use Rattle.wire.proofs.PartsLaws.{partsOutside}
 use Rattle.wire.proofs.TableLaws.{outside, putRow-length, table-other, elsewhere}
-use Rattle.tables.specs.Card.{Card, withCq}
-use Rattle.tables.specs.Layout.{stateSize, cqT, qpFlagT, qpT, waitingT, receiveT, flagCodec, pairCodec, waitingCodec, entryT, queueCodec}
+use Rattle.tables.specs.Card.{withCq}
+use Rattle.tables.specs.Layout.{stateSize, cqT, qpFlagT, qpT, waitingT, receiveT, sendHeadT, kindT, recordP}
+use Rattle.tables.specs.Layout.{flagCodec, pairCodec, waitingCodec, kindCodec, entryT, queueCodec}
 use Rattle.tables.specs.Limits.{qpCount, mostPlaces, cqCount}
 use Rattle.tables.specs.Queue.{pushBytes, longer}
 use Rattle.tables.specs.Records.{receiveCodec, completionCodec}
@@ -104,7 +107,7 @@ module _ {l : List ℕ} {q : ℕ} (f : PlacedPair l q) where
 
       -- the queue pair's rows stay
       put-pair : pairAt (flushedBytes l q wr) q ≡ pairAt l q
-      unfolding outside finish qpFlagT qpT waitingT receiveT flagCodec pairCodec waitingCodec receiveCodec
+      unfolding outside finish partsOutside partsEnd qpFlagT qpT waitingT receiveT sendHeadT kindT recordP flagCodec pairCodec waitingCodec receiveCodec kindCodec
       put-pair =
           rw (← put-bytes) (pair-kept (push-only l (queue-ok r) rcq (queue-below r) (queue-flag r) (entry wr q) fits free .block) tt q (pair-below s))
 

@@ -132,7 +132,7 @@ module _ (l : List ℕ) (q : ℕ) (x : List ℕ) where
         unfolding statusOf memoryAfter bufferAfter effect effectBytes receiveBytes joinStatus joinPuts received receiveIn receiveOf
         receive-flushed e l′ t =
             let f : PlacedPair l q = record { pair = s; place = e } in
-            rw now at (done-owes l k (joins (s .ok) ∙ rw (s .live, not-reset, now, e, not-full))
+            rw now at (done-owes l k refl (joins (s .ok) ∙ rw (s .live, not-reset, now, e, not-full))
             (rw (now, both .1) (put-card f (w .wr) w-small))
             (rw (now, both .1) (put-accepted f (w .wr) w-small)) l′ (rw (now, both .1) t))
 
@@ -145,6 +145,6 @@ module _ (l : List ℕ) (q : ℕ) (x : List ℕ) where
         unfolding statusOf memoryAfter bufferAfter effect effectBytes receiveBytes joinStatus received joined receiveIn
         receive-done e l′ t =
             let room = receive-room s e in
-            rw later at (done-owes l k (joins (s .ok) ∙ rw (s .live, takes, later, e))
+            rw later at (done-owes l k refl (joins (s .ok) ∙ rw (s .live, takes, later, e))
             (rw (later, both .1) (post-card l (pair-ok s) q (pair-below s) (pair-flag s) w w-fits room))
             (rw (later, both .1) (post-accepted l (pair-ok s) q (pair-below s) (pair-flag s) w w-fits room w-ok)) l′ (rw (later, both .1) t))

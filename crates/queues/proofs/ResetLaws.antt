@@ -44,5 +44,5 @@ module _ (l : List ℕ) (n : ℕ) where
       pub reset-done : n ≤ mostMemory → (l′ : List ℕ) → l′ ≡ resetBytes n → Owes l k (Done 0) l′ [] []
       unfolding statusOf memoryAfter bufferAfter effect effectBytes
       reset-done most l′ s =
-          done-owes l k (order ∙ rw (eq-eqb (length l) stateSize sized, le-leb 1 n least, le-leb n mostMemory most)) (reset-card n least most)
+          done-owes l k refl (order ∙ rw (eq-eqb (length l) stateSize sized, le-leb 1 n least, le-leb n mostMemory most)) (reset-card n least most)
           (reset-accepted n least most) l′ s

@@ -1,2 +1,3 @@
+pub mod Enqueue
 pub mod Live
 pub mod Receive

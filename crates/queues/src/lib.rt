@@ -1,5 +1,7 @@
-// Reset, poll, post receive and flush: document 01's calls on the queues of the lent state. Their tests and effects: rules, specs/Queues.antt.
+// Reset, poll, post receive and flush: document 01's calls on the queues of the lent state. Their tests and effects: rules,
+// specs/Queues.antt.
 mod pair;
+pub mod sends;
 
 use rules::Answer;
 use rules::Cause;
@@ -54,7 +56,8 @@ pub fn reset(state: &mut [u8], memory: u64) -> Answer
 // A poll of a live completion queue into a buffer that has room.
 fn poll_live(state: &mut [u8], n: usize, buffer: &mut [u8]) -> Answer
     requires { ⌜ LiveQueue (now state) n × (24 ≤ length (now buffer)) ⌝ }
-    ensures { λ r. ⌜ Owes (now (state .entry)) (Call.poll n (now (buffer .entry))) r (now (state .exit)) [] (now (buffer .exit)) ⌝ }
+    ensures { λ r. ⌜ Owes (now (state .entry))
+        (Call.poll n (now (buffer .entry))) r (now (state .exit)) [] (now (buffer .exit)) ⌝ }
 {
     let h = rows::load_cq(state, n);
     if h.count == 0 {
@@ -67,7 +70,8 @@ fn poll_live(state: &mut [u8], n: usize, buffer: &mut [u8]) -> Answer
 
 // Gives back the oldest completion of a queue, which leaves it.
 pub fn poll(state: &mut [u8], cqn: u32, buffer: &mut [u8]) -> Answer
-    ensures { λ r. ⌜ Owes (now (state .entry)) (Call.poll cqn (now (buffer .entry))) r (now (state .exit)) [] (now (buffer .exit)) ⌝ }
+    ensures { λ r. ⌜ Owes (now (state .entry))
+        (Call.poll cqn (now (buffer .entry))) r (now (state .exit)) [] (now (buffer .exit)) ⌝ }
 {
     if !accept::accepted(state) {
         return Answer::Refused(BAD_STATE);

@@ -1,19 +1,22 @@
-// The tests of post receive and flush on a queue pair, and the completion of a flushed receive.
+// The tests of post receive, flush and enqueue on a queue pair, and the completion of a flushed receive.
 use tables::Completion;
 use tables::limits::ERROR;
 use tables::limits::FLUSHED;
+use tables::limits::MOST_QUEUED;
 use tables::limits::MOST_WAITING;
 use tables::limits::QP_COUNT;
 use tables::limits::RECEIVED;
 use tables::limits::RESET;
+use tables::limits::RTS;
 use tables::queue;
 use tables::rows;
 ghost use mathlib.Core.Path.{_≡_};
 ghost use lib.Dec.{eqb, leb};
 ghost use lib.ListN.{length};
 ghost use Rattle.tables.specs.Layout.{stateSize};
-ghost use Rattle.tables.specs.Limits.{mostWaiting};
+ghost use Rattle.tables.specs.Limits.{mostWaiting, mostQueued};
 ghost use Rattle.tables.specs.State.{card};
+ghost use Rattle.validate.specs.Accept.{mayQueue};
 ghost use Rattle.rules.specs.Bytes.{flushedBytes, flushBytes};
 ghost use Rattle.rules.specs.Lists.{isEmpty};
 ghost use Rattle.rules.specs.Queues.{flushesAtOnce};
@@ -72,6 +75,23 @@ pub fn none_waiting(state: &[u8], q: usize) -> bool
 {
     let h = rows::load_waiting(state, q);
     h.count == 0
+}
+
+// Whether it may have a queue of sends: it is ready to send, or in error.
+pub fn may_queue(state: &[u8], q: usize) -> bool
+    requires { ⌜ LivePair (now state) q ⌝ }
+    ensures { λ r. ⌜ r ≡ mayQueue (card (now (state .entry)) .qp q .state) ⌝ }
+{
+    let p = rows::load_qp(state, q);
+    (p.state == RTS) | (p.state == ERROR)
+}
+
+pub fn queue_full(state: &[u8], q: usize) -> bool
+    requires { ⌜ LivePair (now state) q ⌝ }
+    ensures { λ r. ⌜ r ≡ leb mostQueued (length (card (now (state .entry)) .qp q .queue)) ⌝ }
+{
+    let h = rows::load_sends(state, q);
+    MOST_QUEUED <= h.count as usize
 }
 
 // Whether its receive completion queue has a free place.

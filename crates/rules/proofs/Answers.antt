@@ -21,18 +21,21 @@ use Rattle.tables.specs.Limits.{mostMessage}
 use Rattle.tables.specs.Commands.{Command, commandOf, ackFields}
 use Rattle.tables.specs.Records.{sendChecks, receiveChecks}
 use Rattle.rules.specs.declared.Cause.the-variants.{Peer, Place}
+use Rattle.rules.specs.declared.Answer.{Answer}
 use Rattle.rules.specs.declared.Answer.the-variants.{Done, Held, Refused}
-use Rattle.rules.specs.Answer.{number, codeOf, answered, answerIn, isDone, listed}
+use Rattle.rules.specs.Answer.{number, codeOf, answered, answerIn, valueIn, isDone, listed}
 use Rattle.rules.specs.Control.{commandChecks}
-use Rattle.rules.specs.Touch.{Request, requestOf, fills, total, sgeTotal, ownBytes, farBytes}
+use Rattle.rules.specs.Touch.{fills, total, sgeTotal, ownBytes, farBytes}
+use Rattle.tables.specs.Records.{Request, requestOf}
 use Rattle.rules.specs.Permit.{permitsAll}
-use Rattle.rules.specs.Send.{pairChecks, readyChecks, placeChecks, holdChecks, deliveryChecks, isInError, peerOf, takenBy, ownUse, farUse, statusBy, runStatus, sendStatus}
+use Rattle.rules.specs.Send.{pairChecks, readyChecks, placeChecks, holdChecks, deliveryChecks, queueChecks, isInError, peerOf, takenBy, ownUse, farUse, statusBy, runStatus, sendStatus}
+use Rattle.rules.specs.Turn.{enqueueChecks, turnChecks, served, headOf}
 use Rattle.rules.specs.Queues.{flushesAtOnce, joinChecks, joinStatus, flushChecks, pollChecks}
 use Rattle.rules.specs.Call.{Call, Buffer, given, memoryOf}
 use Rattle.rules.specs.Pages.{pageRecordChecks, pageListChecks}
 use Rattle.rules.proofs.Ranges.{all-split}
 use Rattle.rules.specs.Demand1.{ackLeft, leftBy, bufferLeft, Returns, Demand1}
-use Rattle.rules.specs.Calls.{checks, resetChecks, controlChecks, bufferChecks, settled, step, statusOf, owed, owedChecks, usable, ackRefused, refusedBy, bufferRefused, Result}
+use Rattle.rules.specs.Calls.{checks, memoryChecks, resetChecks, controlChecks, bufferChecks, settled, step, statusOf, valueOf, owed, owedChecks, usable, ackRefused, refusedBy, bufferRefused, Result}
 use Rattle.rules.specs.Lists.{maybe}
 
 -- ---- a fact of every test's number is one of the refusal's
@@ -87,11 +90,13 @@ hold-tests f five six c q r = go (isInError (c .qp q))
     go false = cc
 
 checks-fine : (c : Card) (k : Call) → all fine (checks c k) ≡ true
-unfolding all checks resetChecks controlChecks pageRecordChecks pageListChecks bufferChecks sendChecks receiveChecks pairChecks deliveryChecks joinChecks flushChecks pollChecks
+unfolding all checks memoryChecks queueChecks enqueueChecks turnChecks resetChecks controlChecks pageRecordChecks pageListChecks bufferChecks sendChecks receiveChecks pairChecks deliveryChecks joinChecks flushChecks pollChecks
 checks-fine c (Call.reset n) = refl
 checks-fine c (Call.control k a) = rw (all-split fine (controlChecks k a) (maybe [] (commandChecks c) (commandOf k)), command-fine c (commandOf k))
 checks-fine c (Call.registerPages k ps a) = refl
 checks-fine c (Call.send q x m) = hold-tests within refl refl c q (requestOf x)
+checks-fine c (Call.enqueue q x m) = refl
+checks-fine c (Call.turn m) = refl
 checks-fine c (Call.receive q x) = refl
 checks-fine c (Call.flush q) = refl
 checks-fine c (Call.poll n b) = refl
@@ -178,6 +183,8 @@ status-small c (Call.control k a) = omega arith
 status-small c (Call.registerPages k ps a) = omega arith
 status-small c (Call.send q x m) = send-small c q (requestOf x)
 status-small c (Call.receive q x) = join-small c q
+status-small c (Call.enqueue q x m) = omega arith
+status-small c (Call.turn m) = send-small c (served c) (headOf c (served c))
 status-small c (Call.flush q) = omega arith
 status-small c (Call.poll n b) = omega arith
 
@@ -245,25 +252,31 @@ module _ (cardOf : List ℕ → Card) (accepts : List ℕ → Bool) where
       go true e = let h = refusal-within (cardOf l) k n e in let a = h .0 in let b = h .1 in (omega arith, omega arith)
       go false e = let z : 15 ≡ n = cc in (omega arith, omega arith)
 
-  code-refused : (n : ℕ) → 1 ≤ n → n ≤ 15 → answerIn (codeOf (answered 0 (some n))) ≡ answered 0 (some n)
+  -- r is a result that tells the answer a and the value v beside it
+  pub record Tells (r : ℕ) (a : Answer) (v : ℕ) : Type 0 where
+    pub answer : answerIn r ≡ a
+    pub value : valueIn r ≡ v
+
+  code-refused : (n : ℕ) → 1 ≤ n → n ≤ 15 → Tells (codeOf (answered 0 (some n)) + 65536 * 0) (answered 0 (some n)) 0
   code-refused n h m =
       let e : codeOf (answered 0 (some n)) ≡ n = answered-code n in
-      let d : n / 256 % 256 ≡ 0 = omega arith in
-      let w : n % 256 ≡ n = omega arith in
-      rw (e, d, w, ne-eqb n 0 (omega arith))
+      let d : (n + 65536 * 0) / 256 % 256 ≡ 0 = omega arith in
+      let w : (n + 65536 * 0) % 256 ≡ n = omega arith in
+      record { answer = rw (e, d, w, ne-eqb n 0 (omega arith)); value = omega arith }
 
-  code-done : (s : ℕ) → s ≤ 8 → answerIn (codeOf (Done s)) ≡ Done s
-  code-done s h =
-      let d : (0 + 256 * s) / 256 % 256 ≡ s = omega arith in
-      let w : (0 + 256 * s) % 256 ≡ 0 = omega arith in
-      rw (w, d)
+  code-done : (s v : ℕ) → s ≤ 8 → Tells (codeOf (Done s) + 65536 * v) (Done s) v
+  code-done s v h =
+      let d : (0 + 256 * s + 65536 * v) / 256 % 256 ≡ s = omega arith in
+      let w : (0 + 256 * s + 65536 * v) % 256 ≡ 0 = omega arith in
+      record { answer = rw (w, d); value = omega arith }
 
-  pub code-back : (l : List ℕ) (k : Call) → answerIn (codeOf (owed cardOf accepts l k .answer)) ≡ owed cardOf accepts l k .answer
+  pub code-back : (l : List ℕ) (k : Call) → let o = owed cardOf accepts l k in Tells (codeOf (o .answer) + 65536 * o .value) (o .answer) (o .value)
   code-back l k = go (refusal (owedChecks cardOf accepts l k)) refl
     where
       go : (o : Option ℕ) → refusal (owedChecks cardOf accepts l k) ≡ o →
-          answerIn (codeOf (settled o (cardOf l) k .answer)) ≡ settled o (cardOf l) k .answer
-      go none e = code-done (statusOf (cardOf l) k) (status-small (cardOf l) k)
+          Tells (codeOf (settled o (cardOf l) k .answer) + 65536 * settled o (cardOf l) k .value) (settled o (cardOf l) k .answer)
+          (settled o (cardOf l) k .value)
+      go none e = code-done (statusOf (cardOf l) k) (valueOf (cardOf l) k) (status-small (cardOf l) k)
       go (some n) e = let h = owed-within l k n e in code-refused n (h .0) (h .1)
 
 -- ---- demand 1, of the exported functions
@@ -278,8 +291,8 @@ buffer-left n (Buffer.for-completion b) = refl
 
 module _ (l : List ℕ) (k : Call) (r : ℕ) (l′ m′ b′ : List ℕ) where
   -- a call that is done
-  done-returns : (s : ℕ) → r ≡ codeOf (Done s) → Returns l k r l′ m′ b′
-  done-returns s e =
+  done-returns : (s v : ℕ) → r ≡ codeOf (Done s) + 65536 * v → Returns l k r l′ m′ b′
+  done-returns s v e =
       let z : r % 256 ≡ 0 = omega arith in
       record {
         answer = rw z;
@@ -307,10 +320,10 @@ unfolding Demand1
 demand1 l k r l′ m′ b′ x = go (refusal (owedChecks card accepts l k)) refl
   where
     go : (o : Option ℕ) → refusal (owedChecks card accepts l k) ≡ o → Returns l k r l′ m′ b′
-    go none e = done-returns l k r l′ m′ b′ (statusOf (card l) k) (rw e at (x .code))
+    go none e = done-returns l k r l′ m′ b′ (statusOf (card l) k) (valueOf (card l) k) (rw e at (x .code))
     go (some n) e =
         let d : isDone (owed card accepts l k .answer) ≡ false = rw e (answered-not-done n) in
         let i : number (owed card accepts l k .answer) ≡ n = rw e (answered-number n) in
         let u = owed-unchanged card accepts l k d in
-        refused-returns l k r l′ m′ b′ n (rw i at (owed-listed card accepts l k)) ((rw e at (x .code)) ∙ answered-code n) (x .state ∙ rw e)
+        refused-returns l k r l′ m′ b′ n (rw i at (owed-listed card accepts l k)) ((rw e at (x .code)) ∙ add-zero (codeOf (answered 0 (some n))) ∙ answered-code n) (x .state ∙ rw e)
         (x .memory ∙ u .memory) (x .buffer ∙ u .buffer ∙ ap (λ (y : ℕ). bufferRefused y k) i)

@@ -21,12 +21,13 @@ use Rattle.validate.specs.Search.{lastVariant, retired, freeMrn}
 use Rattle.rules.specs.declared.Answer.the-variants.{Done}
 use Rattle.rules.specs.Answer.{isDone}
 use Rattle.rules.specs.Call.{Call}
-use Rattle.rules.specs.Calls.{checks, effect, statusOf, memoryAfter, settled, step}
-use Rattle.rules.specs.Touch.{Request, requestOf, fills, takes, total, sgeTotal, farBytes}
+use Rattle.rules.specs.Calls.{checks, memoryChecks, effect, statusOf, memoryAfter, settled, step}
+use Rattle.rules.specs.Touch.{fills, takes, total, sgeTotal, farBytes}
+use Rattle.tables.specs.Records.{Request, requestOf}
 use Rattle.rules.specs.Permit.{keyOf, found, lookup, covers, permits, permitsAll}
 use Rattle.rules.specs.Control.{rangeChecks, registrationChecks, commandChecks, commandEffect, newVariant, registered}
 use Rattle.rules.specs.Pages.{pageRangeChecks, pageListChecks}
-use Rattle.rules.specs.Send.{deliveryChecks, ready, peerOf, takenBy, farUse, errorIf, consumeIf, sendStatus, sendMemory, sendQps, sendPuts, sendEffect, pairChecks, readyChecks, placeChecks, holdChecks, runStatus}
+use Rattle.rules.specs.Send.{deliveryChecks, queueChecks, ready, peerOf, takenBy, farUse, errorIf, consumeIf, sendStatus, sendMemory, sendQps, sendPuts, sendEffect, pairChecks, readyChecks, placeChecks, holdChecks, runStatus}
 use Rattle.rules.proofs.Answers.{answered-not-done}
 use Rattle.rules.proofs.Tests.{passed-after}
 use Rattle.rules.proofs.Variants.{slot-free, new-small, slot}
@@ -144,7 +145,7 @@ module _ (c : Card) (n q : ℕ) where
   same-ready (some d) = refl
 
   pub same-checks : (x m : List ℕ) → checks (commandEffect c (Command.deregister n)) (Call.send q x m) ≡ checks c (Call.send q x m)
-  unfolding checks pairChecks readyChecks placeChecks holdChecks deliveryChecks commandEffect
+  unfolding checks memoryChecks pairChecks queueChecks readyChecks placeChecks holdChecks deliveryChecks commandEffect
   same-checks x m = rw (same-ready (c .qp q .dest))
 
 pub held-stays : HeldStays

@@ -12,7 +12,8 @@ use Rattle.validate.specs.Accept.{pairOk}
 use Rattle.tables.specs.Card.{Card, fresh, withQp, withWaiting}
 use Rattle.tables.specs.Commands.{Command}
 use Rattle.tables.specs.declared.Sge.{Sge}
-use Rattle.rules.specs.Touch.{Request, range, sgeBytes, sgeTotal, total, ownBytes, farBytes}
+use Rattle.rules.specs.Touch.{range, sgeBytes, sgeTotal, total, ownBytes, farBytes}
+use Rattle.tables.specs.Records.{Request}
 use Rattle.rules.specs.Permit.{Use, opens, permitsAll, permits, lookup, covers}
 use Rattle.rules.specs.Control.{commandChecks, commandEffect}
 use Rattle.rules.specs.Send.{runStatus, sendStatus}

@@ -18,15 +18,16 @@ use Rattle.tables.specs.Records.{sendChecks, receiveChecks}
 use Rattle.tables.specs.State.{pagesNeeded}
 use Rattle.validate.specs.Search.{vacant}
 use Rattle.rules.specs.Call.{Call}
-use Rattle.rules.specs.Calls.{checks, resetChecks, controlChecks, bufferChecks}
+use Rattle.rules.specs.Calls.{checks, memoryChecks, resetChecks, controlChecks, bufferChecks}
 use Rattle.rules.specs.Control.{commandChecks}
 use Rattle.rules.specs.Full.{noneFree, tableFull, others, FullExactly}
 use Rattle.rules.specs.Lists.{maybe}
 use Rattle.rules.specs.Marks.{region}
 use Rattle.rules.specs.Pages.{pageRecordChecks, pageListChecks}
 use Rattle.rules.specs.Queues.{joinChecks, flushChecks, pollChecks}
-use Rattle.rules.specs.Send.{pairChecks, readyChecks, placeChecks, holdChecks, deliveryChecks, isInError}
-use Rattle.rules.specs.Touch.{requestOf}
+use Rattle.rules.specs.Send.{pairChecks, readyChecks, placeChecks, holdChecks, deliveryChecks, queueChecks, isInError}
+use Rattle.rules.specs.Turn.{enqueueChecks, turnChecks}
+use Rattle.tables.specs.Records.{requestOf}
 
 none-of : (n : ℕ) → anyBelow n (λ k. false) ≡ false
 unfolding anyBelow
@@ -78,18 +79,22 @@ control-full c k a none = refl
 control-full c k a (some x) = rw (command-full c x)
 
 pub full-exactly : FullExactly
-unfolding FullExactly checks resetChecks controlChecks pageRecordChecks pageListChecks bufferChecks sendChecks receiveChecks pairChecks deliveryChecks holdChecks placeChecks readyChecks joinChecks flushChecks pollChecks
+unfolding FullExactly checks memoryChecks queueChecks enqueueChecks turnChecks resetChecks controlChecks pageRecordChecks pageListChecks bufferChecks sendChecks receiveChecks pairChecks deliveryChecks holdChecks placeChecks readyChecks joinChecks flushChecks pollChecks
 full-exactly c (Call.reset n) = refl
 full-exactly c (Call.control k a) = control-full c k a (commandOf k)
 full-exactly c (Call.registerPages k ps a) = rw (none-free mrCount (λ i. vacant (c .mr i)))
 full-exactly c (Call.send q x m) = go (isInError (c .qp q))
   where
     ts : Bool → List Check
-    ts e = 7 if not (eqb (length m) (c .memory)) ∷ (sendChecks x ++ (pairChecks c q ++ cond e (placeChecks c q) (readyChecks c q (requestOf x))))
+    ts e =
+        memoryChecks c m ++
+        (sendChecks x ++ (pairChecks c q ++ (queueChecks c q ++ cond e (placeChecks c q) (readyChecks c q (requestOf x)))))
 
     go : (e : Bool) → refusal (ts e) ≡ refusal (others (ts e) ++ (8 if false ∷ []))
     go true = refl
     go false = refl
 full-exactly c (Call.receive q x) = refl
 full-exactly c (Call.flush q) = refl
+full-exactly c (Call.enqueue q x m) = refl
+full-exactly c (Call.turn m) = refl
 full-exactly c (Call.poll n b) = refl

@@ -9,15 +9,15 @@ use Rattle.wire.specs.Checks.{refusal}
 use Rattle.tables.specs.Card.{Card, Qp, Receive, fresh, withCq, withQp}
 use Rattle.tables.specs.declared.Completion.{Completion}
 use Rattle.tables.specs.declared.Sge.{Sge}
-use Rattle.rules.specs.Touch.{Request}
-use Rattle.rules.specs.Send.{Put, pairChecks, readyChecks, placeChecks, holdChecks, deliveryChecks, sendStatus, sendPuts, sendQps, putAll}
+use Rattle.tables.specs.Records.{Request}
+use Rattle.rules.specs.Send.{Put, pairChecks, queueChecks, readyChecks, placeChecks, holdChecks, deliveryChecks, sendStatus, sendPuts, sendQps, putAll}
 use Rattle.rules.specs.Queues.{joinChecks, joinStatus, joinPuts, joined, received}
 
 -- every queue pair is in the state t, names queue pair 1, which names 2, sends unsignaled and has the receives ws; completion queue 0 is its send
 -- queue and has a free places, completion queue 1 its receive queue and has b
 abbrev pair : (t : ℕ) → List Receive → (q : ℕ) → Qp
 pair t ws q =
-    record { live = true; pd = 0; signal = 1; scq = 0; rcq = 1; state = t; rights = 0; dest = some (cond (eqb q 1) 2 1); waiting = ws }
+    record { live = true; pd = 0; signal = 1; scq = 0; rcq = 1; state = t; rights = 0; dest = some (cond (eqb q 1) 2 1); waiting = ws; queue = [] }
 
 abbrev card : (t a b : ℕ) → List Receive → Card
 card t a b ws =
@@ -34,12 +34,12 @@ one n = record { wr = n; sges = [] }
 
 -- sends in the states 0 to 6: in 3 one is held with 5, as the peer does not name it back; in 6 the peer is not looked at
 pub sends : map (λ t. refusal (deliveryChecks (card t 1 1 []) 0 (request 0))) (0 ∷ 1 ∷ 2 ∷ 3 ∷ 6 ∷ []) ≡ some 3 ∷ some 3 ∷ some 3 ∷ some 5 ∷ none ∷ []
-unfolding pairChecks readyChecks placeChecks holdChecks deliveryChecks
+unfolding pairChecks queueChecks readyChecks placeChecks holdChecks deliveryChecks
 sends = refl
 
 -- in error: its send queue has a place or none, whatever the receive queue has
 pub held : refusal (deliveryChecks (card 6 0 1 []) 0 (request 2)) ∷ refusal (deliveryChecks (card 6 1 0 []) 0 (request 2)) ∷ [] ≡ some 6 ∷ none ∷ []
-unfolding pairChecks readyChecks placeChecks holdChecks deliveryChecks
+unfolding pairChecks queueChecks readyChecks placeChecks holdChecks deliveryChecks
 held = refl
 
 -- "status 4, byte length 0, and the sender's opcode", though it is unsignaled, for the opcodes 0 to 4

@@ -10,9 +10,12 @@ pub mod Dropped
 pub mod Pinned
 pub mod PagesPinned
 pub mod InError
+pub mod TurnPinned
 pub mod Flags
 pub mod Runs
 pub mod Meeting
 pub mod Replay
 pub mod Buffers
 pub mod Exported
+pub mod Sent
+pub mod Firm

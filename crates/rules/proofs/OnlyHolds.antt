@@ -18,14 +18,16 @@ use Rattle.rules.specs.declared.Cause.the-variants.{Peer, Place}
 use Rattle.rules.specs.declared.Answer.the-variants.{Held, Refused}
 use Rattle.rules.specs.Answer.{answered, isHeld}
 use Rattle.rules.specs.Call.{Call, registrationIn}
-use Rattle.rules.specs.Calls.{checks, resetChecks, controlChecks, bufferChecks, settled, step}
+use Rattle.rules.specs.Calls.{checks, memoryChecks, resetChecks, controlChecks, bufferChecks, settled, step}
 use Rattle.rules.specs.Control.{commandChecks}
 use Rattle.rules.specs.Holds.{lacksPlaces, noPlace, mayHold, OnlyHolds}
 use Rattle.rules.specs.Lists.{maybe, isSome, isEmpty}
 use Rattle.rules.specs.Pages.{pageRecordChecks, pageListChecks}
 use Rattle.rules.specs.Queues.{joinChecks, flushChecks, pollChecks}
-use Rattle.rules.specs.Send.{pairChecks, readyChecks, placeChecks, holdChecks, deliveryChecks, ready, isInError, peerOf}
-use Rattle.rules.specs.Touch.{requestOf, takes}
+use Rattle.rules.specs.Send.{pairChecks, readyChecks, placeChecks, holdChecks, deliveryChecks, queueChecks, ready, isInError, peerOf}
+use Rattle.rules.specs.Touch.{takes}
+use Rattle.rules.specs.Turn.{enqueueChecks, turnChecks}
+use Rattle.tables.specs.Records.{requestOf}
 use Rattle.rules.proofs.Answers.{first-with, command-tests}
 use Rattle.rules.proofs.Ranges.{all-split}
 use Rattle.rules.proofs.Tests.{firstOf, refusal-append}
@@ -78,20 +80,22 @@ send-holds c q x m =
     (takes o && isEmpty (c .qp (peerOf c q) .waiting)) (lacksPlaces c q o)
 
 checks-plain : (c : Card) (k : Call) → mayHold c k ≡ false → Plain (checks c k)
-unfolding all checks resetChecks controlChecks pageRecordChecks pageListChecks bufferChecks sendChecks receiveChecks pairChecks deliveryChecks joinChecks flushChecks pollChecks
+unfolding all checks memoryChecks queueChecks enqueueChecks turnChecks resetChecks controlChecks pageRecordChecks pageListChecks bufferChecks sendChecks receiveChecks pairChecks deliveryChecks joinChecks flushChecks pollChecks
 checks-plain c (Call.reset n) e = λ i. first-with plain (resetChecks n) i refl
 checks-plain c (Call.control k a) e =
     λ i. first-with plain (controlChecks k a ++ maybe [] (commandChecks c) (commandOf k)) i
     (rw (all-split (λ t. plain (t .no)) (controlChecks k a) (maybe [] (commandChecks c) (commandOf k)), command-plain c (commandOf k)))
 checks-plain c (Call.registerPages k ps a) e = λ i. first-with plain (pageRecordChecks k a ++ pageListChecks c (registrationIn k) ps) i refl
 checks-plain c (Call.send q x m) e =
-    before-none (7 if not (eqb (length m) (c .memory)) ∷ (sendChecks x ++ pairChecks c q)) (holdChecks c q (requestOf x)) refl
+    before-none (memoryChecks c m ++ (sendChecks x ++ (pairChecks c q ++ queueChecks c q))) (holdChecks c q (requestOf x)) refl
     (send-holds c q x m ∙ e)
 checks-plain c (Call.receive q x) e =
     without (receiveChecks x ++ (2 if not (c .qp q .live) ∷ 3 if eqb (c .qp q .state) 0 ∷ [])) 6 (mayHold c (Call.receive q x))
     (8 if leb mostWaiting (length (c .qp q .waiting)) ∷ []) e refl
 checks-plain c (Call.flush q) e =
     without (2 if not (c .qp q .live) ∷ 3 if not (isInError (c .qp q)) ∷ 9 if isEmpty (c .qp q .waiting) ∷ []) 6 (mayHold c (Call.flush q)) [] e refl
+checks-plain c (Call.enqueue q x m) e = λ i. first-with plain (memoryChecks c m ++ (sendChecks x ++ enqueueChecks c q)) i refl
+checks-plain c (Call.turn m) e = λ i. first-with plain (memoryChecks c m ++ turnChecks c) i refl
 checks-plain c (Call.poll n b) e = λ i. first-with plain (bufferChecks b ++ pollChecks c n) i refl
 
 plain-refused : (n : ℕ) → plain n ≡ true → isHeld (answered 0 (some n)) ≡ false

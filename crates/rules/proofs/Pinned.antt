@@ -13,13 +13,14 @@ use Rattle.tables.specs.Queries.{deviceCodec, portCodec}
 use Rattle.tables.specs.declared.Sge.{Sge}
 use Rattle.validate.specs.Accept.{accessOk}
 use Rattle.rules.specs.Lists.{stored}
-use Rattle.rules.specs.Touch.{Request, range, sgeBytes, sgeTotal, total, ownBytes, farBytes, message, delivered}
+use Rattle.rules.specs.Touch.{range, sgeBytes, sgeTotal, total, ownBytes, farBytes, message, delivered}
+use Rattle.tables.specs.Records.{Request}
 use Rattle.rules.specs.Permit.{Use, granted, permitsAll, permits, lookup, covers}
 use Rattle.rules.specs.Call.{Call}
 use Rattle.rules.specs.Calls.{bufferAfter, controlChecks}
 use Rattle.rules.specs.Control.{commandChecks, commandEffect, commandAck, deviceOf, portOf}
 use Rattle.rules.specs.Marks.{platform, after, uses}
-use Rattle.rules.specs.Send.{deliveryChecks, sendStatus, sendPuts, pairChecks, readyChecks, placeChecks, holdChecks, runStatus}
+use Rattle.rules.specs.Send.{deliveryChecks, queueChecks, sendStatus, sendPuts, pairChecks, readyChecks, placeChecks, holdChecks, runStatus}
 use Rattle.rules.specs.Queues.{joined, flushPut}
 use Rattle.wire.specs.Scan.{lowest, lowestFrom, anyBelow, all}
 use Rattle.tables.specs.Commands.{Command, commandOf, dataSize, ackNeed}
@@ -90,7 +91,7 @@ pub posted :
     refusal (deliveryChecks pair 0 (request 0 4096 [])) ∷ refusal (deliveryChecks pair 0 (fourfold 25 1)) ∷
     refusal (deliveryChecks (waits 257) 0 (fourfold 25 1)) ∷ []
     ≡ none ∷ some 5 ∷ some 6 ∷ []
-unfolding after platform commandChecks commandEffect lowest lowestFrom anyBelow joined deliveryChecks pairChecks holdChecks readyChecks placeChecks
+unfolding after platform commandChecks commandEffect lowest lowestFrom anyBelow joined deliveryChecks pairChecks queueChecks holdChecks readyChecks placeChecks
 posted = refl
 
 -- 100 bytes into the peer's region; into a region of the sender's domain; out of one of the peer's; a total over 4096, though no piece is

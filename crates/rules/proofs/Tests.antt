@@ -1,9 +1,14 @@
--- A list of tests in two parts. Assumes nothing.
-use mathlib.Core.Path.{_≡_, refl}
+-- A list of tests in two parts; a list is empty where it has no length. Assumes nothing.
+use mathlib.Core.Path.{_≡_, refl, sym}
 use mathlib.Core.Bool.{Bool, true, false, cond}
 use mathlib.Core.List.{List, [], _∷_, _++_}
 use mathlib.Core.Option.{Option, none, some}
 use Prim.Native.Nat.{ℕ}
+use native.Mathlib.Omega.{arith}
+use lib.Dec.{eqb}
+use lib.ListN.{length}
+use borrow.Author.Tests.{ne-eqb}
+use Rattle.rules.specs.Lists.{isEmpty}
 use Rattle.wire.specs.Checks.{Check, refusal, Passed}
 
 pub passed-before : (xs ys : List Check) → Passed (xs ++ ys) → Passed xs
@@ -27,3 +32,7 @@ refusal-append (x ∷ xs) ys = go (x .bad) (refusal-append xs ys)
         cond b (some (x .no)) (refusal (xs ++ ys)) ≡ firstOf (cond b (some (x .no)) (refusal xs)) (refusal ys)
     go true e = refl
     go false e = e
+
+pub empty-is : {A : Type 0} (xs : List A) → isEmpty xs ≡ eqb (length xs) 0
+empty-is [] = refl
+empty-is (x ∷ xs) = sym (ne-eqb (length (x ∷ xs)) 0 (λ e. omega arith))

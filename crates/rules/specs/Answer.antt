@@ -39,6 +39,10 @@ answered s (some n) = cond (eqb n 5) (Held Peer) (cond (eqb n 6) (Held Place) (R
 abbrev pub answerIn : ℕ → Answer
 answerIn r = answered (r / 256 % 256) (cond (eqb (r % 256) 0) none (some (r % 256)))
 
+-- the value beside it, from bit 16 on
+abbrev pub valueIn : ℕ → ℕ
+valueIn r = r / 65536
+
 -- the call was answered 0
 abbrev pub isDone : Answer → Bool
 isDone (Done s) = true

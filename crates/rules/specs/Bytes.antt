@@ -5,9 +5,9 @@ use Prim.Native.Nat.{ℕ, _+_, _*_, _/_}
 use lib.Dec.{eqb}
 use Rattle.wire.specs.Table.{rowAt, putRow}
 use Rattle.tables.specs.State.{card}
-use Rattle.tables.specs.Layout.{pdFlagT, mrFlagT, mrT, pageT, cqT, qpT, waitingT, cqFlagT, qpFlagT}
+use Rattle.tables.specs.Layout.{pdFlagT, mrFlagT, mrT, pageT, cqT, qpT, waitingT, sendHeadT, turnT, cqFlagT, qpFlagT}
 use Rattle.tables.specs.Limits.{qpCount, pageSize, mostPages}
-use Rattle.tables.specs.Queue.{pushBytes, popBytes, postBytes, takeBytes}
+use Rattle.tables.specs.Queue.{pushBytes, popBytes, postBytes, takeBytes, queueBytes, unqueueBytes}
 use Rattle.tables.specs.Commands.{Command, commandOf}
 use Rattle.tables.specs.Records.{receiveCodec}
 use Rattle.tables.specs.Reset.{resetBytes}
@@ -23,8 +23,9 @@ use Rattle.tables.specs.declared.WaitingHead.{WaitingHead}
 use Rattle.rules.specs.Call.{Call, registrationIn}
 use Rattle.rules.specs.Control.{newVariant, rightsAfter}
 use Rattle.rules.specs.Queues.{flushedPut, flushesAtOnce}
+use Rattle.rules.specs.Turn.{after, served, headOf}
 use Rattle.rules.specs.Send.{Put, peerOf, oldest, sendStatus, sendPuts, consumes, fails}
-use Rattle.rules.specs.Touch.{Request, requestOf}
+use Rattle.tables.specs.Records.{Request, requestOf}
 use Rattle.rules.specs.Lists.{maybe}
 use Rattle.wire.specs.Codec.{decode}
 
@@ -66,7 +67,7 @@ movedPair p r =
       rights = rightsAfter (p .rights) r;
     }
 
--- its receives are dropped by a move to 0
+-- its receives, and its queued sends, are dropped by a move to 0
 abbrev pub movedHead : WaitingHead → (t : ℕ) → WaitingHead
 movedHead h t = record { first = h .first; count = cond (eqb t 0) 0 (h .count) }
 
@@ -96,10 +97,13 @@ commandBytes l (Command.destroyPd n) = putRow pdFlagT l n 0
 commandBytes l (Command.register g) = regionBytes l flatKind g
 commandBytes l (Command.deregister n) = putRow mrFlagT l n 0
 commandBytes l (Command.createQp r) =
-    let n = freeQpn (card l) in putRow qpFlagT (putRow qpT (putRow waitingT l n noneWait) n (newPair r)) n 1
+    let n = freeQpn (card l) in
+    putRow qpFlagT (putRow qpT (putRow sendHeadT (putRow waitingT l n noneWait) n noneWait) n (newPair r)) n 1
 commandBytes l (Command.modifyQp r) =
     let q = r .qpn in
-    putRow waitingT (putRow qpT l q (movedPair (rowAt qpT l q) r)) q (movedHead (rowAt waitingT l q) (r .state))
+    putRow sendHeadT
+    (putRow waitingT (putRow qpT l q (movedPair (rowAt qpT l q) r)) q (movedHead (rowAt waitingT l q) (r .state)))
+    q (movedHead (rowAt sendHeadT l q) (r .state))
 commandBytes l (Command.destroyQp q) = putRow qpFlagT l q 0
 
 -- ---- post send
@@ -127,6 +131,15 @@ sendBytes l q r =
     let d = peerOf (card l) q in
     errorBytes (eqb s 7) (consumeBytes (consumes (r .opcode) s) (errorBytes (fails s) (pushAll l (sendPuts (card l) q r s)) q) d) d
 
+-- ---- a turn
+
+-- the head leaves its queue, and the next queue pair to visit is the one after
+unfoldable pub headGoneBytes : List ℕ → (q : ℕ) → List ℕ
+headGoneBytes l q = putRow turnT (unqueueBytes l q) 0 (after q)
+
+unfoldable pub turnBytes : List ℕ → List ℕ
+turnBytes l = let q = served (card l) in headGoneBytes (sendBytes l q (headOf (card l) q)) q
+
 -- ---- post receive and flush
 
 -- the completion of a flushed receive, put
@@ -149,4 +162,6 @@ effectBytes l (Call.registerPages k ps a) = pagedBytes l (registrationIn k) ps
 effectBytes l (Call.send q x m) = sendBytes l q (requestOf x)
 effectBytes l (Call.receive q x) = receiveBytes l q (decode receiveCodec x 0)
 effectBytes l (Call.flush q) = flushBytes l q
+effectBytes l (Call.enqueue q x m) = queueBytes l q x
+effectBytes l (Call.turn m) = turnBytes l
 effectBytes l (Call.poll n b) = popBytes l n

@@ -8,7 +8,8 @@ use Rattle.tables.specs.Card.{Receive}
 use Rattle.tables.specs.Commands.{Command, commandOf, registerCodec}
 use Rattle.tables.specs.declared.Registration.{Registration}
 use Rattle.rules.specs.Lists.{orElse}
-use Rattle.rules.specs.Touch.{Request, requestOf, receiveIn}
+use Rattle.rules.specs.Touch.{receiveIn}
+use Rattle.tables.specs.Records.{Request, requestOf}
 use Rattle.rules.specs.declared.Answer.{Answer}
 
 pub data Call : Type 0 where
@@ -23,6 +24,10 @@ pub data Call : Type 0 where
   -- post receive: the receive record
   receive : (qpn : ℕ) (posted : List ℕ) → Call
   flush : (qpn : ℕ) → Call
+  -- 02, M-108, "Enqueue": the send record, and the memory, of which the length alone is looked at
+  enqueue : (qpn : ℕ) (sent memory : List ℕ) → Call
+  -- 02, M-108, "A turn call": the memory as it was
+  turn : (memory : List ℕ) → Call
   -- the buffer for a completion, as it was
   poll : (cqn : ℕ) (buffer : List ℕ) → Call
 
@@ -44,6 +49,9 @@ pub data OnPair : Type 0 where
   sends : (qpn : ℕ) → Request → OnPair
   receives : (qpn : ℕ) → Receive → OnPair
   flushes : (qpn : ℕ) → OnPair
+  enqueues : (qpn : ℕ) → Request → OnPair
+  -- it runs a queued request, of a queue pair that its answer names
+  turns : OnPair
 
 pub record Given : Type 0 where
   -- the state is tested whole, and not its length alone
@@ -64,6 +72,8 @@ given (registerPages k ps a) =
 given (send q x m) = record { whole = true; memory = some m; buffer = no-buffer; command = none; pair = sends q (requestOf x) }
 given (receive q x) = record { whole = true; memory = none; buffer = no-buffer; command = none; pair = receives q (receiveIn x) }
 given (flush q) = record { whole = true; memory = none; buffer = no-buffer; command = none; pair = flushes q }
+given (enqueue q x m) = record { whole = true; memory = some m; buffer = no-buffer; command = none; pair = enqueues q (requestOf x) }
+given (turn m) = record { whole = true; memory = some m; buffer = no-buffer; command = none; pair = turns }
 given (poll n b) = record { whole = true; memory = none; buffer = for-completion b; command = none; pair = nothing }
 
 -- the memory lent to a call
@@ -72,12 +82,15 @@ memoryOf k = orElse (given k .memory) []
 
 -- ---- what it leaves
 
--- what can be seen of a call that returned: its answer, and the state, the memory and the answer buffer that it left
+-- what can be seen of a call that returned: its answer, the number that it returned beside it, and the state, the memory and the answer buffer
+-- that it left
 pub record Outcome : Type 0 where
   pub answer : Answer
+  -- 02, M-108: "the QP served" by a turn; 0 of any other call
+  pub value : ℕ
   pub state : List ℕ
   pub memory : List ℕ
   pub buffer : List ℕ
 
 abbrev pub leaving : Answer → (l′ m′ b′ : List ℕ) → Outcome
-leaving r l′ m′ b′ = record { answer = r; state = l′; memory = m′; buffer = b′ }
+leaving r l′ m′ b′ = record { answer = r; value = 0; state = l′; memory = m′; buffer = b′ }

@@ -18,10 +18,12 @@ use Rattle.tables.specs.Records.{sendChecks, receiveChecks, completionCodec}
 use Rattle.rules.specs.Lists.{isSome, maybe}
 use Rattle.rules.specs.declared.Answer.{Answer}
 use Rattle.rules.specs.Answer.{answered, isDone}
-use Rattle.rules.specs.Touch.{requestOf, receiveIn}
+use Rattle.rules.specs.Touch.{receiveIn}
+use Rattle.tables.specs.Records.{requestOf}
 use Rattle.rules.specs.Control.{commandChecks, commandAck, commandEffect, registered}
 use Rattle.rules.specs.Pages.{pageRecordChecks, pageListChecks}
 use Rattle.rules.specs.Send.{deliveryChecks, sendStatus, sendEffect, sendMemory}
+use Rattle.rules.specs.Turn.{enqueueChecks, enqueued, turnChecks, turnEffect, served, headOf}
 use Rattle.rules.specs.Queues.{joinChecks, joinStatus, received, flushChecks, flushed, pollChecks, polled, oldestEntry}
 use Rattle.rules.specs.Call.{Call, Buffer, given, memoryOf, registrationIn, Outcome}
 
@@ -38,6 +40,10 @@ controlChecks k a =
     (headChecks k ++
     (13 if not (isSome (commandOf k)) ∷ 1 if not (eqb (length k) (2 + maybe 0 dataSize (commandOf k))) ∷ []))
 
+-- 7: "lent memory's length isn't the reset length"
+unfoldable pub memoryChecks : Card → (m : List ℕ) → List Check
+memoryChecks c m = 7 if not (eqb (length m) (c .memory)) ∷ []
+
 -- "Poll: buffer under 24 bytes 12"
 unfoldable pub bufferChecks : List ℕ → List Check
 bufferChecks b = 12 if ltb (length b) (completionCodec .size) ∷ []
@@ -49,13 +55,15 @@ bufferChecks b = 12 if ltb (length b) (completionCodec .size) ∷ []
 pub record CallRule : Type 0 where
   pub checks : List Check
   pub status : ℕ
+  -- what it returns beside answer and status
+  pub value : ℕ
   pub card : Card
   pub memory : List ℕ
   pub buffer : List ℕ
 
 -- a call with no status that leaves the answer buffer b, and one that is lent none
 abbrev pub fills : List Check → Card → (b : List ℕ) → CallRule
-fills ts c b = record { checks = ts; status = 0; card = c; memory = []; buffer = b }
+fills ts c b = record { checks = ts; status = 0; value = 0; card = c; memory = []; buffer = b }
 
 abbrev pub does : List Check → Card → CallRule
 does ts c = fills ts c []
@@ -73,15 +81,36 @@ callRule c (Call.registerPages k ps a) =
 callRule c (Call.send q x m) =
     let r = requestOf x in
     record {
-      checks = 7 if not (eqb (length m) (c .memory)) ∷ (sendChecks x ++ deliveryChecks c q r);
+      checks = memoryChecks c m ++ (sendChecks x ++ deliveryChecks c q r);
       status = sendStatus c q r;
+      value = 0;
       card = sendEffect c q r;
       memory = sendMemory c q r m;
       buffer = [];
     }
 callRule c (Call.receive q x) =
-    record { checks = receiveChecks x ++ joinChecks c q; status = joinStatus c q; card = received c q (receiveIn x); memory = []; buffer = [] }
+    record { checks = receiveChecks x ++ joinChecks c q; status = joinStatus c q; value = 0; card = received c q (receiveIn x); memory = []; buffer = [] }
 callRule c (Call.flush q) = does (flushChecks c q) (flushed c q)
+-- 02, M-108: "Enqueue makes document 01's tests up to answer 3 .. and answers 8 exactly when the queue is full"
+callRule c (Call.enqueue q x m) =
+    record {
+      checks = memoryChecks c m ++ (sendChecks x ++ enqueueChecks c q);
+      status = 0;
+      value = 0;
+      card = enqueued c q (requestOf x);
+      memory = m;
+      buffer = [];
+    }
+-- 02, M-108: "A turn call tests 7 .. It returns the QP served and the status"; "Demands 2 and 3 read a turn as the work request it runs"
+callRule c (Call.turn m) =
+    record {
+      checks = memoryChecks c m ++ turnChecks c;
+      status = sendStatus c (served c) (headOf c (served c));
+      value = served c;
+      card = turnEffect c;
+      memory = sendMemory c (served c) (headOf c (served c)) m;
+      buffer = [];
+    }
 -- a completion "fills the first 24 bytes"
 callRule c (Call.poll n b) = fills (bufferChecks b ++ pollChecks c n) (polled c n) (encode completionCodec b 0 (oldestEntry c n))
 
@@ -93,6 +122,10 @@ checks c k = callRule c k .checks
 unfoldable pub statusOf : Card → Call → ℕ
 unfolding callRule
 statusOf c k = callRule c k .status
+
+unfoldable pub valueOf : Card → Call → ℕ
+unfolding callRule
+valueOf c k = callRule c k .value
 
 unfoldable pub effect : Card → Call → Card
 unfolding callRule
@@ -124,14 +157,22 @@ bufferRefused n k = refusedBy n (given k .buffer)
 
 pub record Result : Type 0 where
   pub answer : Answer
+  pub value : ℕ
   pub card : Card
   pub memory : List ℕ
   pub buffer : List ℕ
 
 abbrev pub settled : Option ℕ → Card → Call → Result
 settled none c k =
-    record { answer = answered (statusOf c k) none; card = effect c k; memory = memoryAfter c k; buffer = bufferAfter c k }
-settled (some n) c k = record { answer = answered 0 (some n); card = c; memory = memoryOf k; buffer = bufferRefused n k }
+    record {
+      answer = answered (statusOf c k) none;
+      value = valueOf c k;
+      card = effect c k;
+      memory = memoryAfter c k;
+      buffer = bufferAfter c k;
+    }
+-- 02, M-108: "(both 0 unless answered 0)"
+settled (some n) c k = record { answer = answered 0 (some n); value = 0; card = c; memory = memoryOf k; buffer = bufferRefused n k }
 
 unfoldable pub step : Card → Call → Result
 step c k = settled (refusal (checks c k)) c k
@@ -153,6 +194,7 @@ module _ (cardOf : List ℕ → Card) (accepts : List ℕ → Bool) where
   -- The contract of every call: k on the state l has the outcome o.
   pub record Meets (l : List ℕ) (k : Call) (o : Outcome) : Type 0 where
     pub answer : o .answer ≡ owed l k .answer
+    pub value : o .value ≡ owed l k .value
     pub card : cardOf (o .state) ≡ owed l k .card
     pub memory : o .memory ≡ owed l k .memory
     pub buffer : o .buffer ≡ owed l k .buffer

@@ -116,14 +116,14 @@ newKeys c = ack.Keys (freeMrn c) (keyOf (freeMrn c) (newVariant c))
 -- "A new QP is in 0"
 abbrev pub created : CreateQp → Qp
 created r =
-    record { live = true; pd = r .pd; signal = r .signal; scq = r .scq; rcq = r .rcq; state = 0; dest = none; rights = 0; waiting = [] }
+    record { live = true; pd = r .pd; signal = r .signal; scq = r .scq; rcq = r .rcq; state = 0; dest = none; rights = 0; waiting = []; queue = [] }
 
 -- 02, M-104: "The QP's flags are 0 .. after a move to reset, even one with bit 2"; another move with bit 2 sets them, and "without bit 2 the
 -- number is ignored"
 abbrev pub rightsAfter : (rights : ℕ) → ModifyQp → ℕ
 rightsAfter f r = cond (eqb (r .state) 0) 0 (cond (has rightsBit (r .mask)) (r .flags) f)
 
--- "Move to 0 drops waiting receives and the destination"; a move to 2 takes the destination that bit 15 names
+-- "Move to 0 drops waiting receives and the destination"; 02, M-108: "Moves to reset and destruction drop the queue"; a move to 2 takes the destination that bit 15 names
 abbrev pub moved : Qp → ModifyQp → Qp
 moved s r =
     let t = r .state in
@@ -137,6 +137,7 @@ moved s r =
       dest = cond (eqb t 0) none (cond (eqb t 2) (some (r .dest)) (s .dest));
       rights = rightsAfter (s .rights) r;
       waiting = cond (eqb t 0) [] (s .waiting);
+      queue = cond (eqb t 0) [] (s .queue);
     }
 
 -- a new region in the lowest slot that registration takes; its pages are none where its bytes are adjacent

@@ -18,7 +18,8 @@ use Rattle.tables.specs.declared.Registration.{Registration}
 use Rattle.rules.specs.declared.Answer.{Answer}
 use Rattle.rules.specs.declared.Answer.the-variants.{Done}
 use Rattle.rules.specs.Answer.{isDone}
-use Rattle.rules.specs.Touch.{Request, requestOf, fills, total, sgeTotal, ownBytes, farBytes}
+use Rattle.rules.specs.Touch.{fills, total, sgeTotal, ownBytes, farBytes}
+use Rattle.tables.specs.Records.{Request, requestOf}
 use Rattle.rules.specs.Permit.{keyOf, lookup, permitsAll}
 use Rattle.rules.specs.Control.{commandChecks, commandEffect, newVariant, registered}
 use Rattle.rules.specs.Pages.{pageListChecks}

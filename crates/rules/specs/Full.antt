@@ -9,7 +9,7 @@ use Rattle.wire.specs.Checks.{Check, _if_, refusal}
 use Rattle.wire.specs.Scan.{anyBelow}
 use Rattle.tables.specs.Card.{Card, cqLive}
 use Rattle.tables.specs.Commands.{Command}
-use Rattle.tables.specs.Limits.{pdCount, cqCount, mrCount, qpCount, mostWaiting}
+use Rattle.tables.specs.Limits.{pdCount, cqCount, mrCount, qpCount, mostWaiting, mostQueued}
 use Rattle.validate.specs.Search.{vacant}
 use Rattle.rules.specs.Call.{Call, OnPair, given}
 use Rattle.rules.specs.Calls.{checks}
@@ -37,12 +37,15 @@ tableFull c (Command.createQp r) = noneFree qpCount (λ i. not (c .qp i .live))
 tableFull c (Command.modifyQp r) = false
 tableFull c (Command.destroyQp q) = false
 
--- of the receive queue that a call posts on
+-- of the receive queue that a call posts on, and the send queue
 abbrev pub queueFull : Card → OnPair → Bool
 queueFull c OnPair.nothing = false
 queueFull c (OnPair.sends q r) = false
 queueFull c (OnPair.receives q w) = leb mostWaiting (length (c .qp q .waiting))
 queueFull c (OnPair.flushes q) = false
+-- 02, M-108: "answers 8 exactly when the queue is full"
+queueFull c (OnPair.enqueues q r) = leb mostQueued (length (c .qp q .queue))
+queueFull c OnPair.turns = false
 
 -- no number, or no place in the receive queue, is free for the call
 abbrev pub isFull : Card → Call → Bool

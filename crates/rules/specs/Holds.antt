@@ -34,6 +34,9 @@ holdsOn c (OnPair.sends q r) =
 holdsOn c (OnPair.receives q w) = flushesAtOnce c q && noPlace c (c .qp q .rcq)
 -- "Flush one: .. no place 6"
 holdsOn c (OnPair.flushes q) = noPlace c (c .qp q .rcq)
+-- 02, M-108: held heads are passed over, and where all are "answer 9"
+holdsOn c (OnPair.enqueues q r) = false
+holdsOn c OnPair.turns = false
 
 -- where a call on the card may be held
 abbrev pub mayHold : Card → Call → Bool

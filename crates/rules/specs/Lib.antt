@@ -5,6 +5,7 @@ pub mod Permit
 pub mod Control
 pub mod Pages
 pub mod Send
+pub mod Turn
 pub mod Queues
 pub mod Call
 pub mod Calls

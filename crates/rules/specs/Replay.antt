@@ -14,6 +14,8 @@ lending m (Call.registerPages k ps a) = Call.registerPages k ps a
 lending m (Call.send q x m₀) = Call.send q x m
 lending m (Call.receive q x) = Call.receive q x
 lending m (Call.flush q) = Call.flush q
+lending m (Call.enqueue q x m₀) = Call.enqueue q x m
+lending m (Call.turn m₀) = Call.turn m
 lending m (Call.poll n b) = Call.poll n b
 
 -- what two calls returned and left; completions stand in the state, or in the buffer of a poll

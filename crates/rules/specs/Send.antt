@@ -12,7 +12,8 @@ use Rattle.tables.specs.Limits.{qpCount, mostMessage}
 use Rattle.tables.specs.Card.{Card, Cq, Qp, Receive, noReceive, withCq, withQp, withWaiting, tail, withEntries}
 use Rattle.tables.specs.declared.Completion.{Completion}
 use Rattle.rules.specs.Lists.{isEmpty, names, orElse}
-use Rattle.rules.specs.Touch.{Request, takes, fills, reads, total, sgeTotal, ownBytes, farBytes, delivered}
+use Rattle.rules.specs.Touch.{takes, fills, reads, total, sgeTotal, ownBytes, farBytes, delivered}
+use Rattle.tables.specs.Records.{Request}
 use Rattle.rules.specs.Permit.{Use, permitsAll, place}
 
 -- ---- peers and completion places
@@ -78,8 +79,12 @@ placeChecks c q = 6 if not (room (c .cq (c .qp q .scq)) 1) ∷ []
 unfoldable pub holdChecks : Card → (q : ℕ) → Request → List Check
 holdChecks c q r = cond (isInError (c .qp q)) (placeChecks c q) (readyChecks c q r)
 
+-- 02, M-108: "A direct send answers 10, after 3, while its QP's queue isn't empty"
+unfoldable pub queueChecks : Card → (q : ℕ) → List Check
+queueChecks c q = 10 if not (isEmpty (c .qp q .queue)) ∷ []
+
 unfoldable pub deliveryChecks : Card → (q : ℕ) → Request → List Check
-deliveryChecks c q r = pairChecks c q ++ holdChecks c q r
+deliveryChecks c q r = pairChecks c q ++ (queueChecks c q ++ holdChecks c q r)
 
 -- ---- steps 3 to 6
 
@@ -191,6 +196,7 @@ inError s =
       dest = s .dest;
       rights = s .rights;
       waiting = s .waiting;
+      queue = s .queue;
     }
 
 abbrev pub errorIf : Bool → (q : ℕ) → (ℕ → Qp) → ℕ → Qp

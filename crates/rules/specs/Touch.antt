@@ -2,53 +2,28 @@
 -- they name, the memory byte that an address means, and what a delivery writes. Nothing here says what is permitted: the rules and
 -- the judge each decide that for themselves, and share this file, the records' layouts, 01's limits, and the types of calls and
 -- answers. Assumes nothing.
-use mathlib.Core.Bool.{Bool, cond, _&&_}
+use mathlib.Core.Bool.{Bool, false, cond, _&&_}
 use mathlib.Core.List.{List, [], _∷_, _++_, map}
 use Prim.Native.Nat.{ℕ, zero, suc, _+_, _-_, _/_, _%_, min}
 use lib.Dec.{eqb, leb}
 use lib.ListN.{length, getD, take}
-use Rattle.wire.specs.Rows.{rows}
 use Rattle.tables.specs.Card.{Receive, receiveOf}
 use Rattle.tables.specs.Limits.{pageSize}
-use Rattle.tables.specs.Records.{sendCodec, isSignaled, isInline, inlineBytes, sendSge, receiveCodec}
+use Rattle.tables.specs.Records.{Request, receiveCodec}
 use Rattle.tables.specs.declared.Registration.{Registration}
 use Rattle.tables.specs.declared.Sge.{Sge}
 use Rattle.rules.specs.Lists.{stored}
 use Rattle.wire.specs.Codec.{decode}
 
--- ---- the records as requests
-
--- a work request; inline is the flag, bytes are the inline bytes
-pub record Request : Type 0 where
-  pub wr : ℕ
-  pub opcode : ℕ
-  pub signaled : Bool
-  pub inline : Bool
-  pub bytes : List ℕ
-  pub imm : ℕ
-  pub address : ℕ
-  pub key : ℕ
-  pub sges : List Sge
-
--- the request that the bytes of a send record are
-unfoldable pub requestOf : List ℕ → Request
-requestOf x =
-    let s = decode sendCodec x 0 in
-    record {
-      wr = s .wr;
-      opcode = s .opcode;
-      signaled = isSignaled s;
-      inline = isInline s;
-      bytes = inlineBytes x;
-      imm = s .imm;
-      address = s .address;
-      key = s .key;
-      sges = rows (s .count) (sendSge x);
-    }
+-- ---- the records as requests and receives
 
 -- the receive that the bytes of a receive record are
 unfoldable pub receiveIn : List ℕ → Receive
 receiveIn x = receiveOf (decode receiveCodec x 0)
+
+-- what stands past the end of a queue of requests
+abbrev pub noRequest : Request
+noRequest = record { wr = 0; opcode = 0; signaled = false; inline = false; bytes = []; imm = 0; address = 0; key = 0; sges = [] }
 
 -- "Opcodes: 0 write, 1 write with immediate, 2 send, 3 send with immediate, 4 read"; 1, 2, 3 take a receive of the peer, 2 and 3 fill it
 abbrev pub takes : ℕ → Bool

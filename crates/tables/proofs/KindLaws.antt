@@ -7,17 +7,21 @@ use mathlib.Core.List.{List}
 use Prim.Native.Nat.{ℕ, _+_, _*_, _<_}
 use native.Mathlib.Omega.{arith}
 use lib.Dec.{T}
+use lib.ListN.{length}
 use Rattle.wire.specs.Slots.{slots, upd}
-use Rattle.wire.specs.Table.{rowAt, finish}
+use Rattle.wire.specs.Parts.{partsEnd}
+use Rattle.wire.specs.Codec.{Fit}
+use Rattle.wire.specs.Table.{rowAt, putRow, finish}
 use Rattle.wire.proofs.CodecLaws.{both}
 use Rattle.wire.proofs.RowLaws.{rows-same}
 use Rattle.wire.proofs.SlotLaws.{slots-same, slots-upd}
-use Rattle.wire.proofs.TableLaws.{Block, block-then, outside, row-kept}
-use Rattle.tables.specs.Card.{withPd, withCq, withMr, withQp, freeMr, freeQp, freeCq}
-use Rattle.tables.specs.Layout.{stateSize, pdFlagBase, cqFlagBase, mrFlagBase, qpFlagBase, memoryT, pdFlagT, cqFlagT, cqT, entryT, mrFlagT, mrT, pageT, qpFlagT, qpT, waitingT, receiveT, flagCodec, queueCodec, regionCodec, pageCodec, pairCodec, waitingCodec, memoryCodec}
-use Rattle.tables.specs.Limits.{pdCount, cqCount, mrCount, qpCount, mostPlaces, mostWaiting, mostPages}
+use Rattle.wire.proofs.PartsLaws.{partsOutside, part-kept}
+use Rattle.wire.proofs.TableLaws.{Block, block-then, inside, outside, row-kept, row-stored, store-block}
+use Rattle.tables.specs.Card.{withPd, withCq, withMr, withQp, withTurn, freeMr, freeQp, freeCq}
+use Rattle.tables.specs.Layout.{stateSize, queuedCount, turnBase, pdFlagBase, cqFlagBase, mrFlagBase, qpFlagBase, memoryT, turnT, pdFlagT, cqFlagT, cqT, entryT, mrFlagT, mrT, pageT, qpFlagT, qpT, waitingT, receiveT, sendHeadT, kindT, recordP, kindCodec, flagCodec, queueCodec, regionCodec, pageCodec, pairCodec, waitingCodec, memoryCodec}
+use Rattle.tables.specs.Limits.{pdCount, cqCount, mrCount, qpCount, mostPlaces, mostWaiting, mostPages, mostQueued}
 use Rattle.tables.specs.Records.{completionCodec, receiveCodec}
-use Rattle.tables.specs.State.{queueAt, regionAt, pairAt, ringAt, receivesAt, pagesAt, mrOf, cqOf, qpOf, isLive, noCompletion, noRecord, card}
+use Rattle.tables.specs.State.{queueAt, regionAt, pairAt, ringAt, receivesAt, pagesAt, queuedAt, placeAt, mrOf, cqOf, qpOf, isLive, noCompletion, noRecord, noQueued, card}
 
 -- ---- what a change within some bytes leaves, where no table of the kind has any of them
 
@@ -28,13 +32,21 @@ module _ (from to : ℕ) where
   abbrev pub regionsOutside : Bool
   regionsOutside = outside mrFlagT from to && (outside mrT from to && outside pageT from to)
 
+  abbrev pub queuedOutside : Bool
+  queuedOutside = outside kindT from to && partsOutside recordP from to
+
   abbrev pub pairsOutside : Bool
-  pairsOutside = outside qpFlagT from to && (outside qpT from to && (outside waitingT from to && outside receiveT from to))
+  pairsOutside =
+      outside qpFlagT from to && (outside qpT from to && (outside waitingT from to && (outside receiveT from to && (outside sendHeadT from to && queuedOutside))))
 
 module _ {from to : ℕ} {l l′ : List ℕ} (b : Block from to l l′) where
   pub memory-kept : T (outside memoryT from to) → rowAt memoryT l′ 0 ≡ rowAt memoryT l 0
   unfolding memoryT
   memory-kept e = row-kept memoryT from to e b 0 (omega arith)
+
+  pub turn-kept : T (outside turnT from to) → rowAt turnT l′ 0 ≡ rowAt turnT l 0
+  unfolding turnT
+  turn-kept e = row-kept turnT from to e b 0 (omega arith)
 
   pub pd-kept : T (outside pdFlagT from to) → card l′ .pd ≡ card l .pd
   unfolding card pdFlagT
@@ -47,6 +59,16 @@ module _ {from to : ℕ} {l l′ : List ℕ} (b : Block from to l l′) where
   pub receives-kept : T (outside receiveT from to) → (i : ℕ) → i < qpCount → receivesAt l′ i ≡ receivesAt l i
   unfolding receivesAt receiveT
   receives-kept e i h = rows-same mostWaiting _ _ noRecord (λ k c. row-kept receiveT from to e b (mostWaiting * i + k) (omega arith))
+
+  pub place-kept : T (queuedOutside from to) → (p : ℕ) → p < queuedCount → placeAt l′ p ≡ placeAt l p
+  unfolding kindT recordP
+  place-kept e p h =
+      let w = both (outside kindT from to) (partsOutside recordP from to) e in
+      rw (row-kept kindT from to (w .0) b p h, part-kept recordP from to (w .1) b p h)
+
+  pub queued-kept : T (queuedOutside from to) → (i : ℕ) → i < qpCount → queuedAt l′ i ≡ queuedAt l i
+  unfolding queuedAt
+  queued-kept e i h = rows-same mostQueued _ _ noQueued (λ k c. place-kept e (mostQueued * i + k) (omega arith))
 
   pub queue-kept : T (queuesOutside from to) → (i : ℕ) → i < cqCount → queueAt l′ i ≡ queueAt l i
   unfolding queueAt cqFlagT cqT
@@ -67,12 +89,22 @@ module _ {from to : ℕ} {l l′ : List ℕ} (b : Block from to l l′) where
       rw (row-kept mrFlagT from to (p .0) b i h, row-kept mrT from to (q .0) b i h, pages-kept (q .1) i h)
 
   pub pair-kept : T (pairsOutside from to) → (i : ℕ) → i < qpCount → pairAt l′ i ≡ pairAt l i
-  unfolding pairAt qpFlagT qpT waitingT
+  unfolding pairAt qpFlagT qpT waitingT sendHeadT
   pair-kept e i h =
-      let p = both (outside qpFlagT from to) (outside qpT from to && (outside waitingT from to && outside receiveT from to)) e in
-      let q = both (outside qpT from to) (outside waitingT from to && outside receiveT from to) (p .1) in
-      let r = both (outside waitingT from to) (outside receiveT from to) (q .1) in
-      rw (row-kept qpFlagT from to (p .0) b i h, row-kept qpT from to (q .0) b i h, row-kept waitingT from to (r .0) b i h, receives-kept (r .1) i h)
+      let x : Bool = outside sendHeadT from to && queuedOutside from to in
+      let p = both (outside qpFlagT from to) (outside qpT from to && (outside waitingT from to && (outside receiveT from to && x))) e in
+      let q = both (outside qpT from to) (outside waitingT from to && (outside receiveT from to && x)) (p .1) in
+      let r = both (outside waitingT from to) (outside receiveT from to && x) (q .1) in
+      let s = both (outside receiveT from to) x (r .1) in
+      let t = both (outside sendHeadT from to) (queuedOutside from to) (s .1) in
+      rw (
+        row-kept qpFlagT from to (p .0) b i h,
+        row-kept qpT from to (q .0) b i h,
+        row-kept waitingT from to (r .0) b i h,
+        receives-kept (s .0) i h,
+        row-kept sendHeadT from to (t .0) b i h,
+        queued-kept (t .1) i h,
+      )
 
   pub cq-kept : T (queuesOutside from to) → card l′ .cq ≡ card l .cq
   unfolding card
@@ -121,41 +153,67 @@ changed {count = count} {at = at} {l = l} {l′ = l′} {n = n} d of h o =
 
 module _ {l l′ : List ℕ} {n : ℕ} where
   pub domain-card : n < pdCount → DomainsOnly l l′ n → card l′ ≡ withPd (card l) (upd (card l .pd) n (isLive (rowAt pdFlagT l′ n)))
-  unfolding card outside finish memoryT cqFlagT cqT entryT mrFlagT mrT pageT pageCodec qpFlagT qpT waitingT receiveT flagCodec queueCodec completionCodec regionCodec pairCodec waitingCodec receiveCodec memoryCodec
+  unfolding card outside finish partsOutside partsEnd memoryT turnT sendHeadT kindT kindCodec recordP cqFlagT cqT entryT mrFlagT mrT pageT pageCodec qpFlagT qpT waitingT receiveT flagCodec queueCodec completionCodec regionCodec pairCodec waitingCodec receiveCodec memoryCodec
   domain-card h o =
       let p0 = memory-kept (o .block) tt in
       let p1 = changed false (λ f. isLive f) h o in
       let p2 = cq-kept (o .block) tt in
       let p3 = mr-kept (o .block) tt in
       let p4 = qp-kept (o .block) tt in
-      λ i. record { memory = p0 i; pd = p1 i; cq = p2 i; mr = p3 i; qp = p4 i }
+      let p5 = turn-kept (o .block) tt in
+      λ i. record { memory = p0 i; turn = p5 i; pd = p1 i; cq = p2 i; mr = p3 i; qp = p4 i }
 
   pub queue-card : n < cqCount → QueuesOnly l l′ n → card l′ ≡ withCq (card l) (upd (card l .cq) n (cqOf (queueAt l′ n)))
-  unfolding card outside finish memoryT pdFlagT mrFlagT mrT pageT pageCodec qpFlagT qpT waitingT receiveT flagCodec regionCodec pairCodec waitingCodec receiveCodec memoryCodec
+  unfolding card outside finish partsOutside partsEnd memoryT turnT sendHeadT kindT kindCodec recordP pdFlagT mrFlagT mrT pageT pageCodec qpFlagT qpT waitingT receiveT flagCodec regionCodec pairCodec waitingCodec receiveCodec memoryCodec
   queue-card h o =
       let p0 = memory-kept (o .block) tt in
       let p1 = pd-kept (o .block) tt in
       let p2 = changed freeCq cqOf h o in
       let p3 = mr-kept (o .block) tt in
       let p4 = qp-kept (o .block) tt in
-      λ i. record { memory = p0 i; pd = p1 i; cq = p2 i; mr = p3 i; qp = p4 i }
+      let p5 = turn-kept (o .block) tt in
+      λ i. record { memory = p0 i; turn = p5 i; pd = p1 i; cq = p2 i; mr = p3 i; qp = p4 i }
 
   pub region-card : n < mrCount → RegionsOnly l l′ n → card l′ ≡ withMr (card l) (upd (card l .mr) n (mrOf (regionAt l′ n)))
-  unfolding card outside finish memoryT pdFlagT cqFlagT cqT entryT qpFlagT qpT waitingT receiveT flagCodec queueCodec completionCodec pairCodec waitingCodec receiveCodec memoryCodec
+  unfolding card outside finish partsOutside partsEnd memoryT turnT sendHeadT kindT kindCodec recordP pdFlagT cqFlagT cqT entryT qpFlagT qpT waitingT receiveT flagCodec queueCodec completionCodec pairCodec waitingCodec receiveCodec memoryCodec
   region-card h o =
       let p0 = memory-kept (o .block) tt in
       let p1 = pd-kept (o .block) tt in
       let p2 = cq-kept (o .block) tt in
       let p3 = changed (freeMr 0) mrOf h o in
       let p4 = qp-kept (o .block) tt in
-      λ i. record { memory = p0 i; pd = p1 i; cq = p2 i; mr = p3 i; qp = p4 i }
+      let p5 = turn-kept (o .block) tt in
+      λ i. record { memory = p0 i; turn = p5 i; pd = p1 i; cq = p2 i; mr = p3 i; qp = p4 i }
 
   pub pair-card : n < qpCount → PairsOnly l l′ n → card l′ ≡ withQp (card l) (upd (card l .qp) n (qpOf (pairAt l′ n)))
-  unfolding card outside finish memoryT pdFlagT cqFlagT cqT entryT mrFlagT mrT pageT pageCodec flagCodec queueCodec completionCodec regionCodec memoryCodec
+  unfolding card outside finish partsOutside partsEnd memoryT turnT sendHeadT kindT kindCodec recordP pdFlagT cqFlagT cqT entryT mrFlagT mrT pageT pageCodec flagCodec queueCodec completionCodec regionCodec memoryCodec
   pair-card h o =
       let p0 = memory-kept (o .block) tt in
       let p1 = pd-kept (o .block) tt in
       let p2 = cq-kept (o .block) tt in
       let p3 = mr-kept (o .block) tt in
       let p4 = changed freeQp qpOf h o in
-      λ i. record { memory = p0 i; pd = p1 i; cq = p2 i; mr = p3 i; qp = p4 i }
+      let p5 = turn-kept (o .block) tt in
+      λ i. record { memory = p0 i; turn = p5 i; pd = p1 i; cq = p2 i; mr = p3 i; qp = p4 i }
+
+-- ---- the turn place
+
+module _ (l : List ℕ) (n : ℕ) where
+  pub turn-block : Block turnBase pdFlagBase l (putRow turnT l 0 n)
+  unfolding inside finish turnT flagCodec
+  turn-block = store-block turnT turnBase pdFlagBase tt l 0 n (omega arith)
+
+  pub turn-at : length l ≡ stateSize → n < 256 → rowAt turnT (putRow turnT l 0 n) 0 ≡ n
+  unfolding finish turnT flagCodec Fit
+  turn-at e f = row-stored turnT l 0 n (omega arith) (omega arith) (f, tt)
+
+  pub turn-card : length l ≡ stateSize → n < 256 → card (putRow turnT l 0 n) ≡ withTurn (card l) n
+  unfolding card outside finish partsOutside partsEnd memoryT sendHeadT kindT kindCodec recordP pdFlagT cqFlagT cqT entryT mrFlagT mrT pageT pageCodec qpFlagT qpT waitingT receiveT flagCodec queueCodec completionCodec regionCodec pairCodec waitingCodec receiveCodec memoryCodec
+  turn-card e f =
+      let p0 = memory-kept turn-block tt in
+      let p1 = pd-kept turn-block tt in
+      let p2 = cq-kept turn-block tt in
+      let p3 = mr-kept turn-block tt in
+      let p4 = qp-kept turn-block tt in
+      let p5 = turn-at e f in
+      λ i. record { memory = p0 i; turn = p5 i; pd = p1 i; cq = p2 i; mr = p3 i; qp = p4 i }

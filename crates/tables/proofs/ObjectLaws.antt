@@ -12,9 +12,9 @@ use Rattle.wire.specs.Table.{rowAt}
 use Rattle.wire.proofs.RowLaws.{getD-rows}
 use Rattle.wire.proofs.SlotLaws.{slot-in, slot-out}
 use Rattle.tables.specs.Card.{Cq, Mr, Qp, cqLive, freeMr, freeQp, freeCq}
-use Rattle.tables.specs.Layout.{memoryT, pdFlagT, cqFlagT, cqT, entryT, mrFlagT, mrT, pageT, qpFlagT, receiveT}
-use Rattle.tables.specs.Limits.{pdCount, cqCount, mrCount, qpCount, mostPlaces, mostWaiting, mostPages}
-use Rattle.tables.specs.State.{card, queueAt, regionAt, pairAt, ringAt, receivesAt, pagesAt, mrOf, cqOf, qpOf, liveQp, isLive, unread, registrationOf, pagesOf, noCompletion, noRecord}
+use Rattle.tables.specs.Layout.{memoryT, turnT, pdFlagT, cqFlagT, cqT, entryT, mrFlagT, mrT, pageT, qpFlagT, receiveT}
+use Rattle.tables.specs.Limits.{pdCount, cqCount, mrCount, qpCount, mostPlaces, mostWaiting, mostPages, mostQueued}
+use Rattle.tables.specs.State.{card, queueAt, regionAt, pairAt, ringAt, receivesAt, pagesAt, queuedAt, placeAt, mrOf, cqOf, qpOf, liveQp, isLive, unread, registrationOf, pagesOf, noCompletion, noRecord, noQueued}
 
 -- a number whose slot is not the free one lies in the table
 below : {B : Type 0} (count : ℕ) (d : B) (f : ℕ → B) (live : B → Bool) → live d ≡ false → (n : ℕ) → live (slots count d f n) ≡ true → n < count
@@ -28,6 +28,10 @@ module _ (l : List ℕ) where
   pub memory-is : card l .memory ≡ rowAt memoryT l 0
   unfolding card
   memory-is = refl
+
+  pub turn-is : card l .turn ≡ rowAt turnT l 0
+  unfolding card
+  turn-is = refl
 
   module _ (n : ℕ) where
     -- ---- domains
@@ -141,3 +145,7 @@ module _ (l : List ℕ) where
   pub receive-at : (n k : ℕ) → k < mostWaiting → getD (receivesAt l n) k noRecord ≡ rowAt receiveT l (mostWaiting * n + k)
   unfolding receivesAt
   receive-at n k h = getD-rows mostWaiting (λ i. rowAt receiveT l (mostWaiting * n + i)) k noRecord h
+
+  pub queued-at : (n k : ℕ) → k < mostQueued → getD (queuedAt l n) k noQueued ≡ placeAt l (mostQueued * n + k)
+  unfolding queuedAt
+  queued-at n k h = getD-rows mostQueued (λ i. placeAt l (mostQueued * n + i)) k noQueued h

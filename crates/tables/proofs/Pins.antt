@@ -9,7 +9,7 @@ use Rattle.wire.specs.Codec.{Codec, decode, encode, fieldsAt, putFields}
 use Rattle.wire.specs.Le.{leAt, putLe}
 use Rattle.wire.specs.Rows.{rows, rowsFrom}
 use Rattle.tables.specs.Commands.{Command, commandOf, encodeAck, ackNeed, numberCodec, registerCodec, createQpCodec, modifyQpCodec}
-use Rattle.tables.specs.Layout.{queueCodec, regionCodec, pageCodec, pairCodec, waitingCodec, pdFlagBase, cqFlagBase, cqBase, entryBase, mrFlagBase, mrBase, pageBase, qpFlagBase, qpBase, waitingBase, receiveBase, stateSize}
+use Rattle.tables.specs.Layout.{queueCodec, regionCodec, pageCodec, pairCodec, waitingCodec, kindCodec, turnBase, pdFlagBase, cqFlagBase, cqBase, entryBase, mrFlagBase, mrBase, pageBase, qpFlagBase, qpBase, waitingBase, receiveBase, sendHeadBase, kindBase, recordBase, stateSize}
 use Rattle.tables.specs.Records.{sgeCodec, sendCodec, sendSge, inlineBytes, inlineLength, receiveCodec, receiveSges, completionCodec}
 use Rattle.tables.specs.Queries.{deviceCodec, portCodec}
 use Rattle.tables.specs.declared.Ack.the-variants.{Device, Port}
@@ -154,7 +154,12 @@ pub waiting-row : Pinned waitingCodec (1 ∷ 2 ∷ []) (replicate 3 99) (1 ∷ 2
 unfolding fieldsAt putFields leAt putLe waitingCodec
 waiting-row = record { read = refl; wrote = refl }
 
+-- opcode, flags, count
+pub kind-row : Pinned kindCodec (1 ∷ 2 ∷ 3 ∷ 4 ∷ []) (replicate 5 99) (1 ∷ 2 ∷ 3 ∷ 4 ∷ 99 ∷ []) (record { opcode = 1; flags = 2; count = 1027 })
+unfolding fieldsAt putFields leAt putLe kindCodec
+kind-row = record { read = refl; wrote = refl }
+
 -- where each table begins, and the state's length: docs/STATE.md
-pub bases : pdFlagBase ∷ cqFlagBase ∷ cqBase ∷ entryBase ∷ mrFlagBase ∷ mrBase ∷ pageBase ∷ qpFlagBase ∷ qpBase ∷ waitingBase ∷ receiveBase ∷ stateSize ∷ []
-    ≡ 16 ∷ 24 ∷ 32 ∷ 64 ∷ 3136 ∷ 3392 ∷ 11584 ∷ 19776 ∷ 19784 ∷ 19848 ∷ 19864 ∷ 21656 ∷ []
+pub bases : turnBase ∷ pdFlagBase ∷ cqFlagBase ∷ cqBase ∷ entryBase ∷ mrFlagBase ∷ mrBase ∷ pageBase ∷ qpFlagBase ∷ qpBase ∷ waitingBase ∷ receiveBase ∷ sendHeadBase ∷ kindBase ∷ recordBase ∷ stateSize ∷ []
+    ≡ 8 ∷ 16 ∷ 24 ∷ 32 ∷ 64 ∷ 3136 ∷ 3392 ∷ 11584 ∷ 19776 ∷ 19784 ∷ 19848 ∷ 19864 ∷ 21656 ∷ 21672 ∷ 21928 ∷ 62888 ∷ []
 bases = refl

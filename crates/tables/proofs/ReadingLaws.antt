@@ -4,7 +4,7 @@ use mathlib.Core.Logic.{_⊎_, inl, inr}
 use mathlib.Core.Bool.{Bool, true, false, not, _&&_, _||_}
 use mathlib.Core.List.{List, [], _∷_}
 use mathlib.Core.Option.{Option, none, some}
-use Prim.Native.Nat.{ℕ, zero, suc, _+_, _*_, _%_, _≤_, _<_}
+use Prim.Native.Nat.{ℕ, zero, suc, _+_, _*_, _/_, _%_, _≤_, _<_}
 use native.Mathlib.Nat.{add-zero, add-assoc}
 use native.Mathlib.Omega.{arith}
 use native.Mathlib.Decide.{decLe}
@@ -16,6 +16,7 @@ use Rattle.wire.specs.Codec.{fieldsAt, putFields, decode, encode}
 use Rattle.wire.specs.Le.{leAt, putLe}
 use Rattle.wire.proofs.LeLaws.{leAt-below, leAt-split}
 use Rattle.tables.specs.Limits.{mostSges, mostInline, mostReceiveSges}
+use Rattle.tables.specs.Layout.{kindCodec}
 use Rattle.tables.specs.Commands.{controlClass, headRead, headReadBy}
 use Rattle.tables.specs.Records.{sgeCodec, sgeAt, noSge, sendCodec, flagBits, isInline, inlineLength, sendChecks, sendRead, sendReadBy, sendBad, sendSize, receiveCodec, receiveChecks, receiveRead}
 use Rattle.tables.specs.declared.HeadRead.the-variants as head
@@ -94,6 +95,21 @@ inline-length x =
     let g : leAt 2 x 560 ≡ leAt 4 x 560 % 65536 = omega arith in
     g
 
+-- a row of the queued sends' column, read as one number
+pub kind-word : (l : List ℕ) (at w : ℕ) → w ≡ leAt 4 l at → record { opcode = w % 256; flags = w / 256 % 256; count = w / 65536 } ≡ decode kindCodec l at
+unfolding kindCodec fieldsAt
+kind-word l at w e =
+    let s : leAt 4 l at ≡ leAt 2 l at + 65536 * leAt 2 l (at + 2) = leAt-split 2 2 l at in
+    let t : leAt 2 l at ≡ leAt 1 l at + 256 * leAt 1 l (at + 1) = leAt-split 1 1 l at in
+    let b : leAt 1 l at < 256 = leAt-below 1 l at in
+    let c : leAt 1 l (at + 1) < 256 = leAt-below 1 l (at + 1) in
+    let d : leAt 2 l at < 65536 = leAt-below 2 l at in
+    let opcode : w % 256 ≡ leAt 1 l at = omega arith in
+    let high : w / 256 ≡ leAt 1 l (at + 1) + 256 * leAt 2 l (at + 2) = omega arith in
+    let flags : w / 256 % 256 ≡ leAt 1 l (at + 1) = rw high (omega arith) in
+    let count : w / 65536 ≡ leAt 2 l (at + 2) = omega arith in
+    rw (add-zero, opcode, flags, count)
+
 -- the tests after the first, as two
 two : (a b i o l m z : Bool)
     → refusal (4 if a ∷ 4 if b ∷ 4 if (i && o) ∷ 4 if (i && l) ∷ 4 if (not i && m) ∷ 1 if z ∷ [])
@@ -114,14 +130,17 @@ module _ (x : List ℕ) where
   send-short h = rw (lt-ltb (length x) 576 h)
 
   -- the rest of the tests, of a record of at least 576 bytes
+  pub send-tests : 576 ≤ length x → refusal (sendChecks x) ≡ refusal (4 if sendBad s ∷ 1 if not (eqb (length x) (sendSize s)) ∷ [])
+  unfolding sendChecks
+  send-tests h =
+      rw (le-ltb (length x) 576 h, inline-length x)
+      (two (ltb 4 (s .opcode)) (not (only flagBits (s .flags))) (isInline s) (eqb (s .opcode) 4) (ltb mostInline (s .count % 65536)) (ltb mostSges (s .count))
+      (not (eqb (length x) (sendSize s))))
+
   send-rest : 576 ≤ length x
       → sendRead x ≡ sendReadBy (refusal (4 if sendBad s ∷ 1 if not (eqb (length x) (sendSize s)) ∷ [])) s
-  unfolding sendRead sendChecks
-  send-rest h =
-      rw (le-ltb (length x) 576 h, inline-length x)
-      (ap (λ o. sendReadBy o s)
-      (two (ltb 4 (s .opcode)) (not (only flagBits (s .flags))) (isInline s) (eqb (s .opcode) 4) (ltb mostInline (s .count % 65536)) (ltb mostSges (s .count))
-      (not (eqb (length x) (sendSize s)))))
+  unfolding sendRead
+  send-rest h = ap (λ (o : Option ℕ). sendReadBy o s) (send-tests h)
 
   pub send-refused : 576 ≤ length x → sendBad s ≡ true → send.Refused 4 ≡ sendRead x
   send-refused h b = rw (send-rest h, b)

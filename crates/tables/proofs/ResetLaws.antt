@@ -15,7 +15,7 @@ use Rattle.wire.proofs.SlotLaws.{slots-same}
 use Rattle.wire.proofs.TableLaws.{elsewhere, outside, table-other, row-stored, putRow-length}
 use Rattle.tables.specs.Card.{fresh, freeMr, freeQp, freeCq}
 use Rattle.tables.specs.State.{card, mrOf, cqOf, qpOf, queueAt, regionAt, pairAt}
-use Rattle.tables.specs.Layout.{stateSize, memoryT, pdFlagT, cqFlagT, mrFlagT, mrT, qpFlagT, memoryCodec, flagCodec, regionCodec}
+use Rattle.tables.specs.Layout.{stateSize, memoryT, turnT, pdFlagT, cqFlagT, mrFlagT, mrT, qpFlagT, memoryCodec, flagCodec, regionCodec}
 use Rattle.tables.specs.Limits.{pdCount, cqCount, mrCount, qpCount, mostMemory}
 use Rattle.tables.specs.Reset.{zeros, resetBytes}
 use Rattle.tables.specs.declared.Region.{Region}
@@ -65,6 +65,10 @@ module _ (memory : ℕ) where
   unfolding elsewhere outside finish memoryT qpFlagT memoryCodec flagCodec rowAt fieldsAt
   qp-zero n h = other qpFlagT tt n h ∙ zero-read 1 stateSize _
 
+  pub turn-zero : rowAt turnT l 0 ≡ 0
+  unfolding elsewhere outside finish memoryT turnT memoryCodec flagCodec rowAt fieldsAt
+  turn-zero = other turnT tt 0 (omega arith) ∙ zero-read 1 stateSize _
+
   variant-zero : (n : ℕ) → n < mrCount → rowAt mrT l n .variant ≡ 0
   unfolding elsewhere outside finish memoryT mrT memoryCodec regionCodec rowAt fieldsAt
   variant-zero n h = ap (λ (r : Region). r .variant) (other mrT tt n h) ∙ zero-read 1 stateSize _
@@ -91,4 +95,5 @@ module _ (memory : ℕ) where
         let p2 : card l .cq ≡ fresh memory .cq = none-slot cqCount freeCq _ (λ i h. rw (cq-zero i h)) in
         let p3 : card l .mr ≡ fresh memory .mr = none-slot mrCount (freeMr 0) _ (λ i h. rw (mr-zero i h, variant-zero i h)) in
         let p4 : card l .qp ≡ fresh memory .qp = none-slot qpCount freeQp _ (λ i h. rw (qp-zero i h)) in
-        λ i. record { memory = p0 i; pd = p1 i; cq = p2 i; mr = p3 i; qp = p4 i }
+        let p5 : card l .turn ≡ 0 = turn-zero in
+        λ i. record { memory = p0 i; turn = p5 i; pd = p1 i; cq = p2 i; mr = p3 i; qp = p4 i }

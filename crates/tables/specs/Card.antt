@@ -4,7 +4,7 @@ use mathlib.Core.Bool.{Bool, false}
 use mathlib.Core.List.{List, [], _∷_}
 use mathlib.Core.Option.{Option, none}
 use Prim.Native.Nat.{ℕ}
-use Rattle.tables.specs.Records.{receiveSges}
+use Rattle.tables.specs.Records.{receiveSges, Request}
 use Rattle.tables.specs.declared.Completion.{Completion}
 use Rattle.tables.specs.declared.ReceiveRecord.{ReceiveRecord}
 use Rattle.tables.specs.declared.Registration.{Registration}
@@ -27,8 +27,8 @@ pub record Receive : Type 0 where
 unfoldable pub receiveOf : ReceiveRecord → Receive
 receiveOf r = record { wr = r .wr; sges = receiveSges r }
 
--- a queue pair, with its send and receive completion queues, its destination, its access flags (02, M-104) and its waiting receives, the
--- oldest first
+-- a queue pair, with its send and receive completion queues, its destination, its access flags (02, M-104), its waiting receives and
+-- its queued sends (02, M-108), the oldest first
 pub record Qp : Type 0 where
   pub live : Bool
   pub pd : ℕ
@@ -39,6 +39,7 @@ pub record Qp : Type 0 where
   pub dest : Option ℕ
   pub rights : ℕ
   pub waiting : List Receive
+  pub queue : List Request
 
 -- a completion queue and its unread completions, the oldest first
 pub record Cq : Type 0 where
@@ -46,9 +47,10 @@ pub record Cq : Type 0 where
   pub places : ℕ
   pub entries : List Completion
 
--- memory: the length given at reset
+-- memory: the length given at reset; turn: the queue pair that a turn visits first, the one after the last served
 pub record Card : Type 0 where
   pub memory : ℕ
+  pub turn : ℕ
   pub pd : ℕ → Bool
   pub cq : ℕ → Cq
   pub mr : ℕ → Mr
@@ -59,16 +61,19 @@ abbrev pub cqLive : Card → ℕ → Bool
 cqLive c n = c .cq n .live
 
 abbrev pub withPd : Card → (ℕ → Bool) → Card
-withPd c f = record { memory = c .memory; pd = f; cq = c .cq; mr = c .mr; qp = c .qp }
+withPd c f = record { memory = c .memory; turn = c .turn; pd = f; cq = c .cq; mr = c .mr; qp = c .qp }
 
 abbrev pub withCq : Card → (ℕ → Cq) → Card
-withCq c f = record { memory = c .memory; pd = c .pd; cq = f; mr = c .mr; qp = c .qp }
+withCq c f = record { memory = c .memory; turn = c .turn; pd = c .pd; cq = f; mr = c .mr; qp = c .qp }
 
 abbrev pub withMr : Card → (ℕ → Mr) → Card
-withMr c f = record { memory = c .memory; pd = c .pd; cq = c .cq; mr = f; qp = c .qp }
+withMr c f = record { memory = c .memory; turn = c .turn; pd = c .pd; cq = c .cq; mr = f; qp = c .qp }
 
 abbrev pub withQp : Card → (ℕ → Qp) → Card
-withQp c f = record { memory = c .memory; pd = c .pd; cq = c .cq; mr = c .mr; qp = f }
+withQp c f = record { memory = c .memory; turn = c .turn; pd = c .pd; cq = c .cq; mr = c .mr; qp = f }
+
+abbrev pub withTurn : Card → ℕ → Card
+withTurn c n = record { memory = c .memory; turn = n; pd = c .pd; cq = c .cq; mr = c .mr; qp = c .qp }
 
 -- a queue pair with other waiting receives
 abbrev pub withWaiting : Qp → List Receive → Qp
@@ -83,6 +88,23 @@ withWaiting q ws =
       dest = q .dest;
       rights = q .rights;
       waiting = ws;
+      queue = q .queue;
+    }
+
+-- and with other queued sends
+abbrev pub withQueue : Qp → List Request → Qp
+withQueue q rs =
+    record {
+      live = q .live;
+      pd = q .pd;
+      signal = q .signal;
+      scq = q .scq;
+      rcq = q .rcq;
+      state = q .state;
+      dest = q .dest;
+      rights = q .rights;
+      waiting = q .waiting;
+      queue = rs;
     }
 
 -- a completion queue with other unread completions
@@ -101,7 +123,19 @@ abbrev pub freeMr : ℕ → Mr
 freeMr v = record { live = false; variant = v; reg = noRegistration; pages = [] }
 
 abbrev pub freeQp : Qp
-freeQp = record { live = false; pd = 0; signal = 0; scq = 0; rcq = 0; state = 0; dest = none; rights = 0; waiting = [] }
+freeQp =
+    record {
+      live = false;
+      pd = 0;
+      signal = 0;
+      scq = 0;
+      rcq = 0;
+      state = 0;
+      dest = none;
+      rights = 0;
+      waiting = [];
+      queue = [];
+    }
 
 abbrev pub freeCq : Cq
 freeCq = record { live = false; places = 0; entries = [] }
@@ -111,4 +145,4 @@ noReceive = record { wr = 0; sges = [] }
 
 -- the card after a reset with the memory length n: no object, no variant handed out
 abbrev pub fresh : ℕ → Card
-fresh n = record { memory = n; pd = λ i. false; cq = λ i. freeCq; mr = λ i. freeMr 0; qp = λ i. freeQp }
+fresh n = record { memory = n; turn = 0; pd = λ i. false; cq = λ i. freeCq; mr = λ i. freeMr 0; qp = λ i. freeQp }

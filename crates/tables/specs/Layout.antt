@@ -5,8 +5,9 @@ use Prim.Native.Nat.{ℕ, _+_, _*_}
 use mathlib.Core.List.{[], _∷_}
 use lib.ListN.{getD}
 use Rattle.wire.specs.Codec.{Codec, line, within, clear, apart}
+use Rattle.wire.specs.Parts.{Parts}
 use Rattle.wire.specs.Table.{Table}
-use Rattle.tables.specs.Limits.{pdCount, cqCount, mrCount, qpCount, mostPlaces, mostWaiting, mostPages}
+use Rattle.tables.specs.Limits.{pdCount, cqCount, mrCount, qpCount, mostPlaces, mostWaiting, mostPages, mostQueued, recordSize}
 use Rattle.tables.specs.Records.{completionCodec, receiveCodec}
 use Rattle.tables.specs.declared.QueueHead.{QueueHead}
 use Rattle.tables.specs.declared.Completion.{Completion}
@@ -14,13 +15,14 @@ use Rattle.tables.specs.declared.Region.{Region}
 use Rattle.tables.specs.declared.QueuePair.{QueuePair}
 use Rattle.tables.specs.declared.WaitingHead.{WaitingHead}
 use Rattle.tables.specs.declared.ReceiveRecord.{ReceiveRecord}
+use Rattle.tables.specs.declared.SendKind.{SendKind}
 
 -- ---- rows
 
--- the memory length, in a header of 16 bytes
+-- the memory length; the header is 16 bytes: this number, the turn place, and 7 bytes that are not used
 unfoldable pub memoryCodec : Codec ℕ
 unfolding within clear apart
-memoryCodec = record { size = 16; lines = line 0 8 (λ m. m) ∷ []; make = λ vs. getD vs 0 0; ends = tt; clears = tt; back = λ m. refl }
+memoryCodec = record { size = 8; lines = line 0 8 (λ m. m) ∷ []; make = λ vs. getD vs 0 0; ends = tt; clears = tt; back = λ m. refl }
 
 -- a live flag: 1 where the object is live
 unfoldable pub flagCodec : Codec ℕ
@@ -101,7 +103,7 @@ pairCodec = record {
   back = λ r. refl;
 }
 
--- where a queue pair's waiting receives stand among its 4 places
+-- where a queue pair's waiting receives stand among its 4 places, or its queued sends among its 8
 unfoldable pub waitingCodec : Codec WaitingHead
 unfolding within clear apart
 waitingCodec = record {
@@ -113,13 +115,31 @@ waitingCodec = record {
   back = λ r. refl;
 }
 
+-- what answer 15 asks of a queued send: its opcode, its flags, and its piece count, or with the inline flag its inline length
+unfoldable pub kindCodec : Codec SendKind
+unfolding within clear apart
+kindCodec = record {
+  size = 4;
+  lines = line 0 1 (λ r. r .opcode) ∷ line 1 1 (λ r. r .flags) ∷ line 2 2 (λ r. r .count) ∷ [];
+  make = λ vs. record { opcode = getD vs 0 0; flags = getD vs 1 0; count = getD vs 2 0 };
+  ends = tt;
+  clears = tt;
+  back = λ r. refl;
+}
+
 -- ---- where each table begins, and the state's length
 
 abbrev pub receiveCount : ℕ
 receiveCount = qpCount * mostWaiting
 
+abbrev pub queuedCount : ℕ
+queuedCount = qpCount * mostQueued
+
 abbrev pub entryCount : ℕ
 entryCount = cqCount * mostPlaces
+
+abbrev pub turnBase : ℕ
+turnBase = 8
 
 abbrev pub pdFlagBase : ℕ
 pdFlagBase = 16
@@ -160,14 +180,27 @@ waitingBase = qpBase + qpCount * 8
 abbrev pub receiveBase : ℕ
 receiveBase = waitingBase + qpCount * 2
 
--- the state's length in bytes, 21,656
+abbrev pub sendHeadBase : ℕ
+sendHeadBase = receiveBase + receiveCount * 56
+
+abbrev pub kindBase : ℕ
+kindBase = sendHeadBase + qpCount * 2
+
+abbrev pub recordBase : ℕ
+recordBase = kindBase + queuedCount * 4
+
+-- the state's length in bytes, 62,888
 abbrev pub stateSize : ℕ
-stateSize = receiveBase + receiveCount * 56
+stateSize = recordBase + queuedCount * recordSize
 
 -- ---- the tables
 
 unfoldable pub memoryT : Table ℕ
 memoryT = record { base = 0; count = 1; codec = memoryCodec }
+
+-- the queue pair that a turn visits first
+unfoldable pub turnT : Table ℕ
+turnT = record { base = turnBase; count = 1; codec = flagCodec }
 
 unfoldable pub pdFlagT : Table ℕ
 pdFlagT = record { base = pdFlagBase; count = pdCount; codec = flagCodec }
@@ -204,3 +237,15 @@ waitingT = record { base = waitingBase; count = qpCount; codec = waitingCodec }
 -- 4 receives for each queue pair, each in the receive record's layout
 unfoldable pub receiveT : Table ReceiveRecord
 receiveT = record { base = receiveBase; count = receiveCount; codec = receiveCodec }
+
+-- where a queue pair's queued sends stand among its 8 places
+unfoldable pub sendHeadT : Table WaitingHead
+sendHeadT = record { base = sendHeadBase; count = qpCount; codec = waitingCodec }
+
+-- 8 queued sends for each queue pair: what answer 15 asks of each, in a column of its own
+unfoldable pub kindT : Table SendKind
+kindT = record { base = kindBase; count = queuedCount; codec = kindCodec }
+
+-- and their records, each as it was lent; the numbers that stand in the column are not looked at there
+unfoldable pub recordP : Parts
+recordP = record { base = recordBase; count = queuedCount; size = recordSize }

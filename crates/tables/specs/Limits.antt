@@ -21,6 +21,14 @@ qpCount = 8
 abbrev pub mostWaiting : ℕ
 mostWaiting = 4
 
+-- 02, M-108: "Each QP gets a queue of 8 send records"
+abbrev pub mostQueued : ℕ
+mostQueued = 8
+
+-- the longest send record, of four pieces
+abbrev pub recordSize : ℕ
+recordSize = 640
+
 -- 02, M-106: "and memory from 1,048,576 to 16,777,216 bytes"
 abbrev pub mostMemory : ℕ
 mostMemory = 16777216

@@ -1,12 +1,16 @@
--- Completion queues and waiting receives in the state: document 01's struct with its ring, and the bytes that one entry more or one fewer
--- leaves. Assumes nothing.
+-- Completion queues, waiting receives and queued sends in the state: document 01's struct with its ring, and the bytes that one entry
+-- more or one fewer leaves. Assumes nothing.
 use mathlib.Core.List.{List}
 use Prim.Native.Nat.{ℕ, _+_, _*_, _-_}
 use lib.ListN.{set}
+use Rattle.wire.specs.Codec.{decode}
+use Rattle.wire.specs.Parts.{putPart}
 use Rattle.wire.specs.Ring.{ringPlace}
 use Rattle.wire.specs.Table.{rowAt, putRow}
-use Rattle.tables.specs.Layout.{cqT, entryT, waitingT, receiveT}
-use Rattle.tables.specs.Limits.{mostPlaces, mostWaiting}
+use Rattle.tables.specs.Layout.{cqT, entryT, waitingT, receiveT, sendHeadT, kindT, recordP}
+use Rattle.tables.specs.Limits.{mostPlaces, mostWaiting, mostQueued}
+use Rattle.tables.specs.Records.{QueuedSend, sendCodec, kindOf}
+use Rattle.tables.specs.State.{placeAt}
 use Rattle.tables.specs.declared.Completion.{Completion}
 use Rattle.tables.specs.declared.CompletionQueue.{CompletionQueue}
 use Rattle.tables.specs.declared.QueueHead.{QueueHead}
@@ -68,3 +72,26 @@ postBytes l q w =
 
 unfoldable pub takeBytes : List ℕ → ℕ → List ℕ
 takeBytes l q = putRow waitingT l q (shrunk (rowAt waitingT l q))
+
+-- ---- one queued send more, one fewer (02, M-108)
+
+-- the record x in place p: its bytes as they were lent, and in the column the numbers that answer 15 asks of
+abbrev pub placeBytes : List ℕ → (p : ℕ) → (x : List ℕ) → List ℕ
+placeBytes l p x = putRow kindT (putPart recordP l p x) p (kindOf (decode sendCodec x 0))
+
+-- and as the newest of queue pair q
+unfoldable pub queueBytes : List ℕ → (q : ℕ) → (x : List ℕ) → List ℕ
+queueBytes l q x =
+    let h : WaitingHead = rowAt sendHeadT l q in
+    putRow sendHeadT (placeBytes l (mostQueued * q + ringPlace mostQueued (h .first) (h .count)) x) q (grown h)
+
+-- the oldest of queue pair q
+abbrev pub oldestSend : List ℕ → ℕ → QueuedSend
+oldestSend l q = placeAt l (mostQueued * q + rowAt sendHeadT l q .first)
+
+-- "the head leaves its queue"
+abbrev pub shrunkSends : WaitingHead → WaitingHead
+shrunkSends h = record { first = ringPlace mostQueued (h .first) 1; count = h .count - 1 }
+
+unfoldable pub unqueueBytes : List ℕ → (q : ℕ) → List ℕ
+unqueueBytes l q = putRow sendHeadT l q (shrunkSends (rowAt sendHeadT l q))

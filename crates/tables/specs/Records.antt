@@ -10,11 +10,13 @@ use lib.ListN.{length, getD, take, drop}
 use Rattle.wire.specs.Checks.{Check, _if_, refusal, has, only}
 use Rattle.wire.specs.Codec.{Codec, Field, Line, field, line, decode, within, clear, apart}
 use Rattle.wire.specs.Le.{leAt}
+use Rattle.wire.specs.Rows.{rows}
 use Rattle.tables.specs.Limits.{mostSges, mostInline, mostReceiveSges}
 use Rattle.tables.specs.declared.Completion.{Completion}
 use Rattle.tables.specs.declared.ReceiveRecord.{ReceiveRecord}
 use Rattle.tables.specs.declared.ReceiveRead.{ReceiveRead}
 use Rattle.tables.specs.declared.ReceiveRead.the-variants as receive
+use Rattle.tables.specs.declared.SendKind.{SendKind}
 use Rattle.tables.specs.declared.SendRecord.{SendRecord}
 use Rattle.tables.specs.declared.SendRead.{SendRead}
 use Rattle.tables.specs.declared.SendRead.the-variants as send
@@ -129,6 +131,74 @@ sendBad s =
 -- and its exact length
 abbrev pub sendSize : SendRecord → ℕ
 sendSize s = cond (isInline s) 576 (576 + 16 * s .count)
+
+-- ---- the records as requests
+
+-- a work request; inline is the flag, bytes are the inline bytes, none without it; sges are its pieces, none with it
+pub record Request : Type 0 where
+  pub wr : ℕ
+  pub opcode : ℕ
+  pub signaled : Bool
+  pub inline : Bool
+  pub bytes : List ℕ
+  pub imm : ℕ
+  pub address : ℕ
+  pub key : ℕ
+  pub sges : List Sge
+
+-- the inline bytes of a record x whose numbers are s: with the inline flag, the inline length is the low 16 bits of count
+abbrev pub inlineIn : SendRecord → List ℕ → List ℕ
+inlineIn s x = take (s .count % 65536) (drop 48 x)
+
+-- the request that a record x whose numbers are s is
+abbrev pub requestWith : SendRecord → List ℕ → Request
+requestWith s x =
+    record {
+      wr = s .wr;
+      opcode = s .opcode;
+      signaled = isSignaled s;
+      inline = isInline s;
+      bytes = cond (isInline s) (inlineIn s x) [];
+      imm = s .imm;
+      address = s .address;
+      key = s .key;
+      sges = cond (isInline s) [] (rows (s .count) (sendSge x));
+    }
+
+-- the request that the bytes of a send record are
+unfoldable pub requestOf : List ℕ → Request
+requestOf x = requestWith (decode sendCodec x 0) x
+
+-- ---- queued records
+
+-- the numbers of a record that the tests of answer 4 look at, which a queue keeps in a column of their own
+abbrev pub kindOf : SendRecord → SendKind
+kindOf s = record { opcode = s .opcode; flags = s .flags; count = s .count % 65536 }
+
+-- a place of a queue: its row of the column, and a record as it was lent, in which those numbers are not looked at
+pub record QueuedSend : Type 0 where
+  pub kind : SendKind
+  pub body : List ℕ
+
+-- the numbers of a queued record, those of the column from there
+abbrev pub withKind : SendRecord → SendKind → SendRecord
+withKind s k =
+    record {
+      wr = s .wr;
+      opcode = k .opcode;
+      flags = k .flags;
+      imm = s .imm;
+      address = s .address;
+      key = s .key;
+      count = k .count;
+    }
+
+abbrev pub sentIn : QueuedSend → SendRecord
+sentIn s = withKind (decode sendCodec (s .body) 0) (s .kind)
+
+-- and the request that it is
+abbrev pub requestIn : QueuedSend → Request
+requestIn s = requestWith (sentIn s) (s .body)
 
 -- ---- receive records
 

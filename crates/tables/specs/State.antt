@@ -6,13 +6,15 @@ use mathlib.Core.Option.{Option, none, some}
 use Prim.Native.Nat.{ℕ, _+_, _-_, _*_, _/_}
 use lib.Dec.{eqb}
 use lib.ListN.{take}
+use Rattle.wire.specs.Parts.{partAt}
 use Rattle.wire.specs.Ring.{ringList}
 use Rattle.wire.specs.Rows.{rows}
 use Rattle.wire.specs.Slots.{slots}
 use Rattle.wire.specs.Table.{rowAt}
 use Rattle.tables.specs.Card.{Card, Cq, Mr, Qp, receiveOf, noRegistration, freeMr, freeQp, freeCq}
-use Rattle.tables.specs.Layout.{memoryT, pdFlagT, mrFlagT, mrT, pageT, cqFlagT, cqT, entryT, qpFlagT, qpT, waitingT, receiveT}
-use Rattle.tables.specs.Limits.{pdCount, cqCount, mrCount, qpCount, mostPlaces, mostWaiting, pageSize, mostPages}
+use Rattle.tables.specs.Layout.{memoryT, turnT, pdFlagT, mrFlagT, mrT, pageT, cqFlagT, cqT, entryT, qpFlagT, qpT, waitingT, receiveT, sendHeadT, kindT, recordP}
+use Rattle.tables.specs.Limits.{pdCount, cqCount, mrCount, qpCount, mostPlaces, mostWaiting, pageSize, mostPages, mostQueued}
+use Rattle.tables.specs.Records.{QueuedSend, requestIn}
 use Rattle.tables.specs.declared.Completion.{Completion}
 use Rattle.tables.specs.declared.QueueHead.{QueueHead}
 use Rattle.tables.specs.declared.QueuePair.{QueuePair}
@@ -35,18 +37,28 @@ pub record RegionRows : Type 0 where
   pub row : Region
   pub pages : List ℕ
 
--- a queue pair: its flag, its row, where its receives stand, and their 4 places as they stand
+-- a queue pair: its flag, its row, where its receives stand, and their 4 places as they stand; where its queued sends stand, and
+-- their 8 places
 pub record PairRows : Type 0 where
   pub flag : ℕ
   pub row : QueuePair
   pub head : WaitingHead
   pub ring : List ReceiveRecord
+  pub sends : WaitingHead
+  pub queued : List QueuedSend
 
 unfoldable pub ringAt : List ℕ → ℕ → List Completion
 ringAt l n = rows mostPlaces (λ k. rowAt entryT l (mostPlaces * n + k))
 
 unfoldable pub receivesAt : List ℕ → ℕ → List ReceiveRecord
 receivesAt l n = rows mostWaiting (λ k. rowAt receiveT l (mostWaiting * n + k))
+
+-- place p of the queued sends of all queue pairs; 8 of them are those of queue pair n
+abbrev pub placeAt : List ℕ → ℕ → QueuedSend
+placeAt l p = record { kind = rowAt kindT l p; body = partAt recordP l p }
+
+unfoldable pub queuedAt : List ℕ → ℕ → List QueuedSend
+queuedAt l n = rows mostQueued (λ k. placeAt l (mostQueued * n + k))
 
 unfoldable pub pagesAt : List ℕ → ℕ → List ℕ
 pagesAt l n = rows mostPages (λ k. rowAt pageT l (mostPages * n + k))
@@ -58,7 +70,15 @@ unfoldable pub regionAt : List ℕ → ℕ → RegionRows
 regionAt l n = record { flag = rowAt mrFlagT l n; row = rowAt mrT l n; pages = pagesAt l n }
 
 unfoldable pub pairAt : List ℕ → ℕ → PairRows
-pairAt l n = record { flag = rowAt qpFlagT l n; row = rowAt qpT l n; head = rowAt waitingT l n; ring = receivesAt l n }
+pairAt l n =
+    record {
+      flag = rowAt qpFlagT l n;
+      row = rowAt qpT l n;
+      head = rowAt waitingT l n;
+      ring = receivesAt l n;
+      sends = rowAt sendHeadT l n;
+      queued = queuedAt l n;
+    }
 
 -- ---- rows to objects
 
@@ -96,12 +116,19 @@ noCompletion = record { wr = 0; status = 0; opcode = 0; length = 0; imm = 0; own
 abbrev pub noRecord : ReceiveRecord
 noRecord = record { wr = 0; count = 0; first = record { address = 0; length = 0; key = 0 }; second = record { address = 0; length = 0; key = 0 } }
 
+abbrev pub noQueued : QueuedSend
+noQueued = record { kind = record { opcode = 0; flags = 0; count = 0 }; body = [] }
+
 -- a completion queue's unread completions, and a queue pair's waiting receives: the ring from its first place on, the oldest first
 abbrev pub unread : QueueRows → List Completion
 unread r = ringList noCompletion mostPlaces (r .ring) (r .head .first) (r .head .count)
 
 abbrev pub posted : PairRows → List ReceiveRecord
 posted r = ringList noRecord mostWaiting (r .ring) (r .head .first) (r .head .count)
+
+-- and its queued sends
+abbrev pub queuedIn : PairRows → List QueuedSend
+queuedIn r = ringList noQueued mostQueued (r .queued) (r .sends .first) (r .sends .count)
 
 unfoldable pub cqOf : QueueRows → Cq
 cqOf r = cond (isLive (r .flag)) (record { live = true; places = r .head .places; entries = unread r }) freeCq
@@ -122,6 +149,7 @@ liveQp r =
       dest = destOf (r .row .dest);
       rights = r .row .rights;
       waiting = map receiveOf (posted r);
+      queue = map requestIn (queuedIn r);
     }
 
 unfoldable pub qpOf : PairRows → Qp
@@ -134,6 +162,7 @@ unfoldable pub card : List ℕ → Card
 card l =
     record {
       memory = rowAt memoryT l 0;
+      turn = rowAt turnT l 0;
       pd = slots pdCount false (λ n. isLive (rowAt pdFlagT l n));
       cq = slots cqCount freeCq (λ n. cqOf (queueAt l n));
       mr = slots mrCount (freeMr 0) (λ n. mrOf (regionAt l n));

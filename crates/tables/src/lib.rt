@@ -4,6 +4,7 @@ pub mod queue;
 pub mod records;
 pub mod reset;
 pub mod rows;
+pub mod sends;
 
 // A scatter/gather entry, document 01's piece: length bytes from the address on, under the key.
 pub struct Sge {
@@ -50,7 +51,7 @@ pub struct QueuePair {
     pub rights: u8,
 }
 
-// Where a queue pair's waiting receives stand among its 4 places: the oldest, and how many.
+// Where a queue pair's waiting receives stand among its 4 places, or its queued sends among its 8: the oldest, and how many.
 pub struct WaitingHead {
     pub first: u8,
     pub count: u8,
@@ -84,6 +85,13 @@ pub struct SendRecord {
     pub address: u64,
     pub key: u32,
     pub count: u32,
+}
+
+// What answer 15 asks of a queued send; count is its piece count, or with the inline flag its inline length.
+pub struct SendKind {
+    pub opcode: u8,
+    pub flags: u8,
+    pub count: u16,
 }
 
 // What reading a send record gives: the record, or the answer of the refusal.

@@ -13,6 +13,10 @@ pub const QP_COUNT: usize = 8;
 
 pub const MOST_WAITING: usize = 4;
 
+pub const MOST_QUEUED: usize = 8;
+
+pub const RECORD_SIZE: usize = 640;
+
 pub const MOST_MEMORY: u64 = 16777216;
 
 pub const PAGE_SIZE: u64 = 4096;

@@ -27,7 +27,7 @@ ghost use Rattle.wire.specs.Codec.{decode, encode, putFields};
 ghost use Rattle.wire.specs.Rows.{rows};
 ghost use Rattle.tables.specs.Limits.{mostSges};
 ghost use Rattle.tables.specs.Commands.{headRead, numberRead, registerRead, createQpRead, modifyQpRead};
-ghost use Rattle.tables.specs.Records.{sgeCodec, sgeAt, completionCodec, resultFields, receiveRead, sendCodec, sendRead, sendSge, sendBad, sendSize, inlineBytes};
+ghost use Rattle.tables.specs.Records.{sgeCodec, sgeAt, completionCodec, resultFields, receiveRead, sendCodec, sendRead, sendSge, sendBad, sendSize, inlineBytes, inlineIn};
 
 // A send record's bytes before its scatter/gather entries, and where its inline bytes begin.
 const SEND_SIZE: usize = 576;
@@ -45,7 +45,8 @@ const SGE_SIZE: usize = 16;
 
 // ---- work requests
 
-fn send_head(request: &[u8]) -> SendRecord
+// The numbers of a send record.
+pub fn send_head(request: &[u8]) -> SendRecord
     requires { ⌜ 576 ≤ length (now request) ⌝ }
     ensures { λ r. ⌜ r ≡ decode sendCodec (now (request .entry)) 0 ⌝ }
 {
@@ -61,7 +62,7 @@ fn send_head(request: &[u8]) -> SendRecord
 }
 
 // The tests that give answer 4.
-fn send_bad(s: SendRecord) -> bool
+pub fn send_bad(s: SendRecord) -> bool
     ensures { λ r. ⌜ r ≡ sendBad s ⌝ }
 {
     let unknown = s.flags & FLAG_BITS != s.flags;
@@ -108,6 +109,13 @@ pub fn inline_bytes(request: &[u8]) -> &[u8]
 {
     let n = wire::get16(request, COUNT_AT) as usize;
     wire::part(request, INLINE_AT, n)
+}
+
+// The inline bytes of a record whose numbers are s, as a part of it.
+pub fn inline_of(request: &[u8], s: SendRecord) -> &[u8]
+    ensures { λ r. ⌜ now r ≡ inlineIn s (now (request .entry)) ⌝ }
+{
+    wire::part(request, INLINE_AT, (s.count % 65536) as usize)
 }
 
 // ---- scatter/gather entries and completions at an offset

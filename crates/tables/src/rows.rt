@@ -4,25 +4,31 @@ use crate::QueueHead;
 use crate::QueuePair;
 use crate::ReceiveRecord;
 use crate::Region;
+use crate::SendKind;
 use crate::WaitingHead;
 use crate::limits::CQ_COUNT;
 use crate::limits::MOST_PAGES;
 use crate::limits::MOST_PLACES;
+use crate::limits::MOST_QUEUED;
 use crate::limits::MOST_WAITING;
 use crate::limits::MR_COUNT;
 use crate::limits::PD_COUNT;
 use crate::limits::QP_COUNT;
+use crate::limits::RECORD_SIZE;
 use crate::records;
 ghost use mathlib.Core.Path.{_≡_};
-ghost use Prim.Native.Nat.{_<_, _+_};
+ghost use Prim.Native.Nat.{_<_, _≤_, _+_};
 ghost use lib.ListN.{length};
+ghost use Rattle.wire.specs.Parts.{partAt, putPart};
 ghost use Rattle.wire.specs.Table.{rowAt, putRow};
-ghost use Rattle.tables.specs.Limits.{pdCount, cqCount, mrCount, qpCount};
-ghost use Rattle.tables.specs.Layout.{stateSize, receiveCount, entryCount, pageCount, memoryT, pdFlagT, cqFlagT, cqT, entryT, mrFlagT, mrT, pageT, qpFlagT, qpT, waitingT, receiveT};
+ghost use Rattle.tables.specs.Limits.{pdCount, cqCount, mrCount, qpCount, recordSize};
+ghost use Rattle.tables.specs.Layout.{stateSize, receiveCount, entryCount, pageCount, queuedCount, memoryT, turnT, pdFlagT, cqFlagT, cqT, entryT, mrFlagT, mrT, pageT, qpFlagT, qpT, waitingT, receiveT, sendHeadT, kindT, recordP};
 
 // ---- where each table begins
 
 pub const MEMORY: usize = 0;
+
+pub const TURN: usize = MEMORY + 8;
 
 pub const PD_FLAGS: usize = MEMORY + 16;
 
@@ -60,7 +66,15 @@ pub const RECEIVES: usize = WAITING + QP_COUNT * WAITING_SIZE;
 
 pub const RECEIVE_SIZE: usize = 56;
 
-pub const STATE_SIZE: usize = RECEIVES + QP_COUNT * MOST_WAITING * RECEIVE_SIZE;
+pub const SENDS: usize = RECEIVES + QP_COUNT * MOST_WAITING * RECEIVE_SIZE;
+
+pub const KINDS: usize = SENDS + QP_COUNT * WAITING_SIZE;
+
+pub const KIND_SIZE: usize = 4;
+
+pub const RECORDS: usize = KINDS + QP_COUNT * MOST_QUEUED * KIND_SIZE;
+
+pub const STATE_SIZE: usize = RECORDS + QP_COUNT * MOST_QUEUED * RECORD_SIZE;
 
 // ---- the memory length given at reset
 
@@ -76,6 +90,22 @@ pub fn store_memory(state: &mut [u8], r: u64)
     ensures { λ _. ⌜ now (state .exit) ≡ putRow memoryT (now (state .entry)) 0 r ⌝ }
 {
     wire::put64(state, MEMORY, r);
+}
+
+// ---- the queue pair that a turn visits first
+
+pub fn load_turn(state: &[u8]) -> u8
+    requires { ⌜ length (now state) ≡ stateSize ⌝ }
+    ensures { λ r. ⌜ r ≡ rowAt turnT (now (state .entry)) 0 ⌝ }
+{
+    wire::get8(state, TURN)
+}
+
+pub fn store_turn(state: &mut [u8], r: u8)
+    requires { ⌜ length (now state) ≡ stateSize ⌝ }
+    ensures { λ _. ⌜ now (state .exit) ≡ putRow turnT (now (state .entry)) 0 r ⌝ }
+{
+    wire::put8(state, TURN, r);
 }
 
 // ---- live flags: 1 where the object is live
@@ -298,4 +328,64 @@ pub fn store_receive(state: &mut [u8], n: usize, r: ReceiveRecord)
     wire::put32(state, at + 8, r.count);
     records::put_sge(state, at + 24, a);
     records::put_sge(state, at + 40, b);
+}
+
+// ---- queued sends
+
+// Where the queued sends of queue pair n stand.
+pub fn load_sends(state: &[u8], n: usize) -> WaitingHead
+    requires { ⌜ (n < qpCount) × (length (now state) ≡ stateSize) ⌝ }
+    ensures { λ r. ⌜ r ≡ rowAt sendHeadT (now (state .entry)) n ⌝ }
+{
+    let b = wire::get_bytes2(state, SENDS + n * WAITING_SIZE);
+    WaitingHead {
+        first: b[0],
+        count: b[1],
+    }
+}
+
+pub fn store_sends(state: &mut [u8], n: usize, r: WaitingHead)
+    requires { ⌜ (n < qpCount) × (length (now state) ≡ stateSize) ⌝ }
+    ensures { λ _. ⌜ now (state .exit) ≡ putRow sendHeadT (now (state .entry)) n r ⌝ }
+{
+    wire::put_bytes2(state, SENDS + n * WAITING_SIZE, r.first, r.count);
+}
+
+// QueuedSend send n, without its record: place k of queue pair q is row 8 q + k.
+pub fn load_kind(state: &[u8], n: usize) -> SendKind
+    requires { ⌜ (n < queuedCount) × (length (now state) ≡ stateSize) ⌝ }
+    ensures { λ r. ⌜ r ≡ rowAt kindT (now (state .entry)) n ⌝ }
+{
+    let w = wire::get32(state, KINDS + n * KIND_SIZE);
+    SendKind {
+        opcode: (w % 256) as u8,
+        flags: (w / 256 % 256) as u8,
+        count: (w / 65536) as u16,
+    }
+}
+
+pub fn store_kind(state: &mut [u8], n: usize, r: SendKind)
+    requires { ⌜ (n < queuedCount) × (length (now state) ≡ stateSize) ⌝ }
+    ensures { λ _. ⌜ now (state .exit) ≡ putRow kindT (now (state .entry)) n r ⌝ }
+{
+    let at = KINDS + n * KIND_SIZE;
+    wire::put8(state, at, r.opcode);
+    wire::put8(state, at + 1, r.flags);
+    wire::put16(state, at + 2, r.count);
+}
+
+// The bytes of place n, copied out.
+pub fn load_record(state: &[u8], n: usize, out: &mut [u8])
+    requires { ⌜ (n < queuedCount) × (length (now state) ≡ stateSize) × (length (now out) ≡ recordSize) ⌝ }
+    ensures { λ _. ⌜ now (out .exit) ≡ partAt recordP (now (state .entry)) n ⌝ }
+{
+    wire::copy_bytes(out, 0, state, RECORDS + n * RECORD_SIZE, RECORD_SIZE);
+}
+
+// A record as it was lent, stored in place n.
+pub fn store_record(state: &mut [u8], n: usize, sent: &[u8])
+    requires { ⌜ (n < queuedCount) × (length (now state) ≡ stateSize) × (length (now sent) ≤ recordSize) ⌝ }
+    ensures { λ _. ⌜ now (state .exit) ≡ putPart recordP (now (state .entry)) n (now (sent .entry)) ⌝ }
+{
+    wire::copy_bytes(state, RECORDS + n * RECORD_SIZE, sent, 0, sent.len());
 }

@@ -18,12 +18,12 @@ use Rattle.tables.specs.Commands.{Command, ackNeed, commandOf}
 use Rattle.tables.specs.Records.{sendChecks, receiveChecks, completionCodec}
 use Rattle.tables.specs.Reset.{zeros}
 use Rattle.rules.specs.Call.{Call}
-use Rattle.rules.specs.Calls.{checks, controlChecks, bufferChecks, owedChecks}
+use Rattle.rules.specs.Calls.{checks, controlChecks, memoryChecks, bufferChecks, owedChecks}
 use Rattle.rules.specs.Control.{commandChecks}
 use Rattle.rules.specs.Lists.{maybe}
 use Rattle.rules.specs.Queues.{joinChecks, flushChecks, pollChecks}
-use Rattle.rules.specs.Send.{pairChecks, deliveryChecks}
-use Rattle.rules.specs.Touch.{requestOf}
+use Rattle.rules.specs.Send.{pairChecks, queueChecks, deliveryChecks}
+use Rattle.tables.specs.Records.{requestOf}
 use Rattle.rules.proofs.Answers.{first-with, command-tests, hold-tests}
 use Rattle.rules.proofs.Ranges.{all-split}
 use Rattle.tape.specs.Tape.{completionSize, tapeAck, callOf}
@@ -56,7 +56,7 @@ module _ (l : List ℕ) where
       (rw (le-ltb tapeAck (ackNeed b) (need-most b)) at e)
 
   send-never : (q : ℕ) (x m : List ℕ) → Never l (Call.send q x m)
-  unfolding all checks sendChecks pairChecks deliveryChecks
+  unfolding all checks memoryChecks sendChecks pairChecks queueChecks deliveryChecks
   send-never q x m e = without (owedChecks card accepts l (Call.send q x m)) (hold-tests other refl refl (card l) q (requestOf x)) e
 
   receive-never : (q : ℕ) (x : List ℕ) → Never l (Call.receive q x)

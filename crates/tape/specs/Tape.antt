@@ -84,7 +84,7 @@ callOf k n b m =
     (cond (eqb k 2) (Call.send n b m)
     (cond (eqb k 3) (Call.receive n b) (cond (eqb k 4) (Call.poll n (zeros completionSize)) (Call.flush n))))
 
--- the memory after the call k on the state l; only a send is lent it; no record makes a reset or a registration over pages
+-- the memory after the call k on the state l; of a record's calls only a send is lent it
 abbrev pub memoryLeft : (l m : List ℕ) → Call → List ℕ
 memoryLeft l m k = maybe m (λ n. owed card accepts l k .memory) (given k .memory)
 

@@ -3,6 +3,7 @@ use mathlib.Core.Path.{_≡_, sym, _∙_}
 use mathlib.Core.Bool.{Bool, true, _&&_, _||_}
 use mathlib.Core.List.{List}
 use Prim.Native.Nat.{ℕ, _+_, _-_, _*_, _/_, _≤_, _<_}
+use native.Mathlib.Decide.{ℕ-discrete}
 use native.Mathlib.Omega.{arith}
 use lib.Bits.{bitAnd, and-le-r}
 use lib.ListN.{length, getD}
@@ -11,19 +12,21 @@ use borrow.Author.Tests.{eq-eqb, ne-eqb, eqb-true, ltb-true, leb-true, lt-ltb, l
 use Rattle.wire.specs.Checks.{only}
 use Rattle.wire.specs.Scan.{all, allBelow}
 use Rattle.wire.specs.Table.{rowAt}
+use Rattle.wire.proofs.RingLaws.{ring-passed}
 use Rattle.wire.proofs.ScanLaws.{all-at, all-each, and-left, and-right, or-true}
-use Rattle.tables.specs.Layout.{stateSize, memoryT}
-use Rattle.tables.specs.Limits.{pdCount, cqCount, mrCount, qpCount, mostPlaces, mostWaiting, mostMemory, mostAddress, mostAccess, pageSize, mostPages}
-use Rattle.tables.specs.State.{QueueRows, RegionRows, PairRows, pagesNeeded, unread, posted}
+use Rattle.tables.specs.Layout.{stateSize, memoryT, turnT}
+use Rattle.tables.specs.Limits.{pdCount, cqCount, mrCount, qpCount, mostPlaces, mostWaiting, mostQueued, mostMemory, mostAddress, mostAccess, pageSize, mostPages}
+use Rattle.tables.specs.State.{QueueRows, RegionRows, PairRows, pagesNeeded, unread, posted, queuedIn, noQueued}
 use Rattle.tables.specs.declared.QueueHead.{QueueHead}
 use Rattle.tables.specs.declared.Region.{Region}
 use Rattle.tables.specs.declared.WaitingHead.{WaitingHead}
-use Rattle.validate.specs.Accept.{accepts, memoryOk, completionOk, receiveOk, queueOk, accessOk, pageInside, numbersOk, pagedOk, landOk, regionOk, pairOk, namesOk, receivesOk, pdOk, cqSound, cqOk, mrSound, mrOk, qpSound, qpOk}
+use Rattle.validate.specs.Accept.{accepts, memoryOk, turnOk, mayQueue, queuedOk, sendsOk, completionOk, receiveOk, queueOk, accessOk, pageInside, numbersOk, pagedOk, landOk, regionOk, pairOk, namesOk, receivesOk, pdOk, cqSound, cqOk, mrSound, mrOk, qpSound, qpOk}
 use Rattle.validate.proofs.TestLaws.{page-by-number}
 
 pub record Accepted (l : List ℕ) : Type 0 where
   pub sized : length l ≡ stateSize
   pub memory : memoryOk (rowAt memoryT l 0) ≡ true
+  pub turn : turnOk (rowAt turnT l 0) ≡ true
   pub pds : (n : ℕ) → n < pdCount → pdOk l n ≡ true
   pub cqs : (n : ℕ) → n < cqCount → cqOk l n ≡ true
   pub mrs : (n : ℕ) → n < mrCount → mrOk l n ≡ true
@@ -34,31 +37,37 @@ module _ (l : List ℕ) where
   unfolding accepts
   accepted e =
       let m : Bool = memoryOk (rowAt memoryT l 0) in
+      let t : Bool = turnOk (rowAt turnT l 0) in
       let p : Bool = allBelow pdCount (pdOk l) in
       let c : Bool = allBelow cqCount (cqOk l) in
       let r : Bool = allBelow mrCount (mrOk l) in
       let q : Bool = allBelow qpCount (qpOk l) in
-      let e4 : (m && p && c && r && q) ≡ true = and-right (eqb (length l) stateSize) _ e in
-      let e3 : (m && p && c && r) ≡ true = and-left (m && p && c && r) q e4 in
-      let e2 : (m && p && c) ≡ true = and-left (m && p && c) r e3 in
-      let e1 : (m && p) ≡ true = and-left (m && p) c e2 in
+      let e4 : (m && t && p && c && r && q) ≡ true = and-right (eqb (length l) stateSize) _ e in
+      let e3 : (m && t && p && c && r) ≡ true = and-left (m && t && p && c && r) q e4 in
+      let e2 : (m && t && p && c) ≡ true = and-left (m && t && p && c) r e3 in
+      let e1 : (m && t && p) ≡ true = and-left (m && t && p) c e2 in
+      let e0 : (m && t) ≡ true = and-left (m && t) p e1 in
       record {
         sized = eqb-true (length l) stateSize (and-left (eqb (length l) stateSize) _ e);
-        memory = and-left m p e1;
-        pds = λ n h. all-at pdCount (pdOk l) n h (and-right m p e1);
-        cqs = λ n h. all-at cqCount (cqOk l) n h (and-right (m && p) c e2);
-        mrs = λ n h. all-at mrCount (mrOk l) n h (and-right (m && p && c) r e3);
-        qps = λ n h. all-at qpCount (qpOk l) n h (and-right (m && p && c && r) q e4);
+        memory = and-left m t e0;
+        turn = and-right m t e0;
+        pds = λ n h. all-at pdCount (pdOk l) n h (and-right (m && t) p e1);
+        cqs = λ n h. all-at cqCount (cqOk l) n h (and-right (m && t && p) c e2);
+        mrs = λ n h. all-at mrCount (mrOk l) n h (and-right (m && t && p && c) r e3);
+        qps = λ n h. all-at qpCount (qpOk l) n h (and-right (m && t && p && c && r) q e4);
       }
 
   pub memory-most : Accepted l → rowAt memoryT l 0 ≤ mostMemory
   memory-most ok =
       leb-true (rowAt memoryT l 0) mostMemory (and-right (leb 1 (rowAt memoryT l 0)) (leb (rowAt memoryT l 0) mostMemory) (ok .memory))
 
+  pub turn-below : Accepted l → rowAt turnT l 0 < qpCount
+  turn-below ok = ltb-true (rowAt turnT l 0) qpCount (ok .turn)
+
   pub accepting : Accepted l → accepts l ≡ true
   unfolding accepts
   accepting a =
-      rw (eq-eqb (length l) stateSize (a .sized), a .memory, all-each pdCount (pdOk l) (a .pds), all-each cqCount (cqOk l) (a .cqs), all-each mrCount (mrOk l) (a .mrs), all-each qpCount (qpOk l) (a .qps))
+      rw (eq-eqb (length l) stateSize (a .sized), a .memory, a .turn, all-each pdCount (pdOk l) (a .pds), all-each cqCount (cqOk l) (a .cqs), all-each mrCount (mrOk l) (a .mrs), all-each qpCount (qpOk l) (a .qps))
 
 -- ---- an object that is not free passes the rest of its test
 
@@ -202,6 +211,7 @@ pub record Paired (pd cq : ℕ → Bool) (n : ℕ) (r : PairRows) : Type 0 where
   pub first : r .head .first < mostWaiting
   pub count : r .head .count ≤ mostWaiting
   pub waiting : all receiveOk (posted r) ≡ true
+  pub queue : sendsOk r ≡ true
 
 module _ (pd cq : ℕ → Bool) (n : ℕ) (r : PairRows) where
   abbrev w : WaitingHead
@@ -216,11 +226,13 @@ module _ (pd cq : ℕ → Bool) (n : ℕ) (r : PairRows) where
       let g : Bool = ltb (w .first) mostWaiting in
       let k : Bool = leb (w .count) mostWaiting in
       let x : Bool = all receiveOk (posted r) in
-      let f = rest (r .flag) (a && b && c && d && (g && k && x)) e live in
-      let e3 : (a && b && c && d) ≡ true = and-left (a && b && c && d) (g && k && x) (f .1) in
+      let s : Bool = sendsOk r in
+      let f = rest (r .flag) (a && b && c && d && (g && k && x) && s) e live in
+      let e4 : (a && b && c && d && (g && k && x)) ≡ true = and-left (a && b && c && d && (g && k && x)) s (f .1) in
+      let e3 : (a && b && c && d) ≡ true = and-left (a && b && c && d) (g && k && x) e4 in
       let e2 : (a && b && c) ≡ true = and-left (a && b && c) d e3 in
       let e1 : (a && b) ≡ true = and-left (a && b) c e2 in
-      let z : (g && k && x) ≡ true = and-right (a && b && c && d) (g && k && x) (f .1) in
+      let z : (g && k && x) ≡ true = and-right (a && b && c && d) (g && k && x) e4 in
       let y : (g && k) ≡ true = and-left (g && k) x z in
       record {
         live = f .0;
@@ -231,9 +243,56 @@ module _ (pd cq : ℕ → Bool) (n : ℕ) (r : PairRows) where
         first = ltb-true (w .first) mostWaiting (and-left g k y);
         count = leb-true (w .count) mostWaiting (and-right g k y);
         waiting = and-right (g && k) x z;
+        queue = and-right (a && b && c && d && (g && k && x)) s (f .1);
       }
 
   pub pairing : Paired pd cq n r → qpSound pd cq n r ≡ true
   pairing q =
-      resting (r .flag) (namesOk pd cq (r .row) && pairOk n (r .row) && receivesOk r) (q .live)
-      (rw (q .domain, q .sends, q .receives, q .limits, lt-ltb (w .first) mostWaiting (q .first), le-leb (w .count) mostWaiting (q .count), q .waiting))
+      resting (r .flag) (namesOk pd cq (r .row) && pairOk n (r .row) && receivesOk r && sendsOk r) (q .live)
+      (rw (q .domain, q .sends, q .receives, q .limits, lt-ltb (w .first) mostWaiting (q .first), le-leb (w .count) mostWaiting (q .count), q .waiting, q .queue))
+
+-- its queued sends, none or of a state that may have some
+pub record Sending (r : PairRows) : Type 0 where
+  pub first : r .sends .first < mostQueued
+  pub count : r .sends .count ≤ mostQueued
+  pub queue : (r .sends .count ≡ 0 → ⊥) → (mayQueue (r .row .state) ≡ true) × (all queuedOk (queuedIn r) ≡ true)
+
+module _ (r : PairRows) where
+  abbrev s : WaitingHead
+  s = r .sends
+
+  pub sending : sendsOk r ≡ true → Sending r
+  sending e =
+      let a : Bool = ltb (s .first) mostQueued in
+      let b : Bool = leb (s .count) mostQueued in
+      let c : Bool = mayQueue (r .row .state) in
+      let d : Bool = all queuedOk (queuedIn r) in
+      let e1 : (a && b) ≡ true = and-left (a && b) (eqb (s .count) 0 || (c && d)) e in
+      let f : (eqb (s .count) 0 || (c && d)) ≡ true = and-right (a && b) (eqb (s .count) 0 || (c && d)) e in
+      record {
+        first = ltb-true (s .first) mostQueued (and-left a b e1);
+        count = leb-true (s .count) mostQueued (and-right a b e1);
+        queue = λ z. (let g : (c && d) ≡ true = rw (ne-eqb (s .count) 0 z) at f in (and-left c d g, and-right c d g));
+      }
+
+  -- an empty queue, in any state
+  pub sends-none : s .first < mostQueued → s .count ≡ 0 → sendsOk r ≡ true
+  sends-none f z = rw (lt-ltb (s .first) mostQueued f, z)
+
+  -- and another, in a state that may have one
+  pub sends-some : s .first < mostQueued → s .count ≤ mostQueued → mayQueue (r .row .state) ≡ true → all queuedOk (queuedIn r) ≡ true → sendsOk r ≡ true
+  sends-some f c m a =
+      rw (lt-ltb (s .first) mostQueued f, le-leb (s .count) mostQueued c, m, a) (or-true (eqb (s .count) 0))
+
+  -- every queued send passes
+  pub sends-sound : sendsOk r ≡ true → all queuedOk (queuedIn r) ≡ true
+  sends-sound e = go (ℕ-discrete (s .count) 0)
+    where
+      go : Dec (s .count ≡ 0) → all queuedOk (queuedIn r) ≡ true
+      go (yes z) = rw z (ring-passed noQueued mostQueued queuedOk (r .queued) (s .first) 0)
+      go (no z) = sending e .queue z .1
+
+  -- the same queue, where the queue pair's state may have one
+  pub sends-kept : (r′ : PairRows) → r′ .sends ≡ s → r′ .queued ≡ r .queued → mayQueue (r′ .row .state) ≡ true → sendsOk r ≡ true → sendsOk r′ ≡ true
+  sends-kept r′ a c m e =
+      rw (a, c, lt-ltb (s .first) mostQueued (sending e .first), le-leb (s .count) mostQueued (sending e .count), m, sends-sound e) (or-true (eqb (s .count) 0))

@@ -6,19 +6,22 @@ use mathlib.Core.Bool.{Bool, true, false, cond, _||_, false≢true}
 use mathlib.Core.List.{List}
 use Prim.Native.Nat.{ℕ, _<_}
 use native.Mathlib.Decide.{ℕ-discrete}
+use native.Mathlib.Omega.{arith}
 use lib.Dec.{eqb}
-use borrow.Author.Tests.{eq-eqb, eqb-true}
+use borrow.Author.Tests.{eq-eqb, eqb-true, lt-ltb}
 use Rattle.wire.specs.Scan.{anyBelow}
 use Rattle.wire.specs.Slots.{upd}
-use Rattle.wire.specs.Table.{rowAt, finish}
+use Rattle.wire.specs.Parts.{partsEnd}
+use Rattle.wire.specs.Table.{rowAt, putRow, finish}
 use Rattle.wire.proofs.ScanLaws.{any-here, or-true}
+use Rattle.wire.proofs.PartsLaws.{partsOutside}
 use Rattle.wire.proofs.TableLaws.{outside, row-kept}
 use Rattle.tables.specs.Card.{Card, Cq, cqLive, freeCq}
-use Rattle.tables.specs.Layout.{memoryT, pdFlagT, cqFlagT, cqT, entryT, mrFlagT, mrT, pageT, pageCodec, qpFlagT, qpT, waitingT, receiveT, memoryCodec, flagCodec, queueCodec, regionCodec, pairCodec, waitingCodec}
+use Rattle.tables.specs.Layout.{memoryT, turnT, pdFlagT, cqFlagT, cqT, entryT, mrFlagT, mrT, pageT, pageCodec, qpFlagT, qpT, waitingT, receiveT, sendHeadT, kindT, recordP, kindCodec, memoryCodec, flagCodec, queueCodec, regionCodec, pairCodec, waitingCodec}
 use Rattle.tables.specs.Records.{completionCodec, receiveCodec}
 use Rattle.tables.specs.Limits.{pdCount, cqCount, mrCount, qpCount}
 use Rattle.tables.specs.State.{RegionRows, PairRows, queueAt, regionAt, pairAt, card, cqOf, isLive, unread}
-use Rattle.tables.proofs.KindLaws.{DomainsOnly, QueuesOnly, RegionsOnly, PairsOnly, memory-kept, pd-kept, cq-kept, queue-kept, region-kept, pair-kept, domain-card, queue-card}
+use Rattle.tables.proofs.KindLaws.{DomainsOnly, QueuesOnly, RegionsOnly, PairsOnly, memory-kept, turn-kept, pd-kept, cq-kept, queue-kept, region-kept, pair-kept, domain-card, queue-card, turn-block, turn-at}
 use Rattle.validate.specs.Accept.{flagOk, pdOk, cqSound, cqOk, mrSound, mrOk, qpSound, qpOk}
 use Rattle.validate.specs.Search.{mrNames, qpNames, pdInUse, qpUses, cqInUse}
 use Rattle.validate.proofs.SearchLaws.{mr-names, qp-names, qp-uses}
@@ -53,6 +56,7 @@ qp-mono pd cq pd′ cq′ n r e d s t =
             first = q .first;
             count = q .count;
             waiting = q .waiting;
+            queue = q .queue;
           }))
     ]
 
@@ -60,12 +64,13 @@ qp-mono pd cq pd′ cq′ n r e d s t =
 
 module _ {l l′ : List ℕ} {n : ℕ} (ok : Accepted l) where
   pub region-accepted : RegionsOnly l l′ n → mrSound (card l .pd) (rowAt memoryT l 0) (regionAt l′ n) ≡ true → Accepted l′
-  unfolding outside finish memoryT pdFlagT cqFlagT cqT entryT qpFlagT qpT waitingT receiveT flagCodec queueCodec completionCodec pairCodec waitingCodec receiveCodec memoryCodec pdOk cqOk mrOk qpOk
+  unfolding outside finish partsOutside partsEnd turnT sendHeadT kindT kindCodec recordP memoryT pdFlagT cqFlagT cqT entryT qpFlagT qpT waitingT receiveT flagCodec queueCodec completionCodec pairCodec waitingCodec receiveCodec memoryCodec pdOk cqOk mrOk qpOk
   region-accepted o e =
       let b = o .block in
       record {
         sized = b .sized ∙ ok .sized;
         memory = rw (memory-kept b tt) (ok .memory);
+        turn = rw (turn-kept b tt) (ok .turn);
         pds = λ i c. rw (row-kept pdFlagT _ _ tt b i c) (ok .pds i c);
         cqs = λ i c. rw (queue-kept b tt i c) (ok .cqs i c);
         mrs = λ i c. rw (pd-kept b tt, memory-kept b tt) (mrs i c (ℕ-discrete i n));
@@ -77,12 +82,13 @@ module _ {l l′ : List ℕ} {n : ℕ} (ok : Accepted l) where
       mrs i c (no x) = rw (o .others i c x) (ok .mrs i c)
 
   pub pair-accepted : PairsOnly l l′ n → qpSound (card l .pd) (cqLive (card l)) n (pairAt l′ n) ≡ true → Accepted l′
-  unfolding outside finish memoryT pdFlagT cqFlagT cqT entryT mrFlagT mrT pageT pageCodec flagCodec queueCodec completionCodec regionCodec memoryCodec pdOk cqOk mrOk qpOk
+  unfolding outside finish partsOutside partsEnd turnT sendHeadT kindT kindCodec recordP memoryT pdFlagT cqFlagT cqT entryT mrFlagT mrT pageT pageCodec flagCodec queueCodec completionCodec regionCodec memoryCodec pdOk cqOk mrOk qpOk
   pair-accepted o e =
       let b = o .block in
       record {
         sized = b .sized ∙ ok .sized;
         memory = rw (memory-kept b tt) (ok .memory);
+        turn = rw (turn-kept b tt) (ok .turn);
         pds = λ i c. rw (row-kept pdFlagT _ _ tt b i c) (ok .pds i c);
         cqs = λ i c. rw (queue-kept b tt i c) (ok .cqs i c);
         mrs = λ i c. rw (pd-kept b tt, memory-kept b tt, region-kept b tt i c) (ok .mrs i c);
@@ -145,12 +151,13 @@ module _ (l : List ℕ) (n i : ℕ) where
 module _ {l l′ : List ℕ} {n : ℕ} (ok : Accepted l) where
   pub domain-accepted : n < pdCount → DomainsOnly l l′ n → flagOk (rowAt pdFlagT l′ n) ≡ true
       → (isLive (rowAt pdFlagT l′ n) ≡ true) ⊎ (pdInUse (card l) n ≡ false) → Accepted l′
-  unfolding outside finish memoryT cqFlagT cqT entryT mrFlagT mrT pageT pageCodec qpFlagT qpT waitingT receiveT flagCodec queueCodec completionCodec regionCodec pairCodec waitingCodec receiveCodec memoryCodec pdOk cqOk mrOk qpOk
+  unfolding outside finish partsOutside partsEnd turnT sendHeadT kindT kindCodec recordP memoryT cqFlagT cqT entryT mrFlagT mrT pageT pageCodec qpFlagT qpT waitingT receiveT flagCodec queueCodec completionCodec regionCodec pairCodec waitingCodec receiveCodec memoryCodec pdOk cqOk mrOk qpOk
   domain-accepted h o f u =
       let b = o .block in
       record {
         sized = b .sized ∙ ok .sized;
         memory = rw (memory-kept b tt) (ok .memory);
+        turn = rw (turn-kept b tt) (ok .turn);
         pds = λ i c. pds i c (ℕ-discrete i n);
         cqs = λ i c. rw (queue-kept b tt i c) (ok .cqs i c);
         mrs = λ i c. rw (pd-after, memory-kept b tt, region-kept b tt i c) (mr-mono (card l .pd) after (rowAt memoryT l 0) (regionAt l i) (ok .mrs i c)
@@ -177,12 +184,13 @@ module _ {l l′ : List ℕ} {n : ℕ} (ok : Accepted l) where
 
   pub queue-accepted : n < cqCount → QueuesOnly l l′ n → cqSound (queueAt l′ n) ≡ true
       → (isLive (queueAt l′ n .flag) ≡ true) ⊎ (cqInUse (card l) n ≡ false) → Accepted l′
-  unfolding outside finish memoryT pdFlagT mrFlagT mrT pageT pageCodec qpFlagT qpT waitingT receiveT flagCodec regionCodec pairCodec waitingCodec receiveCodec memoryCodec pdOk cqOk mrOk qpOk cqOf
+  unfolding outside finish partsOutside partsEnd turnT sendHeadT kindT kindCodec recordP memoryT pdFlagT mrFlagT mrT pageT pageCodec qpFlagT qpT waitingT receiveT flagCodec regionCodec pairCodec waitingCodec receiveCodec memoryCodec pdOk cqOk mrOk qpOk cqOf
   queue-accepted h o e u =
       let b = o .block in
       record {
         sized = b .sized ∙ ok .sized;
         memory = rw (memory-kept b tt) (ok .memory);
+        turn = rw (turn-kept b tt) (ok .turn);
         pds = λ i c. rw (row-kept pdFlagT _ _ tt b i c) (ok .pds i c);
         cqs = λ i c. cqs i c (ℕ-discrete i n);
         mrs = λ i c. rw (pd-kept b tt, memory-kept b tt, region-kept b tt i c) (ok .mrs i c);
@@ -209,3 +217,19 @@ module _ {l l′ : List ℕ} {n : ℕ} (ok : Accepted l) where
       cqs : (i : ℕ) → i < cqCount → Dec (i ≡ n) → cqOk l′ i ≡ true
       cqs i c (yes x) = rw x e
       cqs i c (no x) = rw (o .others i c x) (ok .cqs i c)
+
+-- ---- the turn place
+
+pub turn-accepted : {l : List ℕ} → Accepted l → (n : ℕ) → n < qpCount → Accepted (putRow turnT l 0 n)
+unfolding outside finish partsOutside partsEnd sendHeadT kindT kindCodec recordP memoryT pdFlagT cqFlagT cqT entryT mrFlagT mrT pageT pageCodec qpFlagT qpT waitingT receiveT flagCodec queueCodec completionCodec regionCodec pairCodec waitingCodec receiveCodec memoryCodec pdOk cqOk mrOk qpOk
+turn-accepted {l} ok n h =
+    let b = turn-block l n in
+    record {
+      sized = b .sized ∙ ok .sized;
+      memory = rw (memory-kept b tt) (ok .memory);
+      turn = rw (turn-at l n (ok .sized) (omega arith)) (lt-ltb n qpCount h);
+      pds = λ i c. rw (row-kept pdFlagT _ _ tt b i c) (ok .pds i c);
+      cqs = λ i c. rw (queue-kept b tt i c) (ok .cqs i c);
+      mrs = λ i c. rw (pd-kept b tt, memory-kept b tt, region-kept b tt i c) (ok .mrs i c);
+      qps = λ i c. rw (pd-kept b tt, cq-kept b tt, pair-kept b tt i c) (ok .qps i c);
+    }

@@ -4,6 +4,7 @@ pub mod TestLaws
 pub mod KeptLaws
 pub mod QueueLaws
 pub mod WaitingLaws
+pub mod SendLaws
 pub mod ResetLaws
 pub mod BitLaws
 pub mod TogetherLaws

@@ -16,12 +16,12 @@ use Rattle.wire.proofs.LeLaws.{zero-word}
 use Rattle.wire.proofs.ScanLaws.{all-at, block-more, and-left, and-right}
 use Rattle.tables.specs.Card.{cqLive}
 use Rattle.tables.specs.Layout.{memoryT, mrFlagT, mrFlagBase, mrT, cqFlagT, cqT, qpFlagT, qpT, flagCodec}
-use Rattle.tables.specs.Limits.{mostPlaces, mostWaiting, pageSize, mostPages}
-use Rattle.tables.specs.State.{PairRows, card, queueAt, regionAt, pairAt, pagesAt, pagesNeeded, unread, posted}
+use Rattle.tables.specs.Limits.{mostPlaces, mostWaiting, mostQueued, pageSize, mostPages}
+use Rattle.tables.specs.State.{PairRows, card, queueAt, regionAt, pairAt, pagesAt, pagesNeeded, unread, posted, queuedIn}
 use Rattle.tables.specs.declared.QueueHead.{QueueHead}
 use Rattle.tables.specs.declared.Region.{Region}
 use Rattle.validate.specs.Together.{Zeros}
-use Rattle.validate.specs.Accept.{cqOk, mrOk, qpOk, completionOk, receiveOk, queueOk, fieldsOk, pageInside, numbersOk, pagedOk, landOk, pairOk, namesOk, receivesOk}
+use Rattle.validate.specs.Accept.{cqOk, mrOk, qpOk, completionOk, receiveOk, queueOk, fieldsOk, pageInside, numbersOk, pagedOk, landOk, pairOk, namesOk, receivesOk, mayQueue, queuedOk, sendsOk}
 
 -- a flag, and the rest of the test
 module _ (flag : ℕ) (b : Bool) where
@@ -68,9 +68,9 @@ module _ (l : List ℕ) (n : ℕ) where
   unfolding qpOk pairAt
   qp-flag e f = flag-wrong (rowAt qpFlagT l n) _ e f
 
-  -- the tests of a live queue pair: what it names, its own fields, its receives
+  -- the tests of a live queue pair: what it names, its own fields, its receives, its queued sends
   pub qp-rest : rowAt qpFlagT l n ≡ 1
-      → qpOk l n ≡ (namesOk (card l .pd) (cqLive (card l)) (rowAt qpT l n) && pairOk n (rowAt qpT l n) && receivesOk (pairAt l n))
+      → qpOk l n ≡ (namesOk (card l .pd) (cqLive (card l)) (rowAt qpT l n) && pairOk n (rowAt qpT l n) && receivesOk (pairAt l n) && sendsOk (pairAt l n))
   unfolding qpOk pairAt
   qp-rest e = flag-live (rowAt qpFlagT l n) _ e
 
@@ -130,6 +130,24 @@ module _ (r : PairRows) where
 
   pub waiting-rest : r .head .first < mostWaiting → r .head .count ≤ mostWaiting → receivesOk r ≡ all receiveOk (posted r)
   waiting-rest b d = rw (lt-ltb (r .head .first) mostWaiting b, le-leb (r .head .count) mostWaiting d)
+
+  -- its queued sends
+  pub sends-first : mostQueued ≤ r .sends .first → sendsOk r ≡ false
+  sends-first b = rw (le-ltb (r .sends .first) mostQueued b)
+
+  module _ (b : r .sends .first < mostQueued) where
+    pub sends-empty : r .sends .count ≡ 0 → sendsOk r ≡ true
+    sends-empty z = rw (lt-ltb (r .sends .first) mostQueued b, z)
+
+    pub sends-count : mostQueued < r .sends .count → sendsOk r ≡ false
+    sends-count d = rw (lt-ltb (r .sends .first) mostQueued b, lt-leb (r .sends .count) mostQueued d)
+
+    module _ (d : r .sends .count ≤ mostQueued) (z : r .sends .count ≡ 0 → ⊥) where
+      pub sends-state : mayQueue (r .row .state) ≡ false → sendsOk r ≡ false
+      sends-state m = rw (lt-ltb (r .sends .first) mostQueued b, le-leb (r .sends .count) mostQueued d, ne-eqb (r .sends .count) 0 z, m)
+
+      pub sends-rest : mayQueue (r .row .state) ≡ true → sendsOk r ≡ all queuedOk (queuedIn r)
+      sends-rest m = rw (lt-ltb (r .sends .first) mostQueued b, le-leb (r .sends .count) mostQueued d, ne-eqb (r .sends .count) 0 z, m)
 
 -- eight slots more: their flags are one zero word, or each was tested
 module _ (l : List ℕ) (g : ℕ) (before : allBelow (8 * g) (mrOk l) ≡ true) where

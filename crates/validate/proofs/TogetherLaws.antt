@@ -19,12 +19,12 @@ use Rattle.wire.proofs.FlagLaws.{flags-most}
 use Rattle.wire.proofs.LeLaws.{leAt-below}
 use Rattle.wire.proofs.ScanLaws.{all-each, all-at, all-nil, all-cons, lowest-least, and-left, and-right, both-true}
 use Rattle.tables.specs.Layout.{memoryT, pdFlagT, pdFlagBase, mrFlagT, mrFlagBase, mrT, mrBase, pageT, entryT, receiveT, flagCodec, regionCodec}
-use Rattle.tables.specs.Limits.{qpCount, mostPlaces, mostWaiting, mostMessage, mostAddress, mostAccess, pageSize, mostPages}
-use Rattle.tables.specs.State.{card, regionAt, pagesAt, pagesNeeded, ringAt, receivesAt, noCompletion, noRecord}
+use Rattle.tables.specs.Limits.{qpCount, mostPlaces, mostWaiting, mostQueued, mostMessage, mostAddress, mostAccess, pageSize, mostPages}
+use Rattle.tables.specs.State.{card, regionAt, pagesAt, pagesNeeded, ringAt, receivesAt, queuedAt, placeAt, noCompletion, noRecord, noQueued}
 use Rattle.tables.specs.declared.Completion.{Completion}
 use Rattle.tables.specs.declared.Region.{Region}
-use Rattle.tables.proofs.ObjectLaws.{pd-is, page-at, entry-at, receive-at}
-use Rattle.validate.specs.Accept.{accessOk, fieldsOk, pageInside, numbersOk, landOk, mrOk, completionOk, receiveOk}
+use Rattle.tables.proofs.ObjectLaws.{pd-is, page-at, entry-at, receive-at, queued-at}
+use Rattle.validate.specs.Accept.{accessOk, fieldsOk, pageInside, numbersOk, landOk, mrOk, completionOk, receiveOk, queuedOk}
 use Rattle.validate.specs.Together.{eightOk, pagesOk, variantOk, virtOk, firstWord, remoteOk, wordsOk, wordOk, rangeOk, rowOk}
 use Rattle.validate.proofs.BitLaws.{Between}
 use Rattle.validate.proofs.TestLaws.{mr-rest, need-most, page-by-number, paged-rest, land-flat, land-paged}
@@ -300,6 +300,12 @@ module _ (l : List ℕ) (n : ℕ) where
   posted-by h f c b =
       ring-each noRecord mostWaiting receiveOk (receivesAt l n)
       (λ k m. rw (receive-at l n k m) (all-at mostWaiting (λ k. receiveOk (rowAt receiveT l (mostWaiting * n + k))) k m h)) f c b
+
+  pub queued-by : allBelow mostQueued (λ k. queuedOk (placeAt l (mostQueued * n + k))) ≡ true → (f c : ℕ) → f < mostQueued
+      → all queuedOk (ringList noQueued mostQueued (queuedAt l n) f c) ≡ true
+  queued-by h f c b =
+      ring-each noQueued mostQueued queuedOk (queuedAt l n)
+      (λ k m. rw (queued-at l n k m) (all-at mostQueued (λ k. queuedOk (placeAt l (mostQueued * n + k))) k m h)) f c b
 
 -- a completion by what the statuses, the opcodes and the owners of several are at most
 pub completion-by : (e : Completion) (statuses opcodes owners : ℕ) → statuses ≤ 1 → opcodes ≤ 4 → owners < qpCount → e .status ≤ statuses → e .opcode ≤ opcodes

@@ -17,11 +17,11 @@ use Rattle.wire.proofs.RowLaws.{length-rows}
 use Rattle.wire.proofs.ScanLaws.{all-append}
 use Rattle.wire.proofs.TableLaws.{putRow-length}
 use Rattle.tables.specs.Card.{noReceive, receiveOf, withQp, withWaiting, tail, cqLive}
-use Rattle.tables.specs.Layout.{stateSize, qpFlagT, qpT, waitingT, receiveT, waitingCodec}
+use Rattle.tables.specs.Layout.{stateSize, qpFlagT, qpT, waitingT, receiveT, sendHeadT, waitingCodec}
 use Rattle.tables.specs.Limits.{qpCount, mostWaiting}
 use Rattle.tables.specs.Queue.{grown, shrunk, postBytes, takeBytes}
 use Rattle.tables.specs.Records.{receiveCodec}
-use Rattle.tables.specs.State.{PairRows, card, pairAt, receivesAt, posted, qpOf, noRecord}
+use Rattle.tables.specs.State.{PairRows, card, pairAt, receivesAt, queuedAt, posted, qpOf, noRecord}
 use Rattle.tables.specs.declared.QueuePair.{QueuePair}
 use Rattle.tables.specs.declared.ReceiveRecord.{ReceiveRecord}
 use Rattle.tables.specs.declared.WaitingHead.{WaitingHead}
@@ -46,7 +46,7 @@ module _ (l : List ℕ) (ok : Accepted l) (q : ℕ) (b : q < qpCount) (live : ro
 
   -- the queue pair with the head g of its receives ws, where all else stays
   abbrev rows : WaitingHead → List ReceiveRecord → PairRows
-  rows g ws = record { flag = rowAt qpFlagT l q; row = p; head = g; ring = ws }
+  rows g ws = record { flag = rowAt qpFlagT l q; row = p; head = g; ring = ws; sends = rowAt sendHeadT l q; queued = queuedAt l q }
 
   other-head : (g : WaitingHead) (ws : List ReceiveRecord) → qpOf (rows g ws) ≡ withWaiting (card l .qp q) (map receiveOf (posted (rows g ws)))
   unfolding qpOf pairAt
@@ -58,7 +58,7 @@ module _ (l : List ℕ) (ok : Accepted l) (q : ℕ) (b : q < qpCount) (live : ro
   still-sound g ws f c a =
       let s = pair-sound in
       pairing (card l .pd) (cqLive (card l)) q (rows g ws)
-      (record { live = s .live; domain = s .domain; sends = s .sends; receives = s .receives; limits = s .limits; first = f; count = c; waiting = a })
+      (record { live = s .live; domain = s .domain; sends = s .sends; receives = s .receives; limits = s .limits; first = f; count = c; waiting = a; queue = s .queue })
 
   pub waiting-is : card l .qp q .waiting ≡ map receiveOf (posted (pairAt l q))
   waiting-is = rw (qp-row l q b live)
@@ -90,7 +90,7 @@ module _ (l : List ℕ) (ok : Accepted l) (q : ℕ) (b : q < qpCount) (live : ro
         let z : length mid ≡ stateSize = putRow-length receiveT l (mostWaiting * q + k) w ∙ ok .sized in
         let m = store.receive-at l q b k k-below w (ok .sized) f in
         store.qp-waiting-at mid q b (grown h) z grown-fits
-        ∙ ap (λ (r : PairRows). record { flag = r .flag; row = r .row; head = grown h; ring = r .ring }) m
+        ∙ ap (λ (r : PairRows). record { flag = r .flag; row = r .row; head = grown h; ring = r .ring; sends = r .sends; queued = r .queued }) m
 
     appended : posted (rows (grown h) ws) ≡ posted (pairAt l q) ++ (w ∷ [])
     unfolding receivesAt pairAt

@@ -1,6 +1,6 @@
 -- The state test, document 01: "15 exactly if its length is wrong, a stored number, count, QP state, access or region range is outside
 -- this paper's limits (so is a QP that names itself as destination), or a live object names a PD or CQ that isn't live."
--- What is not live is not looked at. Executable. Assumes nothing.
+-- What is not live is not looked at, nor are places of a ring that hold nothing. Executable. Assumes nothing.
 use mathlib.Core.Bool.{Bool, cond, not, _&&_, _||_}
 use mathlib.Core.List.{List}
 use Prim.Native.Nat.{ℕ, _+_, _-_, _*_}
@@ -10,9 +10,10 @@ use Rattle.wire.specs.Checks.{has, only}
 use Rattle.wire.specs.Scan.{all, allBelow}
 use Rattle.wire.specs.Table.{rowAt}
 use Rattle.tables.specs.Card.{cqLive}
-use Rattle.tables.specs.State.{QueueRows, RegionRows, PairRows, queueAt, regionAt, pairAt, pagesNeeded, unread, posted, card}
-use Rattle.tables.specs.Layout.{stateSize, memoryT, pdFlagT}
-use Rattle.tables.specs.Limits.{pdCount, cqCount, mrCount, qpCount, mostPlaces, mostWaiting}
+use Rattle.tables.specs.Records.{QueuedSend, sentIn, sendBad}
+use Rattle.tables.specs.State.{QueueRows, RegionRows, PairRows, queueAt, regionAt, pairAt, pagesNeeded, unread, posted, queuedIn, card}
+use Rattle.tables.specs.Layout.{stateSize, memoryT, turnT, pdFlagT}
+use Rattle.tables.specs.Limits.{pdCount, cqCount, mrCount, qpCount, mostPlaces, mostWaiting, mostQueued}
 use Rattle.tables.specs.Limits.{mostMemory, mostAddress, pageSize, mostPages, localWrite, remoteWrite, mostAccess, mostMessage, mostReceiveSges}
 use Rattle.tables.specs.declared.Completion.{Completion}
 use Rattle.tables.specs.declared.QueueHead.{QueueHead}
@@ -24,6 +25,10 @@ use Rattle.tables.specs.declared.WaitingHead.{WaitingHead}
 -- 02, M-106: 1 to 16,777,216
 abbrev pub memoryOk : ℕ → Bool
 memoryOk n = leb 1 n && leb n mostMemory
+
+-- 02, M-108: the queue pair that a turn visits first
+abbrev pub turnOk : ℕ → Bool
+turnOk n = ltb n qpCount
 
 abbrev pub flagOk : ℕ → Bool
 flagOk f = leb f 1
@@ -86,6 +91,18 @@ waitingOk h = ltb (h .first) mostWaiting && leb (h .count) mostWaiting
 abbrev pub receiveOk : ReceiveRecord → Bool
 receiveOk r = leb (r .count) mostReceiveSges
 
+-- 02, M-108: "Each QP gets a queue of 8 send records"
+abbrev pub queueHeadOk : WaitingHead → Bool
+queueHeadOk h = ltb (h .first) mostQueued && leb (h .count) mostQueued
+
+-- "A queue in a state other than 3 or 6 .. gives 15"
+abbrev pub mayQueue : (state : ℕ) → Bool
+mayQueue s = eqb s 3 || eqb s 6
+
+-- "or a queued record that 1 or 4 refuses": 4 by its numbers; 1 never, for its length is what they say
+abbrev pub queuedOk : QueuedSend → Bool
+queuedOk s = not (sendBad (sentIn s))
+
 -- ---- the object numbered n of each table: free, or within its limits and naming live objects only; a flag is 0 or 1
 
 unfoldable pub pdOk : List ℕ → ℕ → Bool
@@ -112,8 +129,13 @@ namesOk pd cq p = pd (p .pd) && cq (p .scq) && cq (p .rcq)
 abbrev pub receivesOk : PairRows → Bool
 receivesOk r = waitingOk (r .head) && all receiveOk (posted r)
 
+-- its queued sends
+abbrev pub sendsOk : PairRows → Bool
+sendsOk r = queueHeadOk (r .sends) && (eqb (r .sends .count) 0 || (mayQueue (r .row .state) && all queuedOk (queuedIn r)))
+
 abbrev pub qpSound : (pd cq : ℕ → Bool) → ℕ → PairRows → Bool
-qpSound pd cq n r = eqb (r .flag) 0 || (eqb (r .flag) 1 && (namesOk pd cq (r .row) && pairOk n (r .row) && receivesOk r))
+qpSound pd cq n r =
+    eqb (r .flag) 0 || (eqb (r .flag) 1 && (namesOk pd cq (r .row) && pairOk n (r .row) && receivesOk r && sendsOk r))
 
 unfoldable pub qpOk : List ℕ → ℕ → Bool
 qpOk l n = qpSound (card l .pd) (cqLive (card l)) n (pairAt l n)
@@ -123,5 +145,5 @@ qpOk l n = qpSound (card l .pd) (cqLive (card l)) n (pairAt l n)
 unfoldable pub accepts : List ℕ → Bool
 accepts l =
     eqb (length l) stateSize
-    && (memoryOk (rowAt memoryT l 0) && allBelow pdCount (pdOk l) && allBelow cqCount (cqOk l) && allBelow mrCount (mrOk l)
-    && allBelow qpCount (qpOk l))
+    && (memoryOk (rowAt memoryT l 0) && turnOk (rowAt turnT l 0) && allBelow pdCount (pdOk l) && allBelow cqCount (cqOk l)
+    && allBelow mrCount (mrOk l) && allBelow qpCount (qpOk l))

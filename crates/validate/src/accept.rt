@@ -1,5 +1,6 @@
 // The state test of answer 15: specs/Accept.antt.
 use crate::regions;
+use crate::sends;
 use crate::together;
 use tables::Completion;
 use tables::QueueHead;
@@ -25,15 +26,17 @@ use tables::limits::RTS;
 use tables::limits::SUCCESS;
 use tables::rows;
 ghost use mathlib.Core.Path.{_≡_};
+ghost use mathlib.Core.Bool.{_&&_};
 ghost use Prim.Native.Nat.{_<_};
 ghost use lib.ListN.{length};
 ghost use Rattle.wire.specs.Scan.{all, allBelow};
 ghost use Rattle.tables.specs.Card.{cqLive};
 ghost use Rattle.wire.specs.Ring.{ringList};
+ghost use Rattle.wire.specs.Table.{rowAt};
 ghost use Rattle.tables.specs.State.{card, pairAt, ringAt, receivesAt, noCompletion, noRecord};
-ghost use Rattle.tables.specs.Layout.{stateSize};
+ghost use Rattle.tables.specs.Layout.{stateSize, memoryT, turnT};
 ghost use Rattle.tables.specs.Limits.{pdCount, cqCount, qpCount, mostPlaces, mostWaiting};
-ghost use Rattle.validate.specs.Accept.{accepts, isStatus, isState, completionOk, receiveOk, queueOk, pairOk, pdOk, cqOk, qpOk, namesOk, receivesOk};
+ghost use Rattle.validate.specs.Accept.{accepts, memoryOk, turnOk, isStatus, isState, completionOk, receiveOk, queueOk, pairOk, pdOk, cqOk, qpOk, namesOk, receivesOk};
 
 // Whether protection domain n is live.
 pub fn pd_live(state: &[u8], n: u32) -> bool
@@ -237,7 +240,20 @@ fn qp_ok(state: &[u8], n: usize) -> bool
     if !pair_ok(n, p) {
         return false;
     }
-    waiting_ok(state, n)
+    if !waiting_ok(state, n) {
+        return false;
+    }
+    sends::sends_ok(state, n, p.state)
+}
+
+// The memory length, and the queue pair that a turn visits first.
+fn header_ok(state: &[u8]) -> bool
+    requires { ⌜ length (now state) ≡ stateSize ⌝ }
+    ensures { λ x. ⌜ x ≡ (memoryOk (rowAt memoryT (now (state .entry)) 0) && turnOk (rowAt turnT (now (state .entry)) 0)) ⌝ }
+{
+    let memory = rows::load_memory(state);
+    let turn = rows::load_turn(state) as usize;
+    (1 <= memory) & (memory <= MOST_MEMORY) & (turn < QP_COUNT)
 }
 
 fn pds_ok(state: &[u8]) -> bool
@@ -289,11 +305,7 @@ pub fn accepted(state: &[u8]) -> bool
     if state.len() != rows::STATE_SIZE {
         return false;
     }
-    let memory = rows::load_memory(state);
-    if memory < 1 {
-        return false;
-    }
-    if MOST_MEMORY < memory {
+    if !header_ok(state) {
         return false;
     }
     if !pds_ok(state) {
@@ -302,7 +314,7 @@ pub fn accepted(state: &[u8]) -> bool
     if !cqs_ok(state) {
         return false;
     }
-    if !regions::mrs_ok(state, memory) {
+    if !regions::mrs_ok(state, rows::load_memory(state)) {
         return false;
     }
     qps_ok(state)

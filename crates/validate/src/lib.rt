@@ -2,4 +2,5 @@
 pub mod accept;
 pub mod find;
 pub mod regions;
+mod sends;
 mod together;

@@ -83,6 +83,30 @@ pub unsafe extern "C" fn lesungkap_post_send(
 /// # Safety
 /// As include/lesungkap.h says.
 #[no_mangle]
+pub unsafe extern "C" fn lesungkap_enqueue(
+    state: *mut u8,
+    state_len: usize,
+    memory: *const u8,
+    memory_len: usize,
+    qpn: u32,
+    record: *const u8,
+    record_len: usize,
+) -> u32 {
+    let (state, memory, record) = unsafe { (lent(state, state_len), read(memory, memory_len), read(record, record_len)) };
+    reference::enqueue(state, memory, qpn, record).to_bits()
+}
+
+/// # Safety
+/// As include/lesungkap.h says.
+#[no_mangle]
+pub unsafe extern "C" fn lesungkap_turn(state: *mut u8, state_len: usize, memory: *mut u8, memory_len: usize) -> u32 {
+    let (state, memory) = unsafe { (lent(state, state_len), lent(memory, memory_len)) };
+    reference::turn(state, memory).to_bits()
+}
+
+/// # Safety
+/// As include/lesungkap.h says.
+#[no_mangle]
 pub unsafe extern "C" fn lesungkap_post_receive(
     state: *mut u8,
     state_len: usize,

@@ -13,6 +13,8 @@ pub enum Call {
     Control { command: Vec<u8>, ack: usize },
     Pages { command: Vec<u8>, pages: Vec<u64>, ack: usize },
     Send { qpn: u32, record: Vec<u8>, memory: usize },
+    Enqueue { qpn: u32, record: Vec<u8>, memory: usize },
+    Turn { memory: usize },
     Receive { qpn: u32, record: Vec<u8> },
     Flush { qpn: u32 },
     Poll { cqn: u32, buffer: usize },
@@ -25,6 +27,8 @@ impl Call {
             Call::Control { .. } => "control",
             Call::Pages { .. } => "register pages",
             Call::Send { .. } => "send",
+            Call::Enqueue { .. } => "enqueue",
+            Call::Turn { .. } => "turn",
             Call::Receive { .. } => "receive",
             Call::Flush { .. } => "flush",
             Call::Poll { .. } => "poll",
@@ -47,7 +51,7 @@ impl Call {
     /// How long a memory is lent to it, if one is.
     pub fn memory(&self) -> Option<usize> {
         match self {
-            Call::Send { memory, .. } => Some(*memory),
+            Call::Send { memory, .. } | Call::Enqueue { memory, .. } | Call::Turn { memory } => Some(*memory),
             _ => None,
         }
     }
@@ -59,10 +63,17 @@ impl Call {
             Call::Control { command, .. } => card.control(state, command, buffer),
             Call::Pages { command, pages, .. } => card.register_pages(state, command, pages, buffer),
             Call::Send { qpn, record, .. } => card.post_send(state, memory, *qpn, record),
+            Call::Enqueue { qpn, record, .. } => card.enqueue(state, memory, *qpn, record),
+            Call::Turn { .. } => card.turn(state, memory),
             Call::Receive { qpn, record } => card.post_receive(state, *qpn, record),
             Call::Flush { qpn } => card.flush(state, *qpn),
             Call::Poll { cqn, .. } => card.poll(state, *cqn, buffer),
         }
+    }
+
+    /// Whether a replay tape has a kind for it.
+    pub fn has_tape_kind(&self) -> bool {
+        !matches!(self, Call::Pages { .. } | Call::Enqueue { .. } | Call::Turn { .. })
     }
 
     /// The record of a replay tape, if a tape can hold the call.
@@ -96,6 +107,10 @@ impl fmt::Display for Call {
             Call::Send { qpn, record, memory } => {
                 write!(f, "send on {qpn}, memory of {memory} bytes, record {}", hex(record))
             }
+            Call::Enqueue { qpn, record, memory } => {
+                write!(f, "enqueue on {qpn}, memory of {memory} bytes, record {}", hex(record))
+            }
+            Call::Turn { memory } => write!(f, "turn, memory of {memory} bytes"),
             Call::Receive { qpn, record } => write!(f, "receive on {qpn}, record {}", hex(record)),
             Call::Flush { qpn } => write!(f, "flush of {qpn}"),
             Call::Poll { cqn, buffer } => write!(f, "poll of {cqn}, buffer of {buffer} bytes"),

@@ -22,6 +22,15 @@ pub trait Card {
         lacks(self.name(), "post send")
     }
 
+    /// Of the memory only the length is looked at.
+    fn enqueue(&self, _state: &mut [u8], _memory: &[u8], _qpn: u32, _record: &[u8]) -> Outcome {
+        lacks(self.name(), "enqueue")
+    }
+
+    fn turn(&self, _state: &mut [u8], _memory: &mut [u8]) -> Outcome {
+        lacks(self.name(), "turn")
+    }
+
     fn post_receive(&self, _state: &mut [u8], _qpn: u32, _record: &[u8]) -> Outcome {
         lacks(self.name(), "post receive")
     }
@@ -58,6 +67,12 @@ macro_rules! card_of {
             }
             fn post_send(&self, state: &mut [u8], memory: &mut [u8], qpn: u32, record: &[u8]) -> $crate::Outcome {
                 $crate::Outcome::from_bits($module::post_send(state, memory, qpn, record).to_bits())
+            }
+            fn enqueue(&self, state: &mut [u8], memory: &[u8], qpn: u32, record: &[u8]) -> $crate::Outcome {
+                $crate::Outcome::from_bits($module::enqueue(state, memory, qpn, record).to_bits())
+            }
+            fn turn(&self, state: &mut [u8], memory: &mut [u8]) -> $crate::Outcome {
+                $crate::Outcome::from_bits($module::turn(state, memory).to_bits())
             }
             fn post_receive(&self, state: &mut [u8], qpn: u32, record: &[u8]) -> $crate::Outcome {
                 $crate::Outcome::from_bits($module::post_receive(state, qpn, record).to_bits())
@@ -97,7 +112,7 @@ mod linked {
     pub struct Proved;
 
     fn outcome(bits: u32) -> Outcome {
-        assert_eq!(bits >> 16, 0, "bits 16 to 31 of a result are 0");
+        assert_eq!(bits >> 24, 0, "bits 24 to 31 of a result are 0");
         Outcome::from_bits(bits)
     }
 
@@ -144,6 +159,24 @@ mod linked {
                     record.len(),
                 )
             })
+        }
+
+        fn enqueue(&self, state: &mut [u8], memory: &[u8], qpn: u32, record: &[u8]) -> Outcome {
+            outcome(unsafe {
+                lesungkap_enqueue(
+                    state.as_mut_ptr(),
+                    state.len(),
+                    memory.as_ptr(),
+                    memory.len(),
+                    qpn,
+                    record.as_ptr(),
+                    record.len(),
+                )
+            })
+        }
+
+        fn turn(&self, state: &mut [u8], memory: &mut [u8]) -> Outcome {
+            outcome(unsafe { lesungkap_turn(state.as_mut_ptr(), state.len(), memory.as_mut_ptr(), memory.len()) })
         }
 
         fn post_receive(&self, state: &mut [u8], qpn: u32, record: &[u8]) -> Outcome {

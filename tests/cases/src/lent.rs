@@ -1,8 +1,14 @@
 //! Lent lengths and lent states: what no tape can show. Each check panics on a card that does anything else than documents 01 and 02 say.
 
+pub use crate::fair::turns_are_fair;
 use crate::lent_pages::PAGED_FAULTS;
 pub use crate::lent_pages::{
     a_page_list_is_stored_by_numbers, each_fault_of_a_paged_region_is_found, pages_past_the_need_are_not_looked_at,
+};
+use crate::lent_turns::QUEUE_FAULTS;
+pub use crate::lent_turns::{
+    a_queue_is_written_byte_for_byte, a_queued_record_is_read_by_its_kind, each_fault_of_a_queue_is_found,
+    empty_places_are_not_looked_at, forged_queues_are_served, queues_need_the_reset_length, what_drops_a_queue_writes_its_head,
 };
 use crate::script::{device_ack, port_ack, ACCESSES};
 use cards::build::*;
@@ -17,7 +23,7 @@ pub(crate) const LEFT: u8 = 0xa5;
 type Check = (&'static str, fn(&dyn Card));
 
 /// Every check by its name.
-pub const CHECKS: [Check; 20] = [
+pub const CHECKS: [Check; 28] = [
     ("reset_takes_1_to_16777216", reset_takes_1_to_16777216),
     ("ack_needs_13_bytes", ack_needs_13_bytes),
     ("queries_need_129_or_33_bytes", queries_need_129_or_33_bytes),
@@ -36,12 +42,20 @@ pub const CHECKS: [Check; 20] = [
     ("each_fault_of_a_paged_region_is_found", each_fault_of_a_paged_region_is_found),
     ("pages_past_the_need_are_not_looked_at", pages_past_the_need_are_not_looked_at),
     ("a_page_list_is_stored_by_numbers", a_page_list_is_stored_by_numbers),
+    ("a_queue_is_written_byte_for_byte", a_queue_is_written_byte_for_byte),
+    ("what_drops_a_queue_writes_its_head", what_drops_a_queue_writes_its_head),
+    ("each_fault_of_a_queue_is_found", each_fault_of_a_queue_is_found),
+    ("empty_places_are_not_looked_at", empty_places_are_not_looked_at),
+    ("a_queued_record_is_read_by_its_kind", a_queued_record_is_read_by_its_kind),
+    ("forged_queues_are_served", forged_queues_are_served),
+    ("queues_need_the_reset_length", queues_need_the_reset_length),
     ("a_refused_reset_leaves_the_card", a_refused_reset_leaves_the_card),
     ("each_slot_hands_out_255_keys", each_slot_hands_out_255_keys),
+    ("turns_are_fair", turns_are_fair),
 ];
 
 pub(crate) fn answer(answer: u8) -> Outcome {
-    Outcome { answer, status: 0 }
+    Outcome { answer, ..Outcome::DONE }
 }
 
 /// Two joined pairs with a region each, a waiting receive and an unread completion.
@@ -196,7 +210,7 @@ pub fn memory_has_the_reset_length(card: &dyn Card) {
                 let (mut state, mut memory) = (good.clone(), vec![LEFT; length]);
                 let outcome = card.post_send(&mut state, &mut memory, qpn, &record);
                 let wanted = match (length, wanted) {
-                    (4096, 0) => Outcome { answer: 0, status },
+                    (4096, 0) => Outcome::ended(status),
                     (4096, _) => answer(wanted),
                     _ => answer(7),
                 };
@@ -219,7 +233,7 @@ pub fn flushed_work_writes_its_completion_alone(card: &dyn Card) {
             true => card.post_send(&mut state, &mut memory, 0, &record),
             false => card.post_receive(&mut state, 0, &receive(7, &[piece(1 << 32, 4, 1)])),
         };
-        assert_eq!(outcome, Outcome { answer: 0, status: 4 });
+        assert_eq!(outcome, Outcome::ended(4));
         let mut wanted = good.clone();
         wanted[queue_row(0) + QUEUE_COUNT] += 1;
         Completion { wr_id: 7, status: 4, opcode, length: 0, immediate: 0, owner: 0 }.write(&mut wanted, completion_row(0, 1));
@@ -251,7 +265,7 @@ pub fn a_pair_keeps_its_access_flags(card: &dyn Card) {
     step(to_peer(0, 1).access(7), 3, 6);
     step(to_state(0, 3), 0, 6);
     let outcome = card.post_send(&mut state, &mut [0; 4096], 0, &Send::new(1, 0).piece(0, 1, 0).bytes());
-    assert_eq!((outcome, state[pair_row(0) + PAIR_ACCESS]), (Outcome { answer: 0, status: 3 }, 6));
+    assert_eq!((outcome, state[pair_row(0) + PAIR_ACCESS]), (Outcome::ended(3), 6));
     // a new pair has none, whatever its number's row held
     for command in [destroy_pair(0), create_pair(0, 2, 0, 0, 0)] {
         state[pair_row(0) + PAIR_ACCESS] = if command[1] == 9 { 255 } else { 7 };
@@ -265,6 +279,7 @@ pub fn numbers_past_the_tables_are_not_live(card: &dyn Card) {
     for qpn in [2, 8, 255, 256, 1 << 16, u32::MAX] {
         let mut state = good.clone();
         assert_eq!(card.post_send(&mut state, &mut vec![0; 4096], qpn, &Send::new(1, 0).bytes()), answer(2));
+        assert_eq!(card.enqueue(&mut state, &[0; 4096], qpn, &Send::new(1, 0).bytes()), answer(2));
         assert_eq!(card.post_receive(&mut state, qpn, &receive(1, &[])), answer(2));
         assert_eq!(card.flush(&mut state, qpn), answer(2));
         assert_eq!(state, good);
@@ -285,6 +300,8 @@ pub fn a_bad_state_comes_before_all_else(card: &dyn Card) {
         assert_eq!(card.register_pages(&mut state, &[5], &[1], &mut ack), answer(15));
         assert_eq!(card.register_pages(&mut state, &register(0, 7, 0, 1, 0), &[0], &mut [LEFT; 13]), answer(15));
         assert_eq!(card.post_send(&mut state, &mut memory, 99, &[]), answer(15));
+        assert_eq!(card.enqueue(&mut state, &memory, 99, &[]), answer(15));
+        assert_eq!(card.turn(&mut state, &mut memory), answer(15));
         assert_eq!(card.post_receive(&mut state, 99, &[]), answer(15));
         assert_eq!(card.flush(&mut state, 99), answer(15));
         assert_eq!(card.poll(&mut state, 99, &mut ack[..3]), answer(15));
@@ -328,7 +345,7 @@ pub fn forged_but_acceptable_states(card: &dyn Card) {
             state[at] = value;
         }
         let outcome = card.post_send(&mut state, &mut vec![0; 4096], 0, &Send::new(1, 0).bytes());
-        assert_eq!(outcome, Outcome { answer, status }, "{name}");
+        assert_eq!(outcome, Outcome { answer, status, served: 0 }, "{name}");
     }
 }
 
@@ -378,11 +395,13 @@ const FAULTS: [(Fault, usize, &[u8]); 41] = [
 ];
 
 /// A call of each kind but reset, with all that it is lent in order.
-fn tested_calls() -> [Call; 6] {
+fn tested_calls() -> [Call; 8] {
     [
         Call::Control { command: create_domain(), ack: ACK_BYTES },
         Call::Pages { command: register(0, 7, 4095, 2, 0), pages: vec![0, 0], ack: ACK_BYTES },
         Call::Send { qpn: 0, record: Send::new(1, 0).bytes(), memory: 4096 },
+        Call::Enqueue { qpn: 0, record: Send::new(1, 0).bytes(), memory: 4096 },
+        Call::Turn { memory: 4096 },
         Call::Receive { qpn: 1, record: receive(1, &[]) },
         Call::Flush { qpn: 1 },
         Call::Poll { cqn: 0, buffer: COMPLETION_BYTES },
@@ -411,6 +430,7 @@ pub fn each_fault_is_found(card: &dyn Card) {
         made.push(why);
     }
     made.extend(PAGED_FAULTS.map(|(why, ..)| why));
+    made.extend(QUEUE_FAULTS.map(|(why, ..)| why));
     assert!(Fault::ALL.iter().all(|fault| made.contains(fault)), "a fault is not made");
 }
 
@@ -432,7 +452,7 @@ pub fn a_state_without_a_fault_is_taken(card: &dyn Card) {
         assert_eq!(fault(&lent), None);
         let answers =
             tested_calls().map(|call| call.make(card, &mut lent.clone(), &mut [0; 4096], &mut vec![LEFT; call.buffer()]).answer);
-        assert_eq!(answers, [0, 0, 0, 0, 3, 0], "{}", card.name());
+        assert_eq!(answers, [0, 0, 0, 0, 9, 0, 3, 0], "{}", card.name());
     }
 }
 

@@ -39,13 +39,19 @@ impl Lent {
         let lent_memory = call.memory().map_or(0, |length| length.min(self.memory.len()));
         let before = refused.then(|| (self.state.clone(), self.memory[..lent_memory].to_vec()));
         let mut buffer = vec![LEFT; call.buffer()];
-        let outcome = call.make(card, &mut self.state, &mut self.memory, &mut buffer);
+        let mut other = vec![LEFT; call.memory().unwrap_or(0)];
+        let is_other = call.memory().map_or(false, |length| length != self.memory.len());
+        let memory = if is_other { &mut other } else { &mut self.memory };
+        let outcome = call.make(card, &mut self.state, memory, &mut buffer);
         if outcome != wanted.outcome {
             return Err(format!("{outcome:?}, wanted {:?}", wanted.outcome));
         }
         let mut left = vec![LEFT; call.buffer()];
         left[..wanted.written.len()].copy_from_slice(&wanted.written);
         same_bytes("buffer", &buffer, &left)?;
+        if is_other && other.iter().any(|&byte| byte != LEFT) {
+            return Err("a memory of another length was written".into());
+        }
         match before {
             Some((state, memory)) if state != self.state || memory != self.memory[..lent_memory] => {
                 Err("a refused call changed the state or the memory".into())

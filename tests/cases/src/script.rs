@@ -40,10 +40,10 @@ pub struct Wanted {
 }
 
 impl Case {
-    /// The calls as a replay tape, if there are no page lists among them and the memory is a tape's.
+    /// The calls as a replay tape, if each has a kind there and the memory is a tape's.
     pub fn tape(&self) -> Option<Vec<u8>> {
-        let has_pages = self.steps.iter().any(|step| matches!(step, Step::Call { call: Call::Pages { .. }, .. }));
-        if has_pages || self.memory != MEMORY {
+        let has_no_kind = |step: &Step| matches!(step, Step::Call { call, .. } if !call.has_tape_kind());
+        if self.steps.iter().any(has_no_kind) || self.memory != MEMORY {
             return None;
         }
         let mut tape = Vec::new();
@@ -117,6 +117,11 @@ impl Script {
         Case { name: name.into(), memory: self.memory, steps: self.steps }
     }
 
+    /// The case so far, as one more of the list.
+    pub fn named_into(&mut self, cases: &mut Vec<Case>, name: impl Into<String>) {
+        cases.push(std::mem::replace(self, Script::new()).named(name));
+    }
+
     pub fn step(&mut self, step: Step) -> &mut Script {
         self.steps.push(step);
         self
@@ -124,7 +129,7 @@ impl Script {
 
     /// A call with its answer, its status and what it writes to its buffer.
     pub fn call(&mut self, call: Call, answer: u8, status: u8, written: Vec<u8>) -> &mut Script {
-        self.step(Step::Call { call, wanted: Wanted { outcome: Outcome { answer, status }, written } })
+        self.step(Step::Call { call, wanted: Wanted { outcome: Outcome { answer, status, served: 0 }, written } })
     }
 
     // ---- control
@@ -202,6 +207,39 @@ impl Script {
 
     pub fn send_bytes(&mut self, qpn: u8, record: Vec<u8>, answer: u8, status: u8) -> &mut Script {
         self.call(Call::Send { qpn: qpn.into(), record, memory: self.memory }, answer, status, vec![])
+    }
+
+    /// A send for the queue of its pair.
+    pub fn enqueue(&mut self, qpn: u8, send: Send, answer: u8) -> &mut Script {
+        self.enqueue_bytes(qpn, send.bytes(), answer)
+    }
+
+    pub fn enqueue_bytes(&mut self, qpn: u8, record: Vec<u8>, answer: u8) -> &mut Script {
+        self.enqueue_lent(qpn, record, self.memory, answer)
+    }
+
+    /// With a memory of this length lent.
+    pub fn enqueue_lent(&mut self, qpn: u8, record: Vec<u8>, memory: usize, answer: u8) -> &mut Script {
+        self.call(Call::Enqueue { qpn: qpn.into(), record, memory }, answer, 0, vec![])
+    }
+
+    /// A turn that serves this pair.
+    pub fn turn(&mut self, served: u8, status: u8) -> &mut Script {
+        let outcome = Outcome { served, ..Outcome::ended(status) };
+        self.step(Step::Call { call: Call::Turn { memory: self.memory }, wanted: Wanted { outcome, written: vec![] } })
+    }
+
+    pub fn turn_refused(&mut self, answer: u8) -> &mut Script {
+        self.turn_lent(self.memory, answer)
+    }
+
+    pub fn turn_lent(&mut self, memory: usize, answer: u8) -> &mut Script {
+        self.call(Call::Turn { memory }, answer, 0, vec![])
+    }
+
+    /// A fresh card over the same memory.
+    pub fn reset(&mut self) -> &mut Script {
+        self.call(Call::Reset { memory_length: self.memory as u64 }, 0, 0, vec![])
     }
 
     pub fn receive(&mut self, qpn: u8, wr_id: u64, pieces: &[Piece], answer: u8) -> &mut Script {

@@ -1,7 +1,7 @@
 //! Which answers, statuses, completions and steps a run has seen.
 
-use crate::pages;
 use crate::side::Done;
+use crate::{pages, turns};
 use cards::build::MASK_ACCESS;
 use cards::Call;
 use reference::layout::*;
@@ -16,11 +16,13 @@ pub struct Coverage {
 }
 
 /// Every answer that each call can give.
-const ANSWERS: [(&str, &[u8]); 7] = [
+const ANSWERS: [(&str, &[u8]); 9] = [
     ("reset", &[0, 11, 15]),
     ("control", &[0, 1, 2, 3, 4, 8, 10, 11, 12, 13, 15]),
     ("register pages", &[0, 1, 2, 4, 8, 11, 12, 13, 15]),
-    ("send", &[0, 1, 2, 3, 4, 5, 6, 7, 15]),
+    ("send", &[0, 1, 2, 3, 4, 5, 6, 7, 10, 15]),
+    ("enqueue", &[0, 1, 2, 3, 4, 7, 8, 15]),
+    ("turn", &[0, 7, 9, 15]),
     ("receive", &[0, 1, 2, 3, 4, 6, 8, 15]),
     ("flush", &[0, 2, 3, 6, 9, 15]),
     ("poll", &[0, 2, 9, 12, 15]),
@@ -134,11 +136,17 @@ const STEPS: [&str; 21] = [
 ];
 
 impl Coverage {
-    pub(crate) fn count(&mut self, card: Option<&Listing>, call: &Call, done: &Done) {
+    /// A call on the state that the listing is of, if it is accepted.
+    pub(crate) fn count(&mut self, card: Option<&Listing>, state: &[u8], call: &Call, done: &Done) {
         let answer = done.outcome.answer;
         self.add(format!("{} answer {answer}", call.name()));
         match call {
-            Call::Control { command, ack } => self.count_command(command, *ack, answer),
+            Call::Control { command, ack } => {
+                self.count_command(command, *ack, answer);
+                if let (Some(card), 0) = (card, answer) {
+                    self.count_drop(card, command);
+                }
+            }
             Call::Pages { command, pages, ack } => {
                 if let Some(card) = card {
                     for cell in pages::of_registration(card, command, pages, *ack, answer) {
@@ -153,6 +161,20 @@ impl Coverage {
                 if let Some(card) = card {
                     self.count_steps(card, *qpn, record, answer, done.outcome.status);
                     self.count_error(card, *qpn, Some(record), answer);
+                    if answer == 10 {
+                        self.extend(turns::of_direct(card, *qpn, record));
+                    }
+                }
+            }
+            Call::Enqueue { qpn, .. } => {
+                if let Some(card) = card {
+                    let first = state[sends_row(*qpn as usize % PAIRS) + SENDS_FIRST];
+                    self.extend(turns::of_enqueue(card, *qpn, first, answer));
+                }
+            }
+            Call::Turn { .. } => {
+                if let Some(card) = card {
+                    self.extend(turns::of_turn(card, done.outcome));
                 }
             }
             Call::Receive { qpn, .. } => {
@@ -196,6 +218,18 @@ impl Coverage {
             _ => return,
         };
         self.add(format!("query {}", QUERIES[query]));
+    }
+
+    fn count_drop(&mut self, card: &Listing, command: &[u8]) {
+        match Command::read(command) {
+            Ok(Command::ModifyPair { number, state: RESET, .. }) => self.extend(turns::of_drop(card, number, false)),
+            Ok(Command::DestroyPair { number }) => self.extend(turns::of_drop(card, number, true)),
+            _ => {}
+        }
+    }
+
+    fn extend(&mut self, cells: Vec<String>) {
+        cells.into_iter().for_each(|cell| self.add(cell));
     }
 
     fn add(&mut self, cell: String) {
@@ -354,6 +388,7 @@ fn groups() -> Vec<(&'static str, Vec<String>)> {
         ("work posted in error", ERRORS.iter().map(|name| format!("error: {name}")).collect()),
         ("page lists", pages::CELLS.iter().map(|cell| format!("pages: {cell}")).collect()),
         ("steps of post send", STEPS.iter().map(|step| format!("step {step}")).collect()),
+        ("queues and turns", turns::cells()),
     ]
 }
 

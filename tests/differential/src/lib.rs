@@ -2,14 +2,16 @@
 //! and every byte of the state after each call; and that a refused call changed nothing.
 
 mod coverage;
+pub mod domains;
 mod guarded;
 mod pages;
 mod side;
+mod turns;
 
 use cards::{Call, Card, Reference};
 pub use coverage::Coverage;
 use generator::{damage, forget_destination, Generator};
-use reference::layout::STATE_BYTES;
+use reference::layout::{PAIRS, STATE_BYTES};
 use reference::listing::Listing;
 use side::Side;
 
@@ -75,7 +77,8 @@ impl Run {
                 Some(card) if self.report.differences.len() == known => self.generator.next(card),
                 _ => return,
             };
-            if self.generator.rng().percent(10) {
+            let part = if matches!(call, Call::Turn { .. }) { 40 } else { 10 };
+            if self.generator.rng().percent(part) {
                 self.damaged(&call);
             }
             self.step(&call);
@@ -97,7 +100,7 @@ impl Run {
         match side::compare(&mut self.first, &mut self.second, call) {
             Ok(done) => {
                 self.generator.observe(call, done.outcome, &done.written);
-                self.report.coverage.count(self.card.as_ref(), call, &done);
+                self.report.coverage.count(self.card.as_ref(), self.first.before(), call, &done);
                 if done.outcome.answer == 0 {
                     self.card = Listing::of(&self.first.state);
                 }
@@ -110,12 +113,16 @@ impl Run {
     fn damaged(&mut self, call: &Call) {
         let state = match call {
             Call::Send { qpn, .. } if self.generator.rng().percent(20) => forget_destination(&self.first.state, *qpn),
+            Call::Turn { .. } if self.generator.rng().percent(60) => {
+                let qpn = self.generator.rng().below(PAIRS as u64) as u32;
+                forget_destination(&self.first.state, qpn)
+            }
             _ => damage(self.generator.rng(), &self.first.state),
         };
         let mut first = self.first.on(&state, call);
         let mut second = self.second.on(&state, call);
         match side::compare(&mut first, &mut second, call) {
-            Ok(done) => self.report.coverage.count(Listing::of(&state).as_ref(), call, &done),
+            Ok(done) => self.report.coverage.count(Listing::of(&state).as_ref(), &state, call, &done),
             Err(difference) => self.differ(call, format!("on a damaged state, {difference}")),
         }
     }

@@ -71,6 +71,11 @@ impl Side {
         Ok(done)
     }
 
+    /// The state before the last call.
+    pub fn before(&self) -> &[u8] {
+        &self.before.0
+    }
+
     fn keep(&mut self, call: &Call) {
         self.before.0.clear();
         self.before.0.extend_from_slice(&self.state);

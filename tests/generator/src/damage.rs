@@ -3,6 +3,7 @@
 use cards::Rng;
 use reference::accept::pages_needed;
 use reference::layout::*;
+use reference::record::{COUNT_AT, OPCODE_AT};
 
 /// Of how many region slots the fields are tried at a time.
 const MOST_SLOTS: usize = 32;
@@ -46,7 +47,8 @@ fn sample(rng: &mut Rng, count: usize, live: &[usize]) -> Vec<usize> {
 /// region's range are taken against its other fields.
 pub fn fields(state: &[u8], slots: &[usize], visit: &mut dyn FnMut(Field)) {
     put(visit, true, MEMORY_LENGTH, 8, &[0, 1, MOST_MEMORY, MOST_MEMORY + 1, u64::MAX]);
-    put(visit, true, HEADER_UNUSED, 8, &[0, u64::MAX]);
+    put(visit, true, TURN, 1, &[0, 1, 7, 8, 9, 128, 255]);
+    put(visit, true, HEADER_UNUSED, 7, &[0, u64::MAX]);
     for n in 0..DOMAINS {
         put(visit, true, DOMAIN_FLAGS + n, 1, &[0, 1, 2, 255]);
     }
@@ -58,6 +60,7 @@ pub fn fields(state: &[u8], slots: &[usize], visit: &mut dyn FnMut(Field)) {
     }
     for n in 0..PAIRS {
         pair_fields(visit, state, n);
+        send_fields(visit, state, n);
     }
 }
 
@@ -150,6 +153,27 @@ fn pair_fields(visit: &mut dyn FnMut(Field), state: &[u8], number: usize) {
         put(visit, live, row + RECEIVE_COUNT, 4, &[0, 1, 2, 3, 256, u32::MAX.into()]);
         put(visit, live, row + RECEIVE_UNUSED, 8, &[0, u64::MAX]);
     }
+}
+
+/// The queue of a pair: its head, the kinds of its places, and of the oldest record both ends and what its kind says.
+fn send_fields(visit: &mut dyn FnMut(Field), state: &[u8], number: usize) {
+    let live = state[PAIR_FLAGS + number] == 1;
+    let row = sends_row(number);
+    let (first, count) = (state[row + SENDS_FIRST], state[row + SENDS_COUNT]);
+    put(visit, live, row + SENDS_FIRST, 1, &[0, 1, 4, 7, 8, 15, 255]);
+    put(visit, live, row + SENDS_COUNT, 1, &[0, 1, 2, 4, 7, 8, 9, 16, 255]);
+    for place in 0..MOST_QUEUED {
+        let live = live && holds(place, MOST_QUEUED, first, count);
+        let row = kind_row(number, place);
+        put(visit, live, row + KIND_OPCODE, 1, &[0, 3, 4, 5, 6, 128, 255]);
+        put(visit, live, row + KIND_FLAGS, 1, &[0, 7, 8, 15, 16, 24, 32, 128, 255]);
+        put(visit, live, row + KIND_COUNT, 2, &[0, 4, 5, 255, 256, 260, 512, 513, 0xffff]);
+    }
+    let row = record_row(number, first.into());
+    put(visit, live && count > 0, row, 8, &[0, u64::MAX]);
+    put(visit, live && count > 0, row + OPCODE_AT, 2, &[0, 0x1005, 0xffff]);
+    put(visit, live && count > 0, row + COUNT_AT, 4, &[0, 5, u32::MAX.into()]);
+    put(visit, live && count > 0, row + RECORD_ROW - 8, 8, &[0, u64::MAX]);
 }
 
 fn put(visit: &mut dyn FnMut(Field), live: bool, at: usize, width: usize, values: &[u64]) {

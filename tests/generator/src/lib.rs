@@ -4,9 +4,11 @@ mod control;
 mod damage;
 mod mutate;
 mod pages;
+mod turns;
 mod work;
 
 pub use damage::{damage, fields, forget_destination, region_slots, Field};
+pub use turns::head_held;
 
 use cards::{build, Call, Reference, Rng};
 use reference::layout::*;
@@ -25,6 +27,8 @@ pub struct Generator {
     changed: u64,
     /// Whether page lists are among the calls.
     pages: bool,
+    /// How many sends in a hundred go into a queue, where a list may have queues.
+    queued: Option<u64>,
 }
 
 struct Goal {
@@ -37,12 +41,12 @@ struct Goal {
 impl Generator {
     pub fn new(seed: u64) -> Generator {
         let goal = Goal { domains: 2, queues: 3, regions: 6, pairs: 4 };
-        Generator { rng: Rng::new(seed), wr_id: 0, keys: Vec::new(), goal, changed: 25, pages: true }
+        Generator { rng: Rng::new(seed), wr_id: 0, keys: Vec::new(), goal, changed: 25, pages: true, queued: Some(0) }
     }
 
-    /// Makes no page lists, which no tape can hold.
+    /// Makes no page lists, enqueues and turns, which no tape can hold.
     pub fn for_tapes(seed: u64) -> Generator {
-        Generator { pages: false, ..Generator::new(seed) }
+        Generator { pages: false, queued: None, ..Generator::new(seed) }
     }
 
     pub fn rng(&mut self) -> &mut Rng {
@@ -62,6 +66,7 @@ impl Generator {
             },
         };
         self.changed = self.rng.pick(&[5, 20, 30, 40]);
+        self.queued = self.queued.map(|_| self.rng.pick(&[0, 10, 50, 50, 90, 100]));
         match self.rng.below(20) {
             0 => 1 + self.rng.below(64),
             1 if self.rng.percent(10) => MOST_MEMORY - self.rng.below(2),
@@ -108,6 +113,9 @@ impl Generator {
             if let Some(call) = self.set_up(card) {
                 return call;
             }
+        }
+        if let Some(call) = self.turn_or_enqueue(card) {
+            return call;
         }
         if self.rng.percent(10) {
             if let Some(call) = self.held_in_error(card) {

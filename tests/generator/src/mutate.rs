@@ -215,14 +215,22 @@ impl Generator {
             Call::Send { record, memory, .. } if self.rng.percent(50) => {
                 Call::Send { qpn: self.number(PAIRS) | self.rng.pick(&[0, 8, 256]), record, memory }
             }
-            Call::Send { qpn, record, .. } => {
-                let right = card.memory_length as usize;
-                Call::Send { qpn, record, memory: self.rng.pick(&[0, 1, right - 1, right + 1]) }
+            Call::Send { qpn, record, .. } => Call::Send { qpn, record, memory: self.other_memory(card) },
+            Call::Enqueue { record, memory, .. } if self.rng.percent(50) => {
+                Call::Enqueue { qpn: self.number(PAIRS) | self.rng.pick(&[0, 8, 256]), record, memory }
             }
+            Call::Enqueue { qpn, record, .. } => Call::Enqueue { qpn, record, memory: self.other_memory(card) },
+            Call::Turn { .. } => Call::Turn { memory: self.other_memory(card) },
             Call::Receive { record, .. } => Call::Receive { qpn: self.number(PAIRS) | self.rng.pick(&[0, 8, 256]), record },
             Call::Flush { .. } => Call::Flush { qpn: self.rng.pick(&[8, 255, 256, u32::MAX]) },
             other => other,
         }
+    }
+
+    /// A length of memory that is mostly not the card's.
+    fn other_memory(&mut self, card: &Listing) -> usize {
+        let right = card.memory_length as usize;
+        self.rng.pick(&[0, 1, right - 1, right + 1])
     }
 
     /// At both sides of what this command's ack needs, and of what another's does.

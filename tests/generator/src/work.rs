@@ -23,7 +23,7 @@ impl Generator {
     }
 
     /// `part` times in a hundred a pair in error, if there is one.
-    fn failed_pair(&mut self, card: &Listing, part: u64) -> Option<usize> {
+    pub(crate) fn failed_pair(&mut self, card: &Listing, part: u64) -> Option<usize> {
         let failed = pairs_where(card, |pair| pair.pair.state == ERROR);
         if self.rng.percent(part) {
             self.rng.choose(&failed)
@@ -41,7 +41,18 @@ impl Generator {
         Some(if self.rng.percent(70) { self.receive(card, Some(number)) } else { self.send_on(card, number) })
     }
 
-    fn send_on(&mut self, card: &Listing, number: usize) -> Call {
+    /// A direct send on this pair, now and then with another memory length; None where it should be given a receive first.
+    pub fn send_from(&mut self, card: &Listing, number: usize) -> Option<Call> {
+        match self.send_on(card, number) {
+            Call::Send { qpn, record, .. } if self.rng.percent(3) => {
+                Some(Call::Send { qpn, record, memory: card.memory_length as usize + 1 })
+            }
+            Call::Send { qpn, record, memory } => Some(Call::Send { qpn, record, memory }),
+            _ => None,
+        }
+    }
+
+    pub(crate) fn send_on(&mut self, card: &Listing, number: usize) -> Call {
         let opcode = self.rng.below(5) as u8;
         let peer = peer_of(card, number);
         let needs_receive = matches!(opcode, WRITE_IMMEDIATE | SEND | SEND_IMMEDIATE);

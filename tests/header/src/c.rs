@@ -193,6 +193,7 @@ pub struct Qp {
     pub destination: u32,
     pub access_flags: u8,
     pub waiting: u8,
+    pub queued: u8,
 }
 
 #[repr(C)]
@@ -209,6 +210,7 @@ extern "C" {
     fn wrap_size_mr() -> usize;
     fn wrap_size_qp() -> usize;
     fn wrap_peek_memory(state: *const u8, length: usize, memory: *mut u64) -> c_uint;
+    fn wrap_peek_turn(state: *const u8, length: usize, qpn: *mut u32) -> c_uint;
     fn wrap_peek_pd(state: *const u8, length: usize, pdn: u32) -> c_uint;
     fn wrap_peek_cq(state: *const u8, length: usize, cqn: u32, cq: *mut Cq) -> c_uint;
     fn wrap_peek_mr(state: *const u8, length: usize, mrn: u32, mr: *mut Mr) -> c_uint;
@@ -216,6 +218,7 @@ extern "C" {
     fn wrap_peek_qp(state: *const u8, length: usize, qpn: u32, qp: *mut Qp) -> c_uint;
     fn wrap_peek_completion(state: *const u8, length: usize, cqn: u32, index: u32, completion: *mut Completion) -> c_uint;
     fn wrap_peek_receive(state: *const u8, length: usize, qpn: u32, index: u32, receive: *mut Receive) -> c_uint;
+    fn wrap_peek_send(state: *const u8, length: usize, qpn: u32, index: u32, send: *mut Send) -> c_uint;
     static wrap_numbers: [Number; 0];
     static wrap_number_count: usize;
 }
@@ -253,6 +256,10 @@ pub fn peek_memory(state: &[u8]) -> Result<u64, u32> {
     got(|memory| unsafe { wrap_peek_memory(state.as_ptr(), state.len(), memory) })
 }
 
+pub fn peek_turn(state: &[u8]) -> Result<u32, u32> {
+    got(|qpn| unsafe { wrap_peek_turn(state.as_ptr(), state.len(), qpn) })
+}
+
 pub fn peek_pd(state: &[u8], pdn: u32) -> Result<(), u32> {
     got(|_: *mut ()| unsafe { wrap_peek_pd(state.as_ptr(), state.len(), pdn) })
 }
@@ -279,6 +286,14 @@ pub fn peek_completion(state: &[u8], cqn: u32, index: u32) -> Result<Completion,
 
 pub fn peek_receive(state: &[u8], qpn: u32, index: u32) -> Result<Receive, u32> {
     got(|receive| unsafe { wrap_peek_receive(state.as_ptr(), state.len(), qpn, index, receive) })
+}
+
+/// The queued send, and its inline bytes if it has the flag.
+pub fn peek_send(state: &[u8], qpn: u32, index: u32) -> Result<(Send, Option<Vec<u8>>), u32> {
+    let send: Send = got(|send| unsafe { wrap_peek_send(state.as_ptr(), state.len(), qpn, index, send) })?;
+    // SAFETY: the bytes are part of the state, which lives on.
+    let inline = |at: *const u8| unsafe { std::slice::from_raw_parts(at, send.count as usize) }.to_vec();
+    Ok((send, (!send.inline_bytes.is_null()).then(|| inline(send.inline_bytes))))
 }
 
 pub fn ack_need(command: &[u8]) -> usize {

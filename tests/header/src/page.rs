@@ -5,8 +5,9 @@ use std::fs;
 use std::path::Path;
 
 /// First byte, rows and bytes of a row of each table, in the page's order, by the names that numbers.txt uses.
-const TABLES: [[&str; 3]; 12] = [
+const TABLES: [[&str; 3]; 16] = [
     ["rows.MEMORY", "1", "Layout.memoryCodec.size"],
+    ["Layout.turnBase", "1", "Layout.flagCodec.size"],
     ["Layout.pdFlagBase", "Limits.pdCount", "Layout.flagCodec.size"],
     ["Layout.cqFlagBase", "Limits.cqCount", "Layout.flagCodec.size"],
     ["Layout.cqBase", "Limits.cqCount", "Layout.queueCodec.size"],
@@ -18,6 +19,9 @@ const TABLES: [[&str; 3]; 12] = [
     ["Layout.qpBase", "Limits.qpCount", "Layout.pairCodec.size"],
     ["Layout.waitingBase", "Limits.qpCount", "Layout.waitingCodec.size"],
     ["Layout.receiveBase", "Layout.receiveCount", "Records.receiveCodec.size"],
+    ["Layout.sendHeadBase", "Limits.qpCount", "Layout.waitingCodec.size"],
+    ["Layout.kindBase", "Layout.queuedCount", "Layout.kindCodec.size"],
+    ["Layout.recordBase", "Layout.queuedCount", "Limits.recordSize"],
 ];
 
 /// Compares, and gives back how many tables agree; else what differs.

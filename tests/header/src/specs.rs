@@ -2,8 +2,8 @@
 //!
 //! `Limits.pdCount` is a number of a `.antt` file (its name without the ending, then the definition's), `limits.RTS` a constant of a `.rt`
 //! file. Of a layout, `Records.sendCodec.size` is its length and `Records.sendCodec.opcode` the offset of a field. A definition by cases
-//! over a number, `cond (eqb n 7) (some (register ..))`, gives `Commands.commandOf.register` = 7. `Tape.isMark[2]` is the third literal in
-//! the text of a definition, counted from 0.
+//! over a number, `cond (eqb n 2) (some (Call.send ..))`, gives `Tape.callOf.Call.send` = 2; a row, `rowOf (register g) = record { number = 7; .. }`,
+//! `Commands.rowOf.register.number` = 7. `Tape.isMark[2]` is the third literal in the text of a definition, counted from 0.
 
 use std::collections::HashMap;
 use std::fs;
@@ -85,6 +85,7 @@ impl Specs {
             let body = tokens(&block[at + 1..].join(" "));
             self.literals(&format!("{stem}.{name}"), &body);
             self.cases(&format!("{stem}.{name}"), &body);
+            self.rows(&format!("{stem}.{name}"), name, &body);
             self.layout(stem, name, &body);
             if body.len() > 2 && body[0] == name && body[1] == "=" {
                 self.pending.push((stem.into(), name.into(), body[2..].to_vec()));
@@ -104,6 +105,20 @@ impl Specs {
             let case = body[at + 5..].iter().find(|token| !["some", "("].contains(&token.as_str()));
             if let (Some(number), ")", "(", Some(case)) = (literal(&body[at + 2]), &*body[at + 3], &*body[at + 4], case) {
                 self.add(format!("{name}.{case}"), number);
+            }
+        }
+    }
+
+    /// Clauses `NAME CASE = record { FIELD = NUMBER; .. }`, where the case may have arguments and stand in parentheses.
+    fn rows(&mut self, full: &str, name: &str, body: &[String]) {
+        for at in (0..body.len()).filter(|&at| body[at] == name) {
+            let case = body[at + 1..].iter().find(|token| *token != "(");
+            let row = body[at + 1..].iter().take_while(|token| *token != name && *token != "}").collect::<Vec<_>>();
+            let is_record = row.windows(2).any(|pair| pair[0] == "=" && pair[1] == "record");
+            for part in row.windows(3).filter(|part| is_record && part[1] == "=") {
+                if let (Some(case), Some(value)) = (case, literal(part[2])) {
+                    self.add(format!("{full}.{case}.{}", part[0]), value);
+                }
             }
         }
     }

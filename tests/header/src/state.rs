@@ -4,7 +4,8 @@ use crate::c;
 use crate::records::completion_of;
 use generator::Generator;
 use reference::layout::*;
-use reference::listing::{Listing, PairListing, QueueListing};
+use reference::listing::{Listing, PairListing, QueueListing, SendListing};
+use reference::record::{Piece, SIGNALED};
 
 const BAD_STATE: u32 = 15;
 const NOT_LIVE: u32 = 2;
@@ -43,6 +44,7 @@ fn numbers(count: usize) -> impl Iterator<Item = usize> {
 
 fn compare(state: &[u8], listing: &Listing) {
     assert_eq!(c::peek_memory(state), Ok(listing.memory_length));
+    assert_eq!(c::peek_turn(state), Ok(listing.turn as u32));
     for n in numbers(DOMAINS) {
         let live = listing.domains.get(n) == Some(&true);
         assert_eq!(c::peek_pd(state, n as u32), live.then_some(()).ok_or(NOT_LIVE), "domain {n}");
@@ -69,6 +71,7 @@ fn compare(state: &[u8], listing: &Listing) {
     }
     for n in numbers(PAIRS) {
         pair(state, n as u32, listing.pairs.get(n).and_then(Option::as_ref));
+        sends(state, n as u32, listing.pairs.get(n).and_then(Option::as_ref));
     }
 }
 
@@ -94,6 +97,7 @@ fn pair(state: &[u8], n: u32, listing: Option<&PairListing>) {
         destination: listing.pair.destination.into(),
         access_flags: listing.pair.access,
         waiting: listing.waiting.len() as u8,
+        queued: listing.queued.len() as u8,
     });
     assert_eq!(c::peek_qp(state, n), pair.ok_or(NOT_LIVE), "queue pair {n}");
     for index in [0, 1, 2, 3, 4, u32::MAX] {
@@ -115,6 +119,33 @@ fn pair(state: &[u8], n: u32, listing: Option<&PairListing>) {
     }
 }
 
+fn sends(state: &[u8], n: u32, listing: Option<&PairListing>) {
+    for index in [0, 1, 2, 3, 4, 5, 6, 7, 8, u32::MAX] {
+        let found = c::peek_send(state, n, index);
+        match listing.map(|listing| listing.queued.get(index as usize)) {
+            None => assert_eq!(found, Err(NOT_LIVE)),
+            Some(None) => assert_eq!(found, Err(NOTHING)),
+            Some(Some(queued)) => {
+                let (found, inline) = found.expect("a queued send");
+                let count = if inline.is_some() { 0 } else { found.count as usize };
+                let pieces =
+                    found.sges[..count].iter().map(|sge| Piece { address: sge.address, length: sge.length, key: sge.key });
+                let found = SendListing {
+                    wr_id: found.wr_id,
+                    opcode: found.opcode,
+                    signaled: found.flags & SIGNALED != 0,
+                    immediate: found.immediate,
+                    address: found.remote_address,
+                    key: found.remote_key,
+                    pieces: pieces.collect(),
+                    inline,
+                };
+                assert_eq!(found, *queued, "send {index} of queue pair {n}");
+            }
+        }
+    }
+}
+
 /// A length that is no state's.
 pub fn other_lengths() {
     for length in [0, 1, STATE_BYTES - 1, STATE_BYTES + 1] {
@@ -127,5 +158,7 @@ pub fn other_lengths() {
         assert_eq!(c::peek_qp(&state, 0), Err(BAD_STATE));
         assert_eq!(c::peek_completion(&state, 0, 0), Err(BAD_STATE));
         assert_eq!(c::peek_receive(&state, 0, 0), Err(BAD_STATE));
+        assert_eq!(c::peek_send(&state, 0, 0), Err(BAD_STATE));
+        assert_eq!(c::peek_turn(&state), Err(BAD_STATE));
     }
 }

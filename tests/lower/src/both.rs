@@ -58,10 +58,20 @@ impl<'a> Both<'a> {
         wanted
     }
 
-    /// The same, counted by answer and status.
+    /// Makes a call that needs no memory and no buffer on both, in the lent state itself, which must stay as it is: that is for the caller to see.
+    pub fn refused(&mut self, check: &'static str, call: &Call, state: &mut [u8]) -> Outcome {
+        let wanted = call.make(&Reference, state, &mut [], &mut []);
+        let found = call.make(self.other, state, &mut [], &mut []);
+        if found != wanted {
+            self.tally.differ(check, format!("{found:?}, reference {wanted:?}, on {call}"));
+        }
+        wanted
+    }
+
+    /// The same as `make`, counted by answer and status.
     pub fn count(&mut self, check: &'static str, call: &Call, state: &[u8], memory: &[u8]) -> Left {
         let left = self.make(check, call, state, memory);
-        let Outcome { answer, status } = left.outcome;
+        let Outcome { answer, status, .. } = left.outcome;
         let status = if status == 0 { String::new() } else { format!(" status {status}") };
         self.tally.count(check, format!("answer {answer}{status}"));
         left

@@ -4,6 +4,7 @@ use crate::both::{Both, Left};
 use crate::fixture::*;
 use cards::build::*;
 use cards::{Call, Rng};
+use reference::layout::KIND_ROWS;
 use reference::record::*;
 use reference::ACK_BYTES;
 use std::ops::Range;
@@ -12,6 +13,7 @@ use std::ops::Range;
 type Handed = fn(Vec<u8>) -> Call;
 
 const SENDS: Handed = |record| Call::Send { qpn: SENDER, record, memory: MEMORY };
+const ENQUEUES: Handed = |record| Call::Enqueue { qpn: SENDER, record, memory: MEMORY };
 const RECEIVES: Handed = |record| Call::Receive { qpn: RECEIVER, record };
 const LISTS: Handed = |record| Call::Pages { command: record, pages: vec![4096, 0], ack: ACK_BYTES };
 
@@ -19,6 +21,8 @@ const LISTS: Handed = |record| Call::Pages { command: record, pages: vec![4096, 
 struct Records<'b, 'a> {
     check: &'static str,
     hand: Handed,
+    /// Whether a turn is to run what was handed in.
+    turned: bool,
     both: &'b mut Both<'a>,
     state: Vec<u8>,
     memory: Vec<u8>,
@@ -27,6 +31,12 @@ struct Records<'b, 'a> {
 pub fn compare(both: &mut Both, rng: &mut Rng) {
     for outcome in ["0", "0 status 1", "0 status 3", "0 status 7", "0 status 8", "1", "4"] {
         both.tally.require("send record", format!("answer {outcome}"));
+    }
+    for outcome in ["0", "0 status 1", "0 status 3", "0 status 7", "0 status 8"] {
+        both.tally.require("turn of a record", format!("answer {outcome}"));
+    }
+    for answer in [0, 1, 4] {
+        both.tally.require("queued record", format!("answer {answer}"));
     }
     for answer in [0, 1, 4] {
         both.tally.require("receive record", format!("answer {answer}"));
@@ -42,9 +52,12 @@ pub fn compare(both: &mut Both, rng: &mut Rng) {
         both.tally.require("page list", format!("answer {answer}"));
     }
     let (state, memory) = (state(), memory(rng));
-    let mut records = Records { check: "send record", hand: SENDS, both, state, memory };
+    let mut records = Records { check: "send record", hand: SENDS, turned: false, both, state, memory };
     sends(&mut records, rng);
-    records = Records { check: "receive record", hand: RECEIVES, ..records };
+    records = Records { check: "queued record", hand: ENQUEUES, turned: true, ..records };
+    sends(&mut records, rng);
+    every_byte_is_kept(&mut records);
+    records = Records { check: "receive record", hand: RECEIVES, turned: false, ..records };
     receives(&mut records, rng);
     records = Records { check: "command", hand: control, ..records };
     commands(&mut records, rng);
@@ -54,8 +67,15 @@ pub fn compare(both: &mut Both, rng: &mut Rng) {
 }
 
 impl Records<'_, '_> {
+    /// What came of the record; where it was queued what came of its turn, without the places of the queues.
     fn check(&mut self, record: &[u8]) -> Left {
-        self.both.count(self.check, &(self.hand)(record.to_vec()), &self.state, &self.memory)
+        let left = self.both.count(self.check, &(self.hand)(record.to_vec()), &self.state, &self.memory);
+        if !self.turned || left.outcome.answer != 0 {
+            return left;
+        }
+        let mut left = self.both.count("turn of a record", &Call::Turn { memory: MEMORY }, &left.state, &left.memory);
+        left.state.truncate(KIND_ROWS);
+        left
     }
 
     /// The record as it is, and cut or lengthened to every length up to `most`.
@@ -182,6 +202,15 @@ fn sends(records: &mut Records, rng: &mut Rng) {
         records.check(&good_send(SEND).inline(&vec![length as u8; length]).bytes());
     }
     records.check_values(&with_pieces(WRITE, 1), &[8, 9, 560, 561, 562, 563]);
+}
+
+/// A record stands in its queue with every byte, of whatever meaning.
+fn every_byte_is_kept(records: &mut Records) {
+    records.turned = false;
+    for record in [with_pieces(WRITE, 0), with_pieces(READ, 4), good_send(SEND).inline(&[7; 512]).bytes()] {
+        let length = record.len();
+        records.check_fields(&record, &[0..length]);
+    }
 }
 
 // ---- receive records

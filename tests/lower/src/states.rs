@@ -30,9 +30,12 @@ pub fn compare(both: &mut Both, rng: &mut Rng) {
             both.tally.require(check, format!("answer {answer}"));
         }
     }
-    for (check, outcomes) in
-        [("send", &["0", "0 status 4", "2", "3", "5", "6"][..]), ("receive", &["0", "0 status 4", "2", "3", "6", "8"])]
-    {
+    for (check, outcomes) in [
+        ("send", &["0", "0 status 4", "2", "3", "5", "6", "10"][..]),
+        ("receive", &["0", "0 status 4", "2", "3", "6", "8"]),
+        ("enqueue", &["0", "2", "3", "8"]),
+        ("turn", &["0", "0 status 3", "0 status 4", "9"]),
+    ] {
         for outcome in outcomes {
             both.tally.require(check, format!("answer {outcome}"));
         }
@@ -47,7 +50,10 @@ pub fn compare(both: &mut Both, rng: &mut Rng) {
         }
     }
     full_tables(both);
-    one(both, &flush_without_a_place(), Some(&[0]));
+    full_queues(both);
+    for waiting in [0, 1] {
+        one(both, &error_without_a_place(waiting), Some(&[0]));
+    }
     lengths(both, &reached_state(rng.word(), 400));
     random(both, rng);
 }
@@ -71,10 +77,22 @@ fn every(count: usize) -> Vec<usize> {
 
 /// A poll without a buffer answers 15 where the state is not accepted, else 12, and changes nothing.
 fn accepted(both: &mut Both, state: &[u8]) {
+    let mut copy = state.to_vec();
+    accepted_in_place(both, &mut copy);
+    stays(both, &copy, state);
+}
+
+fn accepted_in_place(both: &mut Both, state: &mut [u8]) {
     let wanted = fault(state);
     both.tally.count("accepts", wanted.map_or("accepted".into(), |fault| format!("{fault:?}")));
-    let left = both.make("accepts", &Call::Poll { cqn: 0, buffer: 0 }, state, &[]);
-    assert_eq!(left.outcome.answer, if wanted.is_none() { 12 } else { 15 });
+    let outcome = both.refused("accepts", &Call::Poll { cqn: 0, buffer: 0 }, state);
+    assert_eq!(outcome.answer, if wanted.is_none() { 12 } else { 15 });
+}
+
+fn stays(both: &mut Both, found: &[u8], wanted: &[u8]) {
+    if found != wanted {
+        both.tally.differ("accepts", "a poll without a buffer changes the state");
+    }
 }
 
 /// A creation in each table takes the lowest free number, or there is none.
@@ -96,11 +114,12 @@ fn creations(both: &mut Both, state: &[u8], card: &Listing) {
     }
 }
 
-/// Every object, and the number past each table, destroyed, polled, flushed and given a send and a receive of no bytes; of regions those of
-/// the given slots.
+/// Every object, and the number past each table, destroyed, polled, flushed and given a send, posted and queued, and a receive of no bytes; and a
+/// turn. Of regions those of the given slots.
 fn each_object(both: &mut Both, state: &[u8], slots: &[usize]) {
     let memory = vec![0; get64(state, MEMORY_LENGTH) as usize];
     let (send, receive) = (Send::new(1, SEND_IMMEDIATE).immediate(2).bytes(), receive(3, &[piece(4, 5, 6)]));
+    both.count("turn", &Call::Turn { memory: memory.len() }, state, &memory);
     for &slot in slots {
         both.count("destroy", &control(deregister(slot as u32)), state, &[]);
     }
@@ -111,6 +130,7 @@ fn each_object(both: &mut Both, state: &[u8], slots: &[usize]) {
         both.count("poll", &Call::Poll { cqn: number, buffer: COMPLETION_BYTES + 1 }, state, &[]);
         both.count("flush", &Call::Flush { qpn: number }, state, &[]);
         both.count("send", &Call::Send { qpn: number, record: send.clone(), memory: memory.len() }, state, &memory);
+        both.count("enqueue", &Call::Enqueue { qpn: number, record: send.clone(), memory: memory.len() }, state, &memory);
         both.count("receive", &Call::Receive { qpn: number, record: receive.clone() }, state, &[]);
     }
 }
@@ -121,9 +141,10 @@ fn each_field(both: &mut Both, state: &[u8], slots: &[usize]) {
     fields(state, slots, &mut |field| {
         for &value in field.values {
             field.set(&mut copy, value);
-            accepted(both, &copy);
+            accepted_in_place(both, &mut copy);
         }
         copy[field.at..field.at + field.width].copy_from_slice(&state[field.at..field.at + field.width]);
+        stays(both, &copy, state);
     });
 }
 
@@ -166,20 +187,57 @@ fn with_live(table: usize, live: &[bool]) -> Vec<u8> {
     state
 }
 
-/// A pair in error with a receive waiting, and no place for its completion.
-fn flush_without_a_place() -> Vec<u8> {
+/// Queues of 0 to 8 sends in states 3 and 6, from each place of their rings on, by the turn place; and every byte of the header, of the heads, of the
+/// kinds and of the records damaged.
+fn full_queues(both: &mut Both) {
+    for count in 0..=MOST_QUEUED as u8 {
+        for first in 0..MOST_QUEUED as u8 {
+            let mut state = with_live(3, &[true; PAIRS]);
+            for n in 0..PAIRS {
+                state[pair_row(n) + PAIR_STATE] = if n % 3 == 2 { ERROR } else { READY_TO_SEND };
+                state[pair_row(n) + PAIR_DESTINATION] = n as u8 ^ 1;
+                state[sends_row(n) + SENDS_FIRST] = first;
+                state[sends_row(n) + SENDS_COUNT] = count.saturating_sub(n as u8 % 3);
+            }
+            state[TURN] = first;
+            one(both, &state, Some(&[0]));
+            if matches!((first, count), (6, 5) | (3, 8)) {
+                every_byte(both, &state);
+            }
+        }
+    }
+}
+
+/// The state test with each byte of the new tables changed, the others as they are.
+fn every_byte(both: &mut Both, state: &[u8]) {
+    let mut copy = state.to_vec();
+    for at in (TURN..DOMAIN_FLAGS).chain(SENDS_ROWS..STATE_BYTES) {
+        let values: &[u8] = if at < RECORD_ROWS { &[0, 1, 2, 4, 5, 7, 8, 9, 15, 16, 24, 128, 255] } else { &[0, 255] };
+        for &value in values {
+            copy[at] = value;
+            accepted_in_place(both, &mut copy);
+        }
+        copy[at] = state[at];
+    }
+    stays(both, &copy, state);
+}
+
+/// A pair in error with this many receives waiting, and no place for a completion.
+fn error_without_a_place(waiting: u8) -> Vec<u8> {
     let mut state = with_live(3, &[true]);
     state[pair_row(0) + PAIR_STATE] = ERROR;
-    state[waiting_row(0) + WAITING_COUNT] = 1;
+    state[waiting_row(0) + WAITING_COUNT] = waiting;
     state[queue_row(0) + QUEUE_COUNT] = 1;
     state
 }
 
 fn lengths(both: &mut Both, state: &[u8]) {
     let longer = [state, &[0; 64]].concat();
+    let mut copy = longer.clone();
     for length in 0..=longer.len() {
-        accepted(both, &longer[..length]);
+        accepted_in_place(both, &mut copy[..length]);
     }
+    stays(both, &copy, &longer);
 }
 
 fn random(both: &mut Both, rng: &mut Rng) {

@@ -1,6 +1,7 @@
-//! Plays the named cases, the checks of lent states and the comparison on wrong cards; each must be found out.
+//! Plays the named cases, the checks of lent states, turns and domains, and the comparison on wrong cards; each must be found out.
 //!
 //! usage: mutants               each card up to what finds it out first, in that order
+//!        mutants --compare     each card through the comparison alone: those that it does not find out
 //!        mutants --all [TEXT]  each card, or those with the text in their names, through all: what fails, and after how many calls
 //!        mutants --trace FILE  whether what the lines of docs/TRACE.md name fails on the cards that break them
 
@@ -14,7 +15,7 @@ const CALLS: u64 = 200_000;
 
 include!(concat!(env!("OUT_DIR"), "/all.rs"));
 
-/// A named case, or a check of lent lengths and states.
+/// A named case, or a check.
 struct Named {
     name: String,
     passes: Box<dyn Fn(&dyn Card) -> bool>,
@@ -25,7 +26,8 @@ impl Named {
         let cases = cases::all().into_iter();
         let cases =
             cases.map(|case| Named { name: case.name.clone(), passes: Box::new(move |card| cases::run(&case, card).is_ok()) });
-        let checks = cases::lent::CHECKS.into_iter().map(|(name, check)| Named {
+        let domains = ("a_domain_decides_alone", differential::domains::a_domain_decides_alone as fn(&dyn Card));
+        let checks = cases::lent::CHECKS.into_iter().chain([domains]).map(|(name, check)| Named {
             name: name.into(),
             passes: Box::new(move |card| {
                 check(card);
@@ -48,11 +50,12 @@ fn main() -> ExitCode {
     let words: Vec<&str> = words.iter().map(String::as_str).collect();
     let faults = match words[..] {
         [] => first(&Named::all()),
+        ["--compare"] => compare(),
         ["--all"] => all(&Named::all(), ""),
         ["--all", text] => all(&Named::all(), text),
         ["--trace", file] => trace::check(file, &Named::all()),
         _ => {
-            eprintln!("usage: mutants [--all [TEXT] | --trace FILE]");
+            eprintln!("usage: mutants [--compare | --all [TEXT] | --trace FILE]");
             return ExitCode::from(2);
         }
     };
@@ -75,6 +78,14 @@ fn first(named: &[Named]) -> usize {
     }
     println!("{} wrong cards, {survivors} not found", ALL.len());
     survivors
+}
+
+/// Through the comparison alone; gives back no fault, since others find out what it does not.
+fn compare() -> usize {
+    let missed: Vec<&str> = ALL.iter().filter(|(card, _)| compared(*card).is_none()).map(|(card, _)| card.name()).collect();
+    missed.iter().for_each(|name| println!("{name}"));
+    println!("{} wrong cards, {} not found by {CALLS} calls", ALL.len(), missed.len());
+    0
 }
 
 /// Through everything; gives back how many the comparison does not find out.

@@ -1,12 +1,14 @@
 //! The test of answer 15.
 
 use crate::layout::*;
+use crate::record::{Kind, FENCE, INLINE, READ, SIGNALED, SOLICITED};
 
 /// Why a lent state is not accepted.
 #[derive(Clone, Copy, Debug, PartialEq, Eq, Hash, PartialOrd, Ord)]
 pub enum Fault {
     StateLength,
     MemoryLength,
+    TurnPlace,
     DomainFlag,
     QueueFlag,
     QueuePlaces,
@@ -39,12 +41,21 @@ pub enum Fault {
     WaitingFirst,
     WaitingCount,
     ReceivePieces,
+    SendsFirst,
+    SendsCount,
+    SendsState,
+    QueuedOpcode,
+    QueuedFlags,
+    QueuedInlineRead,
+    QueuedInlineLength,
+    QueuedPieces,
 }
 
 impl Fault {
-    pub const ALL: [Fault; 34] = [
+    pub const ALL: [Fault; 43] = [
         Fault::StateLength,
         Fault::MemoryLength,
+        Fault::TurnPlace,
         Fault::DomainFlag,
         Fault::QueueFlag,
         Fault::QueuePlaces,
@@ -77,6 +88,14 @@ impl Fault {
         Fault::WaitingFirst,
         Fault::WaitingCount,
         Fault::ReceivePieces,
+        Fault::SendsFirst,
+        Fault::SendsCount,
+        Fault::SendsState,
+        Fault::QueuedOpcode,
+        Fault::QueuedFlags,
+        Fault::QueuedInlineRead,
+        Fault::QueuedInlineLength,
+        Fault::QueuedPieces,
     ];
 }
 
@@ -98,6 +117,7 @@ pub fn fault(state: &[u8]) -> Option<Fault> {
 pub fn check(state: &State) -> Result<(), Fault> {
     let memory = get64(state, MEMORY_LENGTH);
     ensure((1..=MOST_MEMORY).contains(&memory), Fault::MemoryLength)?;
+    ensure(usize::from(state[TURN]) < PAIRS, Fault::TurnPlace)?;
     flags(state, DOMAIN_FLAGS, DOMAINS, Fault::DomainFlag)?;
     for number in live(flags(state, QUEUE_FLAGS, QUEUES, Fault::QueueFlag)?) {
         check_queue(state, number)?;
@@ -195,7 +215,8 @@ fn check_pair(state: &State, number: usize) -> Result<(), Fault> {
     ensure(destination <= NO_DESTINATION, Fault::PairDestination)?;
     ensure(usize::from(destination) != number, Fault::PairNamesItself)?;
     ensure(access_flags_ok(state[row + PAIR_ACCESS].into()), Fault::PairAccess)?;
-    check_waiting(state, number)
+    check_waiting(state, number)?;
+    check_sends(state, number, phase)
 }
 
 fn check_waiting(state: &State, number: usize) -> Result<(), Fault> {
@@ -208,6 +229,31 @@ fn check_waiting(state: &State, number: usize) -> Result<(), Fault> {
         ensure(get32(state, receive + RECEIVE_COUNT) as usize <= MOST_RECEIVE_PIECES, Fault::ReceivePieces)?;
     }
     Ok(())
+}
+
+/// The queue of a pair in this state.
+fn check_sends(state: &State, number: usize, phase: u8) -> Result<(), Fault> {
+    let row = sends_row(number);
+    let (first, count) = (state[row + SENDS_FIRST], state[row + SENDS_COUNT]);
+    ensure(usize::from(first) < MOST_QUEUED, Fault::SendsFirst)?;
+    ensure(usize::from(count) <= MOST_QUEUED, Fault::SendsCount)?;
+    ensure(count == 0 || matches!(phase, READY_TO_SEND | ERROR), Fault::SendsState)?;
+    for queued in 0..count {
+        check_kind(&Kind::read(state, kind_row(number, usize::from(first + queued))))?;
+    }
+    Ok(())
+}
+
+/// What post send asks of a record but for its length, which its kind gives.
+fn check_kind(kind: &Kind) -> Result<(), Fault> {
+    ensure(kind.opcode <= READ, Fault::QueuedOpcode)?;
+    ensure(kind.flags <= FENCE | SIGNALED | SOLICITED | INLINE, Fault::QueuedFlags)?;
+    if kind.is_inline() {
+        ensure(kind.opcode != READ, Fault::QueuedInlineRead)?;
+        ensure(kind.count <= MOST_INLINE, Fault::QueuedInlineLength)
+    } else {
+        ensure(kind.count <= MOST_PIECES, Fault::QueuedPieces)
+    }
 }
 
 fn live_domain(state: &State, number: u8) -> bool {

@@ -3,7 +3,7 @@
 use crate::accept;
 use crate::answer::Refusal;
 use crate::layout::*;
-use crate::record::{Completion, Piece, ReceiveRecord};
+use crate::record::{Completion, Kind, Piece, ReceiveRecord};
 
 /// An accepted state. Every number that an object names is in its table.
 pub struct Card<'a> {
@@ -252,10 +252,11 @@ impl<'a> Card<'a> {
         self.bytes[row + PAIR_ZERO] = 0;
     }
 
-    /// Makes a live pair without waiting receives.
+    /// Makes a live pair without waiting receives and queued sends.
     pub fn create_pair(&mut self, number: usize, pair: &Pair) {
         self.set_pair(number, pair);
         self.set_waiting(number, 0, 0);
+        self.set_sends(number, 0, 0);
         self.bytes[PAIR_FLAGS + number] = 1;
     }
 
@@ -328,6 +329,60 @@ impl<'a> Card<'a> {
     pub fn drop_receives(&mut self, number: usize) {
         let (first, _) = self.waiting_head(number);
         self.set_waiting(number, first, 0);
+    }
+
+    // ---- queued sends
+
+    /// The pair that the next turn visits first.
+    pub fn turn(&self) -> usize {
+        self.bytes[TURN].into()
+    }
+
+    pub fn set_turn(&mut self, number: usize) {
+        self.bytes[TURN] = number as u8;
+    }
+
+    /// First place and count.
+    fn sends_head(&self, number: usize) -> (u8, u8) {
+        let row = sends_row(number);
+        (self.bytes[row + SENDS_FIRST], self.bytes[row + SENDS_COUNT])
+    }
+
+    fn set_sends(&mut self, number: usize, first: u8, count: u8) {
+        let row = sends_row(number);
+        self.bytes[row + SENDS_FIRST] = first;
+        self.bytes[row + SENDS_COUNT] = count;
+    }
+
+    pub fn queued(&self, number: usize) -> usize {
+        self.sends_head(number).1.into()
+    }
+
+    /// Queued send `index`, the oldest first: its kind, and its record.
+    pub fn queued_send(&self, number: usize, index: usize) -> (Kind, &[u8; RECORD_ROW]) {
+        let place = usize::from(self.sends_head(number).0) + index;
+        let row = record_row(number, place);
+        (Kind::read(self.bytes, kind_row(number, place)), self.bytes[row..row + RECORD_ROW].try_into().unwrap())
+    }
+
+    /// Fewer than eight sends are queued.
+    pub fn put_send(&mut self, number: usize, kind: Kind, record: &[u8]) {
+        let (first, count) = self.sends_head(number);
+        let place = usize::from(first + count);
+        kind.write(self.bytes, kind_row(number, place));
+        self.bytes[record_row(number, place)..][..record.len()].copy_from_slice(record);
+        self.set_sends(number, first, count + 1);
+    }
+
+    /// A send is queued.
+    pub fn drop_send(&mut self, number: usize) {
+        let (first, count) = self.sends_head(number);
+        self.set_sends(number, (first + 1) % MOST_QUEUED as u8, count - 1);
+    }
+
+    pub fn drop_sends(&mut self, number: usize) {
+        let (first, _) = self.sends_head(number);
+        self.set_sends(number, first, 0);
     }
 }
 

@@ -200,6 +200,7 @@ fn modify_pair(
         (_, RESET) => {
             card.set_destination(number, NO_DESTINATION);
             card.drop_receives(number);
+            card.drop_sends(number);
         }
         (INIT, READY_TO_RECEIVE) => card.set_destination(number, destination as u8),
         (_, ERROR) | (RESET, INIT) | (READY_TO_RECEIVE, READY_TO_SEND) => {}

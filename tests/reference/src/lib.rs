@@ -12,6 +12,7 @@ pub mod queues;
 pub mod record;
 pub mod replay;
 pub mod send;
+pub mod turns;
 
 pub use accept::{accepts, fault, Fault};
 pub use answer::{Outcome, Refusal, Status};
@@ -20,3 +21,4 @@ pub use control::{ack_need, control, ACK_BYTES};
 pub use pages::register_pages;
 pub use queues::{flush, poll, post_receive, reset};
 pub use send::post_send;
+pub use turns::{enqueue, turn};

@@ -3,12 +3,14 @@
 use crate::accept::pages_needed;
 use crate::card::{Card, Pair, Region};
 use crate::layout::*;
-use crate::record::{Completion, Piece};
+use crate::record::{Completion, Local, Piece, SendRecord, SIGNALED};
 use std::fmt::Debug;
 
 #[derive(Clone, Debug, PartialEq, Eq)]
 pub struct Listing {
     pub memory_length: u64,
+    /// The pair that the next turn visits first.
+    pub turn: usize,
     pub domains: Vec<bool>,
     pub queues: Vec<Option<QueueListing>>,
     pub variants: Vec<u8>,
@@ -28,12 +30,42 @@ pub struct QueueListing {
 pub struct PairListing {
     pub pair: Pair,
     pub waiting: Vec<ReceiveListing>,
+    pub queued: Vec<SendListing>,
 }
 
 #[derive(Clone, Debug, PartialEq, Eq)]
 pub struct ReceiveListing {
     pub wr_id: u64,
     pub pieces: Vec<Piece>,
+}
+
+/// A queued send: either its inline bytes or its pieces.
+#[derive(Clone, Debug, PartialEq, Eq)]
+pub struct SendListing {
+    pub wr_id: u64,
+    pub opcode: u8,
+    pub signaled: bool,
+    pub immediate: u32,
+    pub address: u64,
+    pub key: u32,
+    pub inline: Option<Vec<u8>>,
+    pub pieces: Vec<Piece>,
+}
+
+impl SendListing {
+    fn of(send: SendRecord) -> SendListing {
+        let (inline, pieces) = match send.local {
+            Local::Inline(bytes) => (Some(bytes.to_vec()), vec![]),
+            Local::Pieces { pieces, count } => (None, pieces[..count].to_vec()),
+        };
+        let SendRecord { wr_id, opcode, immediate, address, key, .. } = send;
+        SendListing { wr_id, opcode, signaled: send.flags & SIGNALED != 0, immediate, address, key, inline, pieces }
+    }
+
+    /// Opcodes 1, 2 and 3 use up one of the peer's receives.
+    pub fn takes_receive(&self) -> bool {
+        (1..=3).contains(&self.opcode)
+    }
 }
 
 impl Listing {
@@ -43,6 +75,7 @@ impl Listing {
         let card = Card::open(&mut copy).ok()?;
         Some(Listing {
             memory_length: card.memory_length(),
+            turn: card.turn(),
             domains: (0..DOMAINS).map(|n| card.domain(n as u32).is_ok()).collect(),
             queues: (0..QUEUES).map(|n| queue(&card, n)).collect(),
             variants: (0..REGIONS).map(|n| card.region(n).variant).collect(),
@@ -55,6 +88,7 @@ impl Listing {
     /// The first object that the other listing has otherwise.
     pub fn difference(&self, other: &Listing) -> Option<String> {
         differing("memory length", &[self.memory_length], &[other.memory_length])
+            .or_else(|| differing("turn place", &[self.turn], &[other.turn]))
             .or_else(|| differing("domain", &self.domains, &other.domains))
             .or_else(|| differing("queue", &self.queues, &other.queues))
             .or_else(|| differing("variant", &self.variants, &other.variants))
@@ -90,5 +124,13 @@ fn pair(card: &Card, number: usize) -> Option<PairListing> {
         let receive = card.receive(number, index);
         ReceiveListing { wr_id: receive.wr_id, pieces: receive.pieces().to_vec() }
     };
-    Some(PairListing { pair: card.pair(number), waiting: (0..card.waiting(number)).map(receive).collect() })
+    let send = |index| {
+        let (kind, record) = card.queued_send(number, index);
+        SendListing::of(SendRecord::of(kind, record))
+    };
+    Some(PairListing {
+        pair: card.pair(number),
+        waiting: (0..card.waiting(number)).map(receive).collect(),
+        queued: (0..card.queued(number)).map(send).collect(),
+    })
 }

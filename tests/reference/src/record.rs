@@ -9,6 +9,10 @@ pub const REGISTER: u8 = 7;
 pub const SEND_BYTES: usize = 576;
 pub const RECEIVE_BYTES: usize = 24;
 pub const PIECE_BYTES: usize = 16;
+pub const OPCODE_AT: usize = 8;
+pub const FLAGS_AT: usize = 9;
+pub const ADDRESS_AT: usize = 16;
+pub const KEY_AT: usize = 24;
 pub const INLINE_AT: usize = 48;
 pub const COUNT_AT: usize = 560;
 
@@ -48,6 +52,32 @@ pub fn total(pieces: &[Piece]) -> u64 {
     pieces.iter().map(|piece| u64::from(piece.length)).sum()
 }
 
+/// What decides how a send record is read: its opcode, its flags, and how many pieces or inline bytes it has.
+#[derive(Clone, Copy, Debug, PartialEq, Eq)]
+pub struct Kind {
+    pub opcode: u8,
+    pub flags: u8,
+    pub count: usize,
+}
+
+impl Kind {
+    /// As it stands beside a queued record.
+    pub fn read(bytes: &[u8], at: usize) -> Kind {
+        let count = get16(bytes, at + KIND_COUNT).into();
+        Kind { opcode: bytes[at + KIND_OPCODE], flags: bytes[at + KIND_FLAGS], count }
+    }
+
+    pub fn write(&self, bytes: &mut [u8], at: usize) {
+        bytes[at + KIND_OPCODE] = self.opcode;
+        bytes[at + KIND_FLAGS] = self.flags;
+        put16(bytes, at + KIND_COUNT, self.count as u16);
+    }
+
+    pub fn is_inline(&self) -> bool {
+        self.flags & INLINE != 0
+    }
+}
+
 /// The local side of a work request.
 #[derive(Clone, Copy, Debug)]
 pub enum Local<'a> {
@@ -71,20 +101,33 @@ impl<'a> SendRecord<'a> {
         if record.len() < SEND_BYTES {
             return Err(Refusal::RecordLength);
         }
-        let (opcode, flags) = (record[8], record[9]);
+        let (opcode, flags) = (record[OPCODE_AT], record[FLAGS_AT]);
         if opcode > READ || flags > FENCE | SIGNALED | SOLICITED | INLINE {
             return Err(Refusal::BadField);
         }
-        let local = if flags & INLINE != 0 { read_inline(record, opcode)? } else { read_pieces(record)? };
-        Ok(SendRecord {
+        let count = if flags & INLINE != 0 { inline_length(record, opcode)? } else { piece_count(record)? };
+        Ok(SendRecord::of(Kind { opcode, flags, count }, record))
+    }
+
+    /// A record of a kind that has passed the tests.
+    pub fn of(kind: Kind, record: &'a [u8]) -> SendRecord<'a> {
+        SendRecord {
             wr_id: get64(record, 0),
-            opcode,
-            flags,
+            opcode: kind.opcode,
+            flags: kind.flags,
             immediate: get32(record, 12),
-            address: get64(record, 16),
-            key: get32(record, 24),
-            local,
-        })
+            address: get64(record, ADDRESS_AT),
+            key: get32(record, KEY_AT),
+            local: if kind.is_inline() { inline_bytes(record, kind.count) } else { pieces(record, kind.count) },
+        }
+    }
+
+    pub fn kind(&self) -> Kind {
+        let count = match self.local {
+            Local::Inline(bytes) => bytes.len(),
+            Local::Pieces { count, .. } => count,
+        };
+        Kind { opcode: self.opcode, flags: self.flags, count }
     }
 
     pub fn total(&self) -> u64 {
@@ -100,7 +143,7 @@ impl<'a> SendRecord<'a> {
     }
 }
 
-fn read_inline(record: &[u8], opcode: u8) -> Result<Local<'_>, Refusal> {
+fn inline_length(record: &[u8], opcode: u8) -> Result<usize, Refusal> {
     let length = usize::from(get16(record, COUNT_AT));
     if opcode == READ || length > MOST_INLINE {
         return Err(Refusal::BadField);
@@ -108,10 +151,14 @@ fn read_inline(record: &[u8], opcode: u8) -> Result<Local<'_>, Refusal> {
     if record.len() != SEND_BYTES {
         return Err(Refusal::RecordLength);
     }
-    Ok(Local::Inline(&record[INLINE_AT..INLINE_AT + length]))
+    Ok(length)
 }
 
-fn read_pieces(record: &[u8]) -> Result<Local<'_>, Refusal> {
+fn inline_bytes(record: &[u8], length: usize) -> Local<'_> {
+    Local::Inline(&record[INLINE_AT..INLINE_AT + length])
+}
+
+fn piece_count(record: &[u8]) -> Result<usize, Refusal> {
     let count = get32(record, COUNT_AT) as usize;
     if count > MOST_PIECES {
         return Err(Refusal::BadField);
@@ -119,11 +166,15 @@ fn read_pieces(record: &[u8]) -> Result<Local<'_>, Refusal> {
     if record.len() != SEND_BYTES + count * PIECE_BYTES {
         return Err(Refusal::RecordLength);
     }
+    Ok(count)
+}
+
+fn pieces(record: &[u8], count: usize) -> Local<'_> {
     let mut pieces = [Piece::default(); MOST_PIECES];
     for (n, piece) in pieces[..count].iter_mut().enumerate() {
         *piece = Piece::read(record, SEND_BYTES + n * PIECE_BYTES);
     }
-    Ok(Local::Pieces { pieces, count })
+    Local::Pieces { pieces, count }
 }
 
 /// A receive as posted and as it waits.

@@ -1,4 +1,4 @@
-//! Post send: the tests, the delivery and its completions.
+//! Post send: the tests, and what a turn shares with it, the delivery and its completions.
 
 use crate::answer::{Outcome, Refusal, Status};
 use crate::card::{Card, Pair};
@@ -53,24 +53,39 @@ fn try_post_send(state: &mut [u8], memory: &mut [u8], qpn: u32, record: &[u8]) -
         return Err(Refusal::MemoryLength);
     }
     let record = SendRecord::read(record)?;
-    let sender = card.pair_number(qpn)?;
-    let sender_pair = card.pair(sender);
-    match sender_pair.state {
-        READY_TO_SEND => {}
-        ERROR => return flush_at_once(&mut card, sender, &sender_pair, &record),
-        _ => return Err(Refusal::WrongState),
+    let sender = sending_pair(&card, qpn)?;
+    if card.queued(sender) > 0 {
+        return Err(Refusal::InUse);
     }
-    let peer = ready_peer(&card, sender, &sender_pair, record.takes_receive())?;
+    run(&mut card, memory, sender, record)
+}
+
+/// A live pair that takes sends: ready, or in error.
+pub fn sending_pair(card: &Card, qpn: u32) -> Result<usize, Refusal> {
+    let sender = card.pair_number(qpn)?;
+    match card.pair(sender).state {
+        READY_TO_SEND | ERROR => Ok(sender),
+        _ => Err(Refusal::WrongState),
+    }
+}
+
+/// Runs a request of such a pair to its end, or holds it and changes nothing.
+pub fn run(card: &mut Card, memory: &mut [u8], sender: usize, record: SendRecord) -> Result<Status, Refusal> {
+    let sender_pair = card.pair(sender);
+    if sender_pair.state == ERROR {
+        return flush_at_once(card, sender, &sender_pair, &record);
+    }
+    let peer = ready_peer(card, sender, &sender_pair, record.takes_receive())?;
     let request = Request { record, sender, sender_pair, peer, peer_pair: card.pair(peer) };
-    need_places(&card, &request)?;
-    let status = request.deliver(&mut card, memory);
+    need_places(card, &request)?;
+    let status = request.deliver(card, memory);
     if status != Status::Success {
         card.set_pair_state(sender, ERROR);
     }
     Ok(status)
 }
 
-/// A request posted in error: it asks for one place and completes there, whatever its peer, its keys and its length are.
+/// A request of a pair in error: it asks for one place and completes there, whatever its peer, its keys and its length are.
 fn flush_at_once(card: &mut Card, sender: usize, pair: &Pair, record: &SendRecord) -> Result<Status, Refusal> {
     if card.free_places(pair.send_queue.into()) == 0 {
         return Err(Refusal::NoPlace);

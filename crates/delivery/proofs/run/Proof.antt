@@ -6,7 +6,7 @@ use Prim.Native.Nat.{ℕ}
 use denote.Ref.{now}
 use lib.ListN.{length, getD, take}
 use Rattle.tables.specs.Records.{noSge}
-use Rattle.rules.specs.Touch.{Request}
+use Rattle.tables.specs.Records.{Request}
 use Rattle.dma.proofs.SgeLaws.{alone}
 use Rattle.delivery.specs.Deliver.{isSingle}
 use Rattle.delivery.specs.Meet.{holding}

@@ -1,10 +1,10 @@
 use mathlib.Core.Path.{sym, _∙_}
 use denote.Ref.{now}
 use borrow.Author.Tests.{not-true, not-false}
-use Rattle.rules.specs.Touch.{Request}
+use Rattle.tables.specs.Records.{Request}
 use Rattle.delivery.specs.Meet.{Sender}
 use Rattle.delivery.specs.Run.{requestBy}
-use Rattle.engine.proofs.DirectLaws.{no-pair, not-live, not-ready, run-on, flush-on}
+use Rattle.engine.proofs.DirectLaws.{no-pair, not-live, not-ready, sends, has-queue, run-on}
 use borrow.Author.Needs.{needs}
 use Rattle.engine.proofs.send.direct.Statement.{statement}
 use Rattle.engine.proofs.send.direct.Tie as tie
@@ -45,19 +45,16 @@ returns-2 c =
 load-qp-requires : tie.Need-load-qp-requires
 load-qp-requires c κs = search needs
 
-flush-requires : tie.Need-flush-requires
-flush-requires c κs = (its (c .before .before .before), c .before .if3 .taken)
+direct-error-requires : tie.Need-direct-error-requires
+direct-error-requires c κs = (its (c .before .before .before), c .before .if3 .taken)
 
 same-length-2 : tie.Need-same-length-2
 same-length-2 c = search needs
 
 returns-3 : tie.Need-returns-3
 returns-3 c =
-    let k = c .before .before .before .before .before .before in
-    let b = k .before .before .before .before .before .before .before .before .before in
-    let y = its k in
-    flush-on (now (b .args .state)) (b .args .qpn) (asked b) (now (b .args .memory)) (y .below) (y .live) _ (y .row) (c .before .before .before .before .if3 .taken) _ _ _
-    (c .before .before .flush .ensures (b .args .sges) (now (b .args .inline)) (now (b .args .memory)))
+    let b = c .before .before .before .before .before .before .before .before .before .before .before .before .before .before .before in
+    c .before .before .direct-error .ensures (b .args .sges) (now (b .args .inline)) (now (b .args .memory))
 
 same-length-3 : tie.Need-same-length-3
 same-length-3 c = search needs
@@ -69,25 +66,42 @@ returns-4 c =
     let y = its k in
     not-ready (now (b .args .state)) (b .args .qpn) (asked b) (now (b .args .memory)) (y .below) (y .live) _ (y .row) (c .before .before .if3 .left) (c .if4 .taken)
 
-run-requires : tie.Need-run-requires
-run-requires c κs =
-    let k = c .before .before .before .before .before .before in
-    let b = k .before .before .before .before .before .before .before .before .before in
-    ((b .pre .0, its k, c .before .before .before .before .if3 .left), b .pre .1)
+is-queued-requires : tie.Need-is-queued-requires
+is-queued-requires c κs = let y = its (c .before .before .before .before .before) in (y .below, y .size)
 
 same-length-4 : tie.Need-same-length-4
 same-length-4 c = search needs
 
+returns-5 : tie.Need-returns-5
+returns-5 c =
+    let k = c .before .before .before .before .before .before .before in
+    let b = k .before .before .before .before .before .before .before .before .before in
+    let y = its k in
+    has-queue (now (b .args .state)) (b .args .qpn) (asked b) (now (b .args .memory)) (y .below) (y .live) _ (y .row)
+    (sends (now (b .args .state)) (b .args .qpn) (asked b) (now (b .args .memory)) (y .below) (y .live) _ (y .row) (c .before .before .before .if4 .left)) _
+    (c .before .is-queued .ensures) (c .if5 .taken)
+
+run-requires : tie.Need-run-requires
+run-requires c κs =
+    let k = c .before .before .before .before .before .before .before .before .before in
+    let b = k .before .before .before .before .before .before .before .before .before in
+    ((b .pre .0, its k, c .before .before .before .before .before .before .before .if3 .left), b .pre .1)
+
 same-length-5 : tie.Need-same-length-5
 same-length-5 c = search needs
 
-returns-5 : tie.Need-returns-5
-returns-5 c =
-    let k = c .before .before .before .before .before .before .before .before .before .before .before in
+same-length-6 : tie.Need-same-length-6
+same-length-6 c = search needs
+
+returns-6 : tie.Need-returns-6
+returns-6 c =
+    let k = c .before .before .before .before .before .before .before .before .before .before .before .before .before .before in
     let b = k .before .before .before .before .before .before .before .before .before in
+    let e = c .before .before .before .before .before .before .before in
     let y = its k in
-    run-on (now (b .args .state)) (b .args .qpn) (asked b) (now (b .args .memory)) (y .below) (y .live) _ (y .row) (c .before .before .before .before .before .before .before .if4 .left) _ _ _
-    (c .before .before .before .before .run .ensures)
+    run-on (now (b .args .state)) (b .args .qpn) (asked b) (now (b .args .memory)) (y .below) (y .live) _ (y .row)
+    (sends (now (b .args .state)) (b .args .qpn) (asked b) (now (b .args .memory)) (y .below) (y .live) _ (y .row) (c .before .before .before .before .before .before .before .before .before .before .if4 .left)) _
+    (e .before .is-queued .ensures) (e .if5 .left) _ _ _ (c .before .before .before .before .run .ensures)
 
 pub direct-spec : {M : Type 1} → statement M
 direct-spec =
@@ -98,12 +112,15 @@ direct-spec =
     same-length
     returns-2
     load-qp-requires
-    flush-requires
+    direct-error-requires
     same-length-2
     returns-3
     same-length-3
     returns-4
-    run-requires
+    is-queued-requires
     same-length-4
+    returns-5
+    run-requires
     same-length-5
-    returns-5)
+    same-length-6
+    returns-6)

@@ -1,8 +1,9 @@
 use denote.Ref.{now}
 use borrow.Author.Tests.{not-true, not-false}
-use mathlib.Core.Path.{_≡_, sym, _∙_}
+use mathlib.Core.Path.{_≡_, sym, ap, _∙_}
 use Rattle.wire.specs.Table.{rowAt}
 use Rattle.tables.specs.Layout.{qpFlagT}
+use Rattle.tables.specs.declared.QueuePair.{QueuePair}
 use Rattle.validate.proofs.TestLaws.{qp-off, qp-flag, qp-rest}
 use borrow.Author.Needs.{needs}
 use Rattle.validate.proofs.accept.qp_ok.Statement.{statement}
@@ -14,6 +15,7 @@ use Rattle.tables.proofs.rows.load_qp_flag.Reads as load-qp-flag-reads
 use Rattle.validate.proofs.accept.names_ok.Reads as names-ok-reads
 use Rattle.validate.proofs.accept.pair_ok.Reads as pair-ok-reads
 use Rattle.validate.proofs.accept.waiting_ok.Reads as waiting-ok-reads
+use Rattle.validate.proofs.sends.sends_ok.Reads as sends-ok-reads
 
 load-qp-flag-requires : tie.Need-load-qp-flag-requires
 load-qp-flag-requires c κs = search needs
@@ -53,9 +55,18 @@ waiting-ok-requires c κs = search needs
 
 returns-5 : tie.Need-returns-5
 returns-5 c =
-    let a = c .before .before .before .before .before .before .before .before .before .before .args in
-    let f : rowAt qpFlagT (now (a .state)) (a .n) ≡ 1 = rw (c .before .before .before .before .before .before .before .before .load-qp-flag .ensures) at (c .before .before .before .before .before .before .if2 .left) in
-    rw (qp-rest (now (a .state)) (a .n) f, ← c .before .before .before .before .before .load-qp .ensures, sym (c .before .before .before .before .names-ok .ensures) ∙ not-false _ (c .before .before .before .if3 .left), sym (c .before .before .pair-ok .ensures) ∙ not-false _ (c .before .if4 .left)) (c .waiting-ok .ensures)
+    let a = c .before .before .before .before .before .before .before .before .before .before .before .args in
+    let f : rowAt qpFlagT (now (a .state)) (a .n) ≡ 1 = rw (c .before .before .before .before .before .before .before .before .before .load-qp-flag .ensures) at (c .before .before .before .before .before .before .before .if2 .left) in
+    rw (qp-rest (now (a .state)) (a .n) f, ← c .before .before .before .before .before .before .load-qp .ensures, sym (c .before .before .before .before .before .names-ok .ensures) ∙ not-false _ (c .before .before .before .before .if3 .left), sym (c .before .before .before .pair-ok .ensures) ∙ not-false _ (c .before .before .if4 .left), sym (c .before .waiting-ok .ensures) ∙ not-true _ (c .if5 .taken))
+
+sends-ok-requires : tie.Need-sends-ok-requires
+sends-ok-requires c κs = (search needs, search needs, ap (λ (p : QueuePair). p .state) (c .before .before .before .before .before .before .load-qp .ensures))
+
+returns-6 : tie.Need-returns-6
+returns-6 c =
+    let a = c .before .before .before .before .before .before .before .before .before .before .before .before .args in
+    let f : rowAt qpFlagT (now (a .state)) (a .n) ≡ 1 = rw (c .before .before .before .before .before .before .before .before .before .before .load-qp-flag .ensures) at (c .before .before .before .before .before .before .before .before .if2 .left) in
+    rw (qp-rest (now (a .state)) (a .n) f, ← c .before .before .before .before .before .before .before .load-qp .ensures, sym (c .before .before .before .before .before .before .names-ok .ensures) ∙ not-false _ (c .before .before .before .before .before .if3 .left), sym (c .before .before .before .before .pair-ok .ensures) ∙ not-false _ (c .before .before .before .if4 .left), sym (c .before .before .waiting-ok .ensures) ∙ not-false _ (c .before .if5 .left)) (c .sends-ok .ensures)
 
 pub qp-ok-spec : {M : Type 1} → statement M
 qp-ok-spec =
@@ -70,4 +81,6 @@ qp-ok-spec =
     pair-ok-requires
     returns-4
     waiting-ok-requires
-    returns-5)
+    returns-5
+    sends-ok-requires
+    returns-6)
