@@ -11,6 +11,8 @@ pub mod Pinned
 pub mod PagesPinned
 pub mod InError
 pub mod TurnPinned
+pub mod Domain
+pub mod DomainPinned
 pub mod Flags
 pub mod Runs
 pub mod Meeting

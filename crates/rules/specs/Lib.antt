@@ -18,3 +18,4 @@ pub mod Full
 pub mod Holds
 pub mod Replay
 pub mod Buffers
+pub mod Domain
