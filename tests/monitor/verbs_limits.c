@@ -13,7 +13,7 @@
 
 enum { LONG = 3000, PAUSE = 800 }; /* milliseconds: what is never reached, and what is waited where nothing may come */
 
-static const uint8_t within_33[4] = {12, 1, 7, 12};   /* twice 16.8 ms for the peer, any time for its receive */
+static const uint8_t within_268[4] = {14, 3, 7, 12};  /* four times 67.1 ms for the peer, any time for its receive */
 static const uint8_t rnr_31[4] = {0, 0, 3, 20};       /* three times 10.24 ms for the receive, any time for the peer */
 static const uint8_t rnr_983[4] = {14, 7, 2, 31};     /* twice 491.52 ms, and eight times 67.1 ms for the peer */
 
@@ -83,11 +83,11 @@ static void ends_with(struct side *own, const struct told *told, enum ibv_wr_opc
 void peer_in_error(void)
 {
     struct side own, peer;
-    open_pair(&own, &peer, within_33);
+    open_pair(&own, &peer, within_268);
     const struct told told = told_by(&peer);
     EXPECT(reach(&own, IBV_WR_RDMA_WRITE, &told, 8) == IBV_WC_SUCCESS);
     move(&peer, IBV_QPS_ERR);
-    ends_with(&own, &told, IBV_WR_RDMA_WRITE, IBV_WC_RETRY_EXC_ERR, 33);
+    ends_with(&own, &told, IBV_WR_RDMA_WRITE, IBV_WC_RETRY_EXC_ERR, 268);
     close_side(&peer);
     move(&own, IBV_QPS_RESET);
     EXPECT(state_of(&own) == IBV_QPS_RESET);
@@ -131,7 +131,7 @@ void no_limits(void)
     EXPECT(comes_within(&own, LONG, &wc) == 1 && wc.status == IBV_WC_SUCCESS);
     close_side(&own);
     close_side(&peer);
-    open_pair(&own, &peer, within_33);
+    open_pair(&own, &peer, within_268);
     post(&own, IBV_WR_SEND, &told, 8);
     EXPECT(comes_within(&own, PAUSE, &wc) == 0 && state_of(&own) == IBV_QPS_RTS);
     post_receive(&peer);
@@ -185,7 +185,7 @@ void limits_by_events(void)
     open_side(&peer);
     open_side_with_events(&own);
     ready(&peer, own.qp->qp_num, ALL);
-    ready_within(&own, peer.qp->qp_num, 0, within_33);
+    ready_within(&own, peer.qp->qp_num, 0, within_268);
     const struct told told = told_by(&peer);
     move(&peer, IBV_QPS_ERR);
     EXPECT(fcntl(own.channel->fd, F_SETFL, fcntl(own.channel->fd, F_GETFL) | O_NONBLOCK) == 0);
