@@ -49,10 +49,10 @@
 extern "C" {
 #endif
 
-/* Each call returns its answer in bits 0 to 7 and, of a work request answered LESUNGKAP_DONE, its status in bits 8 to 15; so does a receive
- * that was flushed at once, and no other call. A turn answered LESUNGKAP_DONE has the status of the work request that it ran, and in bits 16 to
- * 23 the queue pair that it served; all later bits are 0. The answers of each stand below in the order of their tests, without LESUNGKAP_: the
- * first that is met is the answer. */
+/* Each call returns its answer in bits 0 to 7. Bits 8 to 15 have a status where the answer is LESUNGKAP_DONE: of a post send that of its work
+ * request, of a turn that of the work request that it ran, of a receive LESUNGKAP_FLUSHED if it was flushed at once; of other calls they are 0.
+ * Bits 16 to 23 have the queue pair that such a turn served; all other bits are 0. The answers of each call stand below in the order of their
+ * tests, without LESUNGKAP_: the first that is met is the answer. */
 
 /* Makes a fresh card over a memory of memory_len bytes, whatever the state held.
  *   BAD_STATE         state_len isn't LESUNGKAP_STATE_BYTES; the content is not looked at

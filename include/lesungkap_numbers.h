@@ -49,7 +49,7 @@ enum {
     LESUNGKAP_MEMORY_LENGTH = 7,    /* the lent memory's length isn't that of the reset */
     LESUNGKAP_FULL = 8,
     LESUNGKAP_NOTHING = 9,          /* no completion, no waiting receive; of a turn: no queued send that isn't held */
-    LESUNGKAP_IN_USE = 10,          /* of a direct send: older sends are queued */
+    LESUNGKAP_IN_USE = 10,          /* a live object names it; of a direct send: older sends are queued */
     LESUNGKAP_RANGE = 11,
     LESUNGKAP_BUFFER_TOO_SHORT = 12,
     LESUNGKAP_UNKNOWN = 13,         /* class or command */
