@@ -3,8 +3,8 @@
  * with
  *
  *     gcc verbs.c -o verbs -libverbs
- *     lesungkap-monitor /tmp/card &
- *     lesungkap-over /tmp/card ./verbs
+ *     lesungkap-monitor SOCKET &
+ *     lesungkap-over SOCKET ./verbs
  *
  * Each step that fails ends it with status 1 and a line.
  */
