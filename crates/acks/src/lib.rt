@@ -1,4 +1,6 @@
 // The acks of control commands, written into the caller's buffer by their layouts: tables, specs/Commands.antt and specs/Queries.antt.
+#![tactic(auto)]
+
 pub mod queries;
 
 ghost use Rattle.std.specs.Prelude.{◌≡◌, ◌≤◌, length};

@@ -1,6 +1,8 @@
 // Audits a replay: reads a tape of calls and a tape of answers from the files that its first two words name, and prints
 // `agrees` or the number of the first record where the answers are not those that the rules give (docs/TAPE.md). The library
 // tape has the verdict; here bytes are read and records counted. What the program reports: specs/Report.antt.
+#![tactic(auto)]
+
 ghost use Rattle.std.specs.Prelude.{◌≡◌, ◌+◌, ◌≤◌, length as ListN·length};
 ghost use Rattle.tables.specs.Reset.{zeros, reset_bytes};
 ghost use Rattle.tape.specs.Inside.{Finds, Starts};

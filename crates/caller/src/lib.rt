@@ -1,6 +1,8 @@
 // A caller of the nine exported functions. What each promises is what the judge's theorem asks of a call (FromC), on any
 // state, and calls in turn on one state are a list of that theorem. An export that promised less would leave this crate
 // unproved.
+#![tactic(auto)]
+
 ghost use Rattle.std.specs.Prelude.{[], ◌∷◌};
 ghost use Rattle.rules.specs.Call.{Call};
 ghost use Rattle.judge.specs.Whole.{FromC};
@@ -68,7 +70,7 @@ pub fn poll(state: &mut [u8], cqn: u32, buffer: &mut [u8]) -> u32
 }
 
 // What the calls of `run` returned.
-#[derive(Drop)]
+#[derive(Clone, Copy)]
 pub struct Results {
     reset: u32,
     control: u32,

@@ -1,4 +1,6 @@
 // Control commands: document 01, "Control commands". Rules: rules/specs/Control.antt; contracts: specs/Control.antt.
+#![tactic(auto)]
+
 pub mod control;
 mod control_qp;
 mod destroy;
@@ -8,15 +10,15 @@ mod query;
 use tables::Ack;
 
 // How a command ended: refused with its answer's number, or done with what its ack tells.
-#[derive(Drop)]
-enum Outcome {
+#[derive(Clone, Copy)]
+pub enum Outcome {
     Refused(u8),
     Done(Ack),
 }
 
 // The kinds of objects.
-#[derive(Drop)]
-enum Kind {
+#[derive(Clone, Copy)]
+pub enum Kind {
     Pd,
     Cq,
     Mr,

@@ -1,5 +1,7 @@
 // A request run on a queue pair: document 01, "Posting and delivering", steps 1 to 6; 02, M-103, the flush of one in error. Definitions:
 // specs/Run.antt.
+#![tactic(auto)]
+
 ghost use Rattle.std.specs.Prelude.{◌≡◌, true};
 ghost use Rattle.tables.specs.State.{card};
 ghost use Rattle.rules.specs.Send.{hold_checks};

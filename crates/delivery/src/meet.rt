@@ -14,7 +14,7 @@ use tables::limits::{ERROR, QP_COUNT, RTR, RTS, SEND, SEND_IMM, WRITE_IMM};
 use tables::{QueueHead, QueuePair, rows};
 
 // A sender and its peer: their numbers and rows.
-#[derive(Drop)]
+#[derive(Clone, Copy)]
 pub struct Ends {
     pub q: usize,
     pub own: QueuePair,
@@ -23,7 +23,7 @@ pub struct Ends {
 }
 
 // What the tests of the two queue pairs end with: the pairs, or the answer.
-#[derive(Drop)]
+#[derive(Clone, Copy)]
 pub enum Meeting {
     Pairs(Ends),
     Stopped(Answer),

@@ -10,7 +10,7 @@ use tables::limits::{LOCAL_WRITE, MR_COUNT};
 use tables::{Region, Sge, rows};
 
 // The live region that has exactly a key, if there is one; who may touch it does not depend on its kind, which is left out.
-#[derive(Drop)]
+#[derive(Clone, Copy)]
 enum Found {
     Live(Region),
     Nothing,

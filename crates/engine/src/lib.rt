@@ -1,4 +1,6 @@
 // The engine: post send, and all of the card's calls for a caller in C.
+#![tactic(auto)]
+
 ghost use Rattle.std.specs.Prelude.{[]};
 ghost use Rattle.rules.specs.Call.{Call};
 ghost use Rattle.rules.specs.Contract.{Exports};

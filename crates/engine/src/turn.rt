@@ -18,7 +18,7 @@ use tables::{records, rows, sends};
 use validate::accept;
 
 // A turn's answer, and the queue pair that it served; 0 where it served none.
-#[derive(Drop)]
+#[derive(Clone, Copy)]
 pub struct Turned {
     pub answer: Answer,
     pub qpn: u32,

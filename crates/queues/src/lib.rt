@@ -1,5 +1,7 @@
 // Reset, poll, post receive and flush: document 01's calls on the queues of the lent state. Their tests and effects: rules,
 // specs/Queues.antt.
+#![tactic(auto)]
+
 mod pair;
 pub mod sends;
 

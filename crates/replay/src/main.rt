@@ -1,6 +1,8 @@
 // Replays a tape: reads records from standard input, makes each one's call on one card, and writes the answer records to
 // standard output (docs/TAPE.md). The library tape has what a tape means and what to do with the bytes held; here bytes are
 // only moved.
+#![tactic(auto)]
+
 ghost use Rattle.std.specs.Prelude.{List, ℕ, ◌≤◌, length as ListN·length};
 ghost use Rattle.tape.specs.Inside.{Lies, Starts};
 ghost use Rattle.replay.specs.Inside.{Uses, Goes};

@@ -1,18 +1,20 @@
 // The answers of the card's calls. What each call does is in specs/.
+#![tactic(auto)]
+
 pub mod numbers;
 
 ghost use Rattle.std.specs.Prelude.{◌≡◌};
 ghost use Rattle.rules.specs.Answer.{cause_number, number, status, code_of};
 
 // Why a call is held: the peer isn't ready or no receive waits there, or a completion has no place.
-#[derive(Drop)]
+#[derive(Clone, Copy)]
 pub enum Cause {
     Peer,
     Place,
 }
 
 // Done with a status, held for a cause, or refused with its number.
-#[derive(Drop)]
+#[derive(Clone, Copy)]
 pub enum Answer {
     Done(u8),
     Held(Cause),
@@ -20,7 +22,7 @@ pub enum Answer {
 }
 
 // Whose use of a byte is asked: a queue pair's, by its domain and its access flags.
-#[derive(Drop)]
+#[derive(Clone, Copy)]
 pub struct Party {
     pub pd: u8,
     pub rights: u8,

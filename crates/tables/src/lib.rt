@@ -1,4 +1,6 @@
 // The lower part: the records' layouts and the card's tables in the lent state.
+#![tactic(auto)]
+
 pub mod limits;
 pub mod queue;
 pub mod records;
@@ -7,7 +9,7 @@ pub mod rows;
 pub mod sends;
 
 // A scatter/gather entry, document 01's piece: length bytes from the address on, under the key.
-#[derive(Drop)]
+#[derive(Clone, Copy)]
 pub struct Sge {
     pub address: u64,
     pub length: u32,
@@ -15,7 +17,7 @@ pub struct Sge {
 }
 
 // A completion; wr is the work request's wr_id, owner the number of the queue pair.
-#[derive(Drop)]
+#[derive(Clone, Copy)]
 pub struct Completion {
     pub wr: u64,
     pub status: u8,
@@ -26,7 +28,7 @@ pub struct Completion {
 }
 
 // A completion queue without its ring: its places, the place of the oldest completion, how many are unread.
-#[derive(Drop)]
+#[derive(Clone, Copy)]
 pub struct QueueHead {
     pub places: u8,
     pub first: u8,
@@ -35,7 +37,7 @@ pub struct QueueHead {
 
 // A completion queue: its ring of entries, the place of the oldest, how many are unread, and its places. A call puts into the ring the
 // one entry that it looks at.
-#[derive(Drop)]
+#[derive(Clone, Copy)]
 pub struct CompletionQueue {
     pub ring: [Completion; 16],
     pub first: usize,
@@ -45,7 +47,7 @@ pub struct CompletionQueue {
 
 // A queue pair: scq and rcq are its send and its receive completion queue; dest 8 is no destination; rights are the access flags that
 // remote uses of its memory need.
-#[derive(Drop)]
+#[derive(Clone, Copy)]
 pub struct QueuePair {
     pub pd: u8,
     pub signal: u8,
@@ -57,14 +59,14 @@ pub struct QueuePair {
 }
 
 // Where a queue pair's waiting receives stand among its 4 places, or its queued sends among its 8: the oldest, and how many.
-#[derive(Drop)]
+#[derive(Clone, Copy)]
 pub struct WaitingHead {
     pub first: u8,
     pub count: u8,
 }
 
 // A memory region; the variant is the last one that its slot handed out, the kind 0 for a region of adjacent bytes and 1 for one over pages.
-#[derive(Drop)]
+#[derive(Clone, Copy)]
 pub struct Region {
     pub access: u8,
     pub variant: u8,
@@ -76,7 +78,7 @@ pub struct Region {
 }
 
 // A receive record, of at most two scatter/gather entries.
-#[derive(Drop)]
+#[derive(Clone, Copy)]
 pub struct ReceiveRecord {
     pub wr: u64,
     pub count: u32,
@@ -85,7 +87,7 @@ pub struct ReceiveRecord {
 }
 
 // A send record without its inline bytes and scatter/gather entries. With the inline flag, the low 16 bits of count are the inline length.
-#[derive(Drop)]
+#[derive(Clone, Copy)]
 pub struct SendRecord {
     pub wr: u64,
     pub opcode: u8,
@@ -97,7 +99,7 @@ pub struct SendRecord {
 }
 
 // What answer 15 asks of a queued send; count is its piece count, or with the inline flag its inline length.
-#[derive(Drop)]
+#[derive(Clone, Copy)]
 pub struct SendKind {
     pub opcode: u8,
     pub flags: u8,
@@ -105,21 +107,21 @@ pub struct SendKind {
 }
 
 // What reading a send record gives: the record, or the answer of the refusal.
-#[derive(Drop)]
+#[derive(Clone, Copy)]
 pub enum SendRead {
     Record(SendRecord),
     Refused(u8),
 }
 
 // What reading a receive record gives.
-#[derive(Drop)]
+#[derive(Clone, Copy)]
 pub enum ReceiveRead {
     Record(ReceiveRecord),
     Refused(u8),
 }
 
 // The data of command 7, register MR.
-#[derive(Drop)]
+#[derive(Clone, Copy)]
 pub struct Registration {
     pub pd: u32,
     pub access: u32,
@@ -129,7 +131,7 @@ pub struct Registration {
 }
 
 // The data of command 9, create QP; kind is the paper's type.
-#[derive(Drop)]
+#[derive(Clone, Copy)]
 pub struct CreateQp {
     pub pd: u32,
     pub kind: u8,
@@ -139,7 +141,7 @@ pub struct CreateQp {
 }
 
 // The data of command 10, modify QP; the paddings must be zero; flags are access flags.
-#[derive(Drop)]
+#[derive(Clone, Copy)]
 pub struct ModifyQp {
     pub qpn: u32,
     pub mask: u32,
@@ -152,42 +154,42 @@ pub struct ModifyQp {
 }
 
 // What a command's class and command byte read as: its number, or the answer that refuses it.
-#[derive(Drop)]
+#[derive(Clone, Copy)]
 pub enum HeadRead {
     Number(u8),
     Refused(u8),
 }
 
 // What the data of a command of one number reads as; Wrong where its length is not exact.
-#[derive(Drop)]
+#[derive(Clone, Copy)]
 pub enum NumberRead {
     Value(u32),
     Wrong,
 }
 
 // What the data of command 7 reads as; Wrong where its length is not exact.
-#[derive(Drop)]
+#[derive(Clone, Copy)]
 pub enum RegisterRead {
     Value(Registration),
     Wrong,
 }
 
 // What the data of command 9 reads as; Wrong where its length is not exact.
-#[derive(Drop)]
+#[derive(Clone, Copy)]
 pub enum CreateQpRead {
     Value(CreateQp),
     Wrong,
 }
 
 // What the data of command 10 reads as; Wrong where its length is not exact.
-#[derive(Drop)]
+#[derive(Clone, Copy)]
 pub enum ModifyQpRead {
     Value(ModifyQp),
     Wrong,
 }
 
 // The ack of command 0, query device, in 001's order: what the device is, its work requests, and its objects.
-#[derive(Drop)]
+#[derive(Clone, Copy)]
 pub struct Device {
     pub caps: DeviceCaps,
     pub work: DeviceWork,
@@ -195,7 +197,7 @@ pub struct Device {
 }
 
 // 001's device_cap_flags, max_mr_size, page_size_cap, hw_ver.
-#[derive(Drop)]
+#[derive(Clone, Copy)]
 pub struct DeviceCaps {
     pub flags: u64,
     pub region: u64,
@@ -204,7 +206,7 @@ pub struct DeviceCaps {
 }
 
 // 001's max_qp_wr, max_send_sge, max_recv_sge, max_sge_rd, max_cqe.
-#[derive(Drop)]
+#[derive(Clone, Copy)]
 pub struct DeviceWork {
     pub requests: u32,
     pub sends: u32,
@@ -214,7 +216,7 @@ pub struct DeviceWork {
 }
 
 // 001's max_mr, max_pd, max_qp_rd_atom, max_qp_init_rd_atom, max_ah, local_ca_ack_delay.
-#[derive(Drop)]
+#[derive(Clone, Copy)]
 pub struct DeviceObjects {
     pub regions: u32,
     pub domains: u32,
@@ -225,27 +227,27 @@ pub struct DeviceObjects {
 }
 
 // The ack of command 1, query port: 001's gid_tbl_len, max_msg_sz.
-#[derive(Drop)]
+#[derive(Clone, Copy)]
 pub struct Port {
     pub gids: u32,
     pub message: u32,
 }
 
 // What reading an ack of command 0 or 1 gives: what it reports, or the answer of the refusal.
-#[derive(Drop)]
+#[derive(Clone, Copy)]
 pub enum DeviceRead {
     Value(Device),
     Refused(u8),
 }
 
-#[derive(Drop)]
+#[derive(Clone, Copy)]
 pub enum PortRead {
     Value(Port),
     Refused(u8),
 }
 
 // What an ack says: error; OK; OK and a number; OK, a region's number, and its key as lkey and as rkey; OK and what a query reports.
-#[derive(Drop)]
+#[derive(Clone, Copy)]
 pub enum Ack {
     Error,
     Done,

@@ -1,4 +1,6 @@
 // The replay tape: reading a record's header, making its call, writing its answer. What a tape means: specs/Tape.antt.
+#![tactic(auto)]
+
 pub mod audit;
 pub mod input;
 pub mod start;

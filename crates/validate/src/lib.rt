@@ -1,4 +1,6 @@
 // The state test of answer 15, and look-ups in the tables.
+#![tactic(auto)]
+
 pub mod accept;
 pub mod find;
 pub mod regions;
