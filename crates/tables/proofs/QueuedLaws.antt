@@ -251,7 +251,7 @@ module _ (l : List ℕ) (q : ℕ) (b : q < qp_count) (live : row_at qp_flag_t l 
         queue_at_lem =
             store.qp_sends_at mid q b (grown h) (store.place_size l q b at at_below x (most x good) sized kind) grown_fits
             ∙ ap (λ (r : PairRows). record { flag = r.flag; row = r.row; head = r.head; ring = r.ring; sends = grown h; queued = r.queued })
-            (store.place_at l q b at at_below x (most x good) sized kind kind_fits)
+            (store.place_at_lem l q b at at_below x (most x good) sized kind kind_fits)
 
         pub queue_joined : queued_in (rows_with (grown h) (set (queued_at l q) at newest)) ≡ queued_in (pair_at l q) ++ (newest ∷ [])
         unfolding queued_at pair_at

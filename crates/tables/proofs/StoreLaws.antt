@@ -337,8 +337,8 @@ module _ (l : List ℕ) (n : ℕ) (b : n < qp_count) where
         (λ j c y. others (most_queued * n + j) (omega arith) (λ w. y (omega arith)))
         ∙ ap (λ (z : SendKind). set (rows most_queued (λ j. place_at l (most_queued * n + j))) k (record { kind = z; body = part_at record_p l' place })) (kind_put f)
 
-    pub place_at : Fits kind_codec v
+    pub place_at_lem : Fits kind_codec v
         → pair_at l' n ≡ record { flag = (pair_at l n).flag; row = (pair_at l n).row; head = (pair_at l n).head; ring = (pair_at l n).ring; sends = (pair_at l n).sends; queued = set (pair_at l n).queued k (record { kind = v; body = part_at record_p l' place }) }
     unfolding pair_at outside finish qp_flag_t qp_t waiting_t receive_t send_head_t flag_codec pair_codec waiting_codec receive_codec
-    place_at f =
+    place_at_lem f =
         rw (row_kept qp_flag_t _ _ tt kept n b, row_kept qp_t _ _ tt kept n b, row_kept waiting_t _ _ tt kept n b, receives_kept kept tt n b, row_kept send_head_t _ _ tt kept n b, queued_put f)

@@ -1,0 +1,35 @@
+use Rattle.delivery.proofs.SingleLaws.{untaken, own_fault}
+use Rattle.delivery.proofs.EndLaws.{single_settling, single_carried}
+use mathlib.Core.List.{[], ◌∷◌}
+use Rattle.tables.specs.State.{no_record}
+use Prim.Native.Nat.{◌^◌, ◌<◌}
+use borrow.Author.Rules.{rules}
+use Rattle.delivery.proofs.carry_single.Goals as goal
+
+wr-fits : (b : goal.Start) → b.args.s.wr < 2 ^ 64
+wr-fits b = search rules
+
+imm-fits : (b : goal.Start) → b.args.s.imm < 2 ^ 32
+imm-fits b = search rules
+
+pub deliver_single-st-requires : goal.deliver_single-st-requires
+deliver_single-st-requires c = (c.requires.0, c.requires.1.0)
+
+pub settle_single-requires : goal.settle_single-requires
+settle_single-requires c =
+    let k = c in
+    let b = k in
+    let a = b.args in
+    let d = k.deliver_single-st.ensures in (
+      single_settling a.state.now a.memory.now a.e b.requires.0.accepted a.s b.requires.1.0 a.a (wr-fits b) (imm-fits b) b.requires.1.1 _ _ d,
+      untaken a.s b.requires.1.0,
+      own_fault a.s b.requires.1.0 a.state.now a.e (a.a ∷ []) no_record a.a.length _ d.status,
+    )
+
+pub returns : goal.returns
+returns c =
+    let k = c in
+    let b = k in
+    let a = b.args in
+    single_carried a.state.now a.memory.now a.e b.requires.0.accepted a.s b.requires.1.0 a.a (wr-fits b) (imm-fits b) b.requires.1.1 _ _
+    k.deliver_single-st.ensures _ c.settle_single.ensures

@@ -1,0 +1,83 @@
+-- the sender's side is permitted
+use mathlib.Core.Path.{◌≡◌, refl, sym, ◌∙◌}
+use mathlib.Core.Bool.{true, not, ◌||◌}
+use mathlib.Core.List.{[], ◌∷◌}
+use lib.Dec.{leb}
+use borrow.Author.Tests.{not-true, not-false}
+use Rattle.tables.specs.Records.{receive_sges}
+use Rattle.tables.specs.State.{card, no_record}
+use Rattle.rules.specs.Touch.{fills, sge_bytes, sge_total}
+use Rattle.dma.specs.Grants.{allows_all}
+use Rattle.delivery.specs.Deliver.{OwnSide, party_in, far_mask, far_list}
+use Rattle.delivery.proofs.StatusLaws.{too_long, own_refused, far_refused, all_moved, carries}
+use Rattle.delivery.proofs.SingleLaws.{unfilled, list_is, single_sending, own_judged, far_judged}
+use Rattle.delivery.proofs.deliver.deliver_single.Goals as goal
+
+side : (c : goal.Else-not-range_permitted) →
+    let a = c.args in
+    OwnSide (card a.state.now) a.e a.s (a.a ∷ []) a.a.length
+side c =
+    let b = c in
+    let a = b.args in
+    record {
+      short = c.if-a-gt-MOST_MESSAGE.false;
+      permitted = sym (own_judged a.s b.requires.1 a.a a.state.now a.memory.now a.e _ c.own_party.ensures _
+          c.own_mask.ensures _ c.range_permitted.ensures) ∙ not-false _ c.if-not-range_permitted.false;
+    }
+
+-- no receive is filled
+
+fits : (b : goal.Start) → (not (fills b.args.s.opcode) || leb b.args.a.length (sge_total (receive_sges no_record))) ≡ true
+fits b = rw (unfilled b.args.s b.requires.1)
+
+-- the judgement of the remote range
+
+range-is : (c : goal.After-range_permitted-2) →
+    let a = c.args in
+    c.range_permitted-2.result ≡ allows_all (card a.state.now) (party_in a.e.far) (far_mask a.s.opcode) (sge_bytes (far_list a.s no_record a.a.length))
+range-is c =
+    let b = c in
+    let a = b.args in
+    far_judged a.s b.requires.1 a.a a.state.now a.memory.now a.e _ c.far_party.ensures _ c.far_mask.ensures _
+    c.range_permitted-2.ensures
+
+pub returns-then-a-gt-MOST_MESSAGE : goal.returns-then-a-gt-MOST_MESSAGE
+returns-then-a-gt-MOST_MESSAGE c =
+    let a = c.args in
+    too_long a.state.now a.memory.now a.e a.s (a.a ∷ []) [] no_record a.a.length c.if-a-gt-MOST_MESSAGE.true
+
+pub returns-then-not-range_permitted : goal.returns-then-not-range_permitted
+returns-then-not-range_permitted c =
+    let b = c in
+    let a = b.args in
+    own_refused a.state.now a.memory.now a.e a.s (a.a ∷ []) [] no_record a.a.length c.if-a-gt-MOST_MESSAGE.false
+    (sym (own_judged a.s b.requires.1 a.a a.state.now a.memory.now a.e _ c.own_party.ensures _
+    c.own_mask.ensures _ c.range_permitted.ensures) ∙ not-true _ c.if-not-range_permitted.true)
+
+pub returns-then-not-range_permitted-2 : goal.returns-then-not-range_permitted-2
+returns-then-not-range_permitted-2 c =
+    let k = c in
+    let b = k in
+    let a = b.args in
+    far_refused a.state.now a.memory.now a.e a.s (a.a ∷ []) [] no_record a.a.length (side k) (fits b) _
+    (rw (unfilled a.s b.requires.1)) (sym (range-is c) ∙ not-true _ c.if-not-range_permitted-2.true)
+
+pub move_single-requires : goal.move_single-requires
+move_single-requires c =
+    let d = c in
+    let k = d in
+    let b = k in
+    let a = b.args in
+    let y = carries a.state.now a.memory.now a.e a.s (a.a ∷ []) [] no_record a.a.length (side k) (fits b)
+    (sym (range-is d) ∙ not-false _ c.if-not-range_permitted-2.false) _ refl (single_sending a.s b.requires.1 a.a) in
+    (b.requires, rw (list_is a.s b.requires.1 a.a) at y)
+
+pub returns : goal.returns
+returns c =
+    let d = c in
+    let k = d in
+    let b = k in
+    let a = b.args in
+    all_moved a.state.now a.memory.now a.e a.s (a.a ∷ []) [] no_record a.a.length (side k) (fits b)
+    (sym (range-is d) ∙ not-false _ c.if-not-range_permitted-2.false) _ refl _
+    (rw (list_is a.s b.requires.1 a.a) c.move_single.ensures)

@@ -1,0 +1,12 @@
+use mathlib.Core.Path.{◌≡◌, sym, ◌∙◌}
+use mathlib.Core.Bool.{true, false}
+use Rattle.rules.specs.Touch.{fills}
+use Rattle.delivery.proofs.deliver.far_count.Goals as goal
+
+pub returns-then-fills_receive : goal.returns-then-fills_receive
+returns-then-fills_receive c =
+    let e : fills c.args.opcode ≡ true = sym c.fills_receive.ensures ∙ c.if-fills_receive.true in
+    rw e
+
+pub returns : goal.returns
+returns c = let e : fills c.args.opcode ≡ false = sym c.fills_receive.ensures ∙ c.if-fills_receive.false in rw e

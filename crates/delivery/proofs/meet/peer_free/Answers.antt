@@ -1,0 +1,40 @@
+use mathlib.Core.Path.{sym, ap, ◌∙◌}
+use Rattle.delivery.specs.Meet.{is_pairs}
+use borrow.Author.Tests.{not-true, not-false}
+use Rattle.delivery.proofs.MeetLaws.{no_peer, peer_silent, queues_below, peer_met, free_is}
+use Rattle.delivery.proofs.meet.peer_free.Goals as goal
+
+pub returns-then-d-ge-QP_COUNT : goal.returns-then-d-ge-QP_COUNT
+returns-then-d-ge-QP_COUNT c =
+    let b = c in
+    let a = b.args in
+    ap is_pairs (no_peer a.state.now a.q a.opcode a.own b.requires.0 b.requires.1 c.if-d-ge-QP_COUNT.true)
+    ∙ free_is a.state.now a.q a.opcode a.own b.requires.0
+
+pub returns-then-not-answers_to : goal.returns-then-not-answers_to
+returns-then-not-answers_to c =
+    let b = c in
+    let a = b.args in
+    ap is_pairs (peer_silent a.state.now a.q a.opcode a.own b.requires.0 b.requires.1 c.if-d-ge-QP_COUNT.false _
+    c.is_live-live.ensures _ c.load_qp-far.ensures
+    (sym c.answers_to.ensures ∙ not-true _ c.if-not-answers_to.true))
+    ∙ free_is a.state.now a.q a.opcode a.own b.requires.0
+
+pub peer_passes-requires : goal.peer_passes-requires
+peer_passes-requires c =
+    let b = c in
+    let a = b.args in
+    let h = c.if-d-ge-QP_COUNT.false in
+    let k = queues_below a.state.now a.q a.opcode a.own b.requires.0 b.requires.1 h _ c.is_live-live.ensures _
+    c.load_qp-far.ensures (sym c.answers_to.ensures ∙ not-false _ c.if-not-answers_to.false) in
+    (k.0, k.1, h, b.requires.0.size)
+
+pub returns : goal.returns
+returns c =
+    let b = c in
+    let a = b.args in
+    c.peer_passes.ensures
+    ∙ ap is_pairs (peer_met a.state.now a.q a.opcode a.own b.requires.0 b.requires.1 c.if-d-ge-QP_COUNT.false _
+    c.is_live-live.ensures _ c.load_qp-far.ensures
+    (sym c.answers_to.ensures ∙ not-false _ c.if-not-answers_to.false))
+    ∙ free_is a.state.now a.q a.opcode a.own b.requires.0

@@ -1,0 +1,75 @@
+use mathlib.Core.Path.{◌≡◌, refl, sym, ◌∙◌}
+use mathlib.Core.Bool.{true}
+use mathlib.Core.List.{List, [], ◌∷◌}
+use native.Mathlib.Omega.{arith}
+use Prim.Native.Nat.{ℕ}
+use lib.ListN.{length, get_or, take}
+use Rattle.tables.specs.Records.{no_sge}
+use Rattle.tables.specs.Records.{Request}
+use Rattle.dma.proofs.SgeLaws.{alone}
+use Rattle.delivery.specs.Deliver.{is_single}
+use Rattle.delivery.specs.Meet.{holding}
+use Rattle.delivery.specs.Run.{request_by, Met}
+use Rattle.delivery.specs.declared.meet.Meeting.TheVariants.{Pairs}
+use Rattle.delivery.proofs.MeetLaws.{sender_live}
+use Rattle.delivery.proofs.SingleLaws.{one}
+use Rattle.delivery.proofs.EndLaws.{is_met, ran_on, stopped, runs_then}
+use Rattle.delivery.proofs.run.Goals as goal
+
+abbrev asked : (b : goal.Start) → Request
+asked b = request_by b.args.s b.args.t6 b.args.inline.now
+
+-- the two pairs that passed
+
+pairs : (k : goal.In-Pairs-2) → let a = k.args in Pairs k.in-Pairs.e ≡ holding a.state.now a.q a.s.opcode
+pairs k = sym k.in-Pairs.is ∙ k.meet.ensures
+
+both : (k : goal.In-Pairs-2) → let a = k.args in Met a.state.now k.in-Pairs.e a.s.opcode
+both k =
+    let b = k in
+    let a = b.args in
+    let l : List ℕ = a.state.now in
+    is_met l a.q a.s.opcode (sender_live l a.q a.s.opcode a.own b.requires.0.1)
+    (runs_then l a.q a.own b.requires.0.1 a.s b.requires.0.2) _ (pairs k)
+
+-- a write or a read of one entry, and its list
+
+is_one : (c : goal.Then-is_single) → is_single c.args.s ≡ true
+is_one c = sym c.is_single.ensures ∙ c.if-is_single.true
+
+list : (c : goal.Then-is_single) → let a = c.args in take a.s.count a.t6 ≡ get_or a.t6 0 no_sge ∷ []
+list c =
+    let b = c in
+    let a = b.args in
+    let four : length a.t6 ≡ 4 = b.well-formed.1.1.1.1.1.0.1.0.1 in
+    alone a.t6 a.s.count (one a.s (is_one c)) (omega arith)
+
+pub meet-requires : goal.meet-requires
+meet-requires c = (c.requires.0.1, c.requires.0.2)
+
+pub carry_single-st-requires : goal.carry_single-st-requires
+carry_single-st-requires c = (c.requires.0.0, (is_one c, both c))
+
+pub returns-then-is_single : goal.returns-then-is_single
+returns-then-is_single c =
+    let k = c in
+    let b = c in
+    let a = b.args in
+    ran_on a.state.now a.q a.s.opcode (asked b) refl a.memory.now _ (pairs k) _ _ _
+    (c.carry_single-st.ensures a.t6 a.inline.now (list c))
+
+pub carry_out-st-requires : goal.carry_out-st-requires
+carry_out-st-requires c = (c.requires.0.0, (c.requires.1, both c))
+
+pub returns-else-is_single : goal.returns-else-is_single
+returns-else-is_single c =
+    let k = c in
+    let b = c in
+    let a = b.args in
+    ran_on a.state.now a.q a.s.opcode (asked b) refl a.memory.now _ (pairs k) _ _ _ c.carry_out-st.ensures
+
+pub returns-in-Stopped : goal.returns-in-Stopped
+returns-in-Stopped c =
+    let b = c in
+    let a = b.args in
+    stopped a.state.now a.q a.s.opcode (asked b) refl a.memory.now _ (sym c.in-Stopped.is ∙ c.meet.ensures)

@@ -1,0 +1,13 @@
+use mathlib.Core.Path.{◌≡◌}
+use mathlib.Core.Bool.{true, false}
+use borrow.Author.Tests.{not-true, not-false}
+use Rattle.delivery.proofs.settle.fail_if.Goals as goal
+
+pub returns-then-not-b : goal.returns-then-not-b
+returns-then-not-b c = let e : c.args.b ≡ false = not-true _ c.if-not-b.true in rw e
+
+pub returns : goal.returns
+returns c =
+    let e : c.args.b ≡ true = not-false _
+    c.if-not-b.false in
+    rw (e, c.store_qp.ensures, c.load_qp-p.ensures)

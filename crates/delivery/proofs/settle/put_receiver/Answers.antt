@@ -1,0 +1,30 @@
+use mathlib.Core.Path.{sym, ◌∙◌}
+use Rattle.delivery.proofs.SettleLaws.{not_consumed, consumed}
+use borrow.Author.Tests.{not-true, not-false}
+use Rattle.delivery.proofs.settle.put_receiver.Goals as goal
+
+pub returns-then-not-is_consumed : goal.returns-then-not-is_consumed
+returns-then-not-is_consumed c =
+    let a = c.args in
+    not_consumed a.state.now a.e a.s a.st a.n a.w (sym c.is_consumed.ensures ∙ not-true _ c.if-not-is_consumed.true)
+
+pub push_completion-requires : goal.push_completion-requires
+push_completion-requires c =
+    let b = c in
+    let k = b.requires.1 (sym c.is_consumed.ensures ∙ not-false _
+    c.if-not-is_consumed.false) in
+    (k.0, b.requires.0.2, k.1)
+
+pub returns : goal.returns
+returns c =
+    let a = c.args in
+    rw (
+      c.push_completion.ensures,
+      c.kept_if.ensures,
+      c.receiver_status.ensures,
+      c.told_length-length.ensures,
+      c.receiver_opcode-opcode.ensures,
+    )
+    (consumed a.state.now a.e a.s a.st a.n a.w
+    (sym c.is_consumed.ensures ∙ not-false _
+    c.if-not-is_consumed.false))

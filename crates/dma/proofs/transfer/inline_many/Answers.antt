@@ -1,0 +1,16 @@
+use native.Mathlib.Omega.{arith}
+use lib.ListN.{take}
+use Prim.Native.Nat.{◌-◌}
+use Rattle.tables.specs.State.{card}
+use Rattle.dma.proofs.MoveLaws.{inlined}
+use Rattle.dma.proofs.transfer.inline_many.Goals as goal
+
+pub scatter-requires : goal.scatter-requires
+scatter-requires c =
+    let s = c in
+    (s.requires.0, (s.requires.1.0, s.requires.1.1, omega (arith, c.copy_bytes.auto.0), omega arith))
+
+pub returns : goal.returns
+returns c =
+    let s = c in
+    inlined (card s.args.state.now) s.args.memory.now _ _ (take s.args.nt s.args.to) c.scatter.ensures _ s.args.bytes.now s.requires.1.2 c.copy_bytes.ensures

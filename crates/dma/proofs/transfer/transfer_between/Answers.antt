@@ -1,0 +1,68 @@
+-- each side lies in one run of memory
+use mathlib.Core.List.{[], ◌∷◌}
+use native.Mathlib.Omega.{arith}
+use lib.Dec.{eqb}
+use lib.ListN.{length}
+use borrow.Author.Tests.{eqb-true}
+use Rattle.wire.proofs.ScanLaws.{and_left, and_right}
+use Rattle.tables.specs.State.{card}
+use Rattle.dma.specs.Moves.{Lies}
+use Rattle.dma.proofs.SgeLaws.{one_total}
+use Rattle.dma.proofs.MoveLaws.{whole_lies, room, between, backwards}
+use Rattle.dma.proofs.transfer.transfer_between.Goals as goal
+
+lie : (c : goal.Then-run_of-a) →
+    let a = c.args in
+    Lies (card a.state.now) (length a.memory.now) a.a × Lies (card a.state.now) (length a.memory.now) a.b
+lie c =
+    let a = c.args in
+    let t = c.if-run_of-a.true in
+    let first = c in
+    let second = c in
+    let f = eqb first.run_of.result a.a.length in
+    let g = eqb second.run_of-2.result a.b.length in (
+      whole_lies _ _ _ _ first.run_of.ensures (eqb-true _ _ (and_left f g t)),
+      whole_lies _ _ _ _ second.run_of-2.ensures (eqb-true _ _ (and_right f g t)),
+    )
+
+pub run_of-requires : goal.run_of-requires
+run_of-requires c =
+    let s = c in
+    (s.requires.0, (s.requires.1.sources, omega (arith, s.requires.1.most, one_total s.args.a)))
+
+pub run_of-requires-2 : goal.run_of-requires-2
+run_of-requires-2 c =
+    let s = c in
+    (s.requires.0, (s.requires.1.targets, omega (arith, s.requires.1.most, s.requires.1.total, one_total s.args.b)))
+
+pub deliver_between-requires : goal.deliver_between-requires
+deliver_between-requires c =
+    let s = c in
+    let a = s.args in
+    let m = s.requires.1 in
+    let l = lie c in
+    let x = room (card a.state.now) a.memory.now a.a l.0 _ c.place_of-x.ensures in
+    let y = room (card a.state.now) a.memory.now a.b l.1 _ c.place_of-y.ensures in
+    let f = one_total a.a in
+    let t = one_total a.b in
+    (omega (arith, m.most), x, omega (arith, m.total))
+
+pub returns-then-run_of-a : goal.returns-then-run_of-a
+returns-then-run_of-a c =
+    let s = c in
+    let a = s.args in
+    let l = lie c in
+    between (card a.state.now) a.memory.now _ a.a a.b c.place_of-x.result c.place_of-y.result a.back l.0 l.1
+    c.place_of-x.ensures c.place_of-y.ensures s.requires.1.total c.deliver_between.ensures
+
+pub transfer_many-requires : goal.transfer_many-requires
+transfer_many-requires c =
+    let s = c in
+    let a = s.args in
+    (s.requires.0, (omega arith, omega arith, backwards (card a.state.now) (a.a ∷ []) (a.b ∷ []) s.requires.1))
+
+pub returns-then-back : goal.returns-then-back
+returns-then-back c = rw c.if-back.true c.transfer_many.ensures
+
+pub returns : goal.returns
+returns c = rw c.if-back.false c.transfer_many-2.ensures

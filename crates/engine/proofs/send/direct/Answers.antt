@@ -1,0 +1,78 @@
+use mathlib.Core.Path.{sym, ◌∙◌}
+use borrow.Author.Tests.{not-true, not-false}
+use Rattle.tables.specs.Records.{Request}
+use Rattle.delivery.specs.Meet.{Sender}
+use Rattle.delivery.specs.Run.{request_by}
+use Rattle.engine.proofs.DirectLaws.{no_pair, not_live, not_ready, sends, has_queue, run_on}
+use Rattle.engine.proofs.send.direct.Goals as goal
+
+abbrev asked : (b : goal.Start) → Request
+asked b = request_by b.args.s b.args.sges b.args.inline.now
+
+-- the row that was loaded is that of a live queue pair
+
+its : (k : goal.After-load_qp-own) → let a = k.args in Sender a.state.now a.qpn k.load_qp-own.result
+its k =
+    let e = k in
+    let b = e.before.before.before.before.before.before.before in
+    record {
+      accepted = b.requires.0.accepted;
+      size = b.requires.0.size;
+      below = e.before.before.before.if1.false;
+      live = sym e.before.is_live.ensures ∙ not-false _ e.if2.false;
+      row = k.load_qp-own.ensures;
+    }
+
+pub returns-then-q-ge-QP_COUNT : goal.returns-then-q-ge-QP_COUNT
+returns-then-q-ge-QP_COUNT c =
+    let b = c in
+    no_pair b.args.state.now b.args.qpn (asked b) b.args.memory.now c.if-q-ge-QP_COUNT.true
+
+pub returns-then-not-is_live : goal.returns-then-not-is_live
+returns-then-not-is_live c =
+    let b = c in
+    not_live b.args.state.now b.args.qpn (asked b) b.args.memory.now c.if-q-ge-QP_COUNT.false
+    (sym c.is_live.ensures ∙ not-true _ c.if-not-is_live.true)
+
+pub direct_error-requires : goal.direct_error-requires
+direct_error-requires c = (its c, c.if-own-eq-ERROR.true)
+
+pub returns-then-own-eq-ERROR : goal.returns-then-own-eq-ERROR
+returns-then-own-eq-ERROR c =
+    let b = c in
+    c.direct_error.ensures b.args.sges b.args.inline.now b.args.memory.now
+
+pub returns-then-own-ne-RTS : goal.returns-then-own-ne-RTS
+returns-then-own-ne-RTS c =
+    let k = c in
+    let b = k in
+    let y = its k in
+    not_ready b.args.state.now b.args.qpn (asked b) b.args.memory.now y.below y.live _ y.row c.if-own-eq-ERROR.false c.if-own-ne-RTS.true
+
+pub is_queued-requires : goal.is_queued-requires
+is_queued-requires c = let y = its c in (y.below, y.size)
+
+pub returns-then-is_queued : goal.returns-then-is_queued
+returns-then-is_queued c =
+    let k = c in
+    let b = k in
+    let y = its k in
+    has_queue b.args.state.now b.args.qpn (asked b) b.args.memory.now y.below y.live _ y.row
+    (sends b.args.state.now b.args.qpn (asked b) b.args.memory.now y.below y.live _ y.row c.if-own-ne-RTS.false) _
+    c.is_queued.ensures c.if-is_queued.true
+
+pub run-requires : goal.run-requires
+run-requires c =
+    let k = c in
+    let b = k in
+    ((b.requires.0, its k, c.if-own-eq-ERROR.false), b.requires.1)
+
+pub returns : goal.returns
+returns c =
+    let k = c in
+    let b = k in
+    let e = c in
+    let y = its k in
+    run_on b.args.state.now b.args.qpn (asked b) b.args.memory.now y.below y.live _ y.row
+    (sends b.args.state.now b.args.qpn (asked b) b.args.memory.now y.below y.live _ y.row c.if-own-ne-RTS.false) _
+    e.is_queued.ensures e.if-is_queued.false _ _ _ c.run.ensures

@@ -1,0 +1,14 @@
+use mathlib.Core.Path.{ap}
+use native.Mathlib.Omega.{arith}
+use Rattle.tables.specs.declared.WaitingHead.{WaitingHead}
+use Rattle.tables.specs.Queue.{post_bytes}
+use Rattle.tables.proofs.queue.post_receive.Goals as goal
+
+pub overflow_add-next : goal.overflow_add-next
+overflow_add-next c =
+    let e = ap (λ (h : WaitingHead). h.count) c.load_waiting-h.ensures in
+    omega arith
+
+pub returns : goal.returns
+unfolding post_bytes
+returns c = cc

@@ -1,0 +1,8 @@
+use Rattle.tables.specs.Layout.{cq_t, queue_codec}
+use Rattle.wire.specs.Table.{row_at, place}
+use Rattle.wire.specs.Codec.{bytes_from}
+use Rattle.tables.proofs.rows.load_cq.Goals as goal
+
+pub returns : goal.returns
+unfolding row_at cq_t queue_codec place bytes_from
+returns c = rw c.get_bytes4-b.ensures

@@ -1,0 +1,8 @@
+use Rattle.tables.specs.Layout.{mr_t, region_codec}
+use Rattle.wire.specs.Table.{row_at, place}
+use Rattle.wire.specs.Codec.{fields_at, bytes_from}
+use Rattle.tables.proofs.rows.load_mr.Goals as goal
+
+pub returns : goal.returns
+unfolding row_at mr_t region_codec fields_at place bytes_from
+returns c = rw (c.get_bytes4-b.ensures, c.get64.ensures, c.get64-2.ensures, c.get64-3.ensures)

@@ -1,0 +1,34 @@
+use Rattle.std.proofs.Common.{◌≡◌, ◌+◌, ◌-◌, ◌*◌, ◌/◌, ◌≤◌, true, false, sym, ◌∙◌, ⊎_elim, arith, rules}
+use Rattle.wire.specs.Scan.{all_below}
+use Rattle.wire.proofs.ScanLaws.{all_none, block_fails}
+use borrow.Author.Tests.{not-true, not-false}
+use Rattle.validate.specs.Accept.{mr_ok}
+use Rattle.tables.specs.Limits.{mr_count}
+use Rattle.validate.proofs.TestLaws.{eight_free, eight_tested}
+use Rattle.validate.proofs.regions.mrs_ok.Goals as goal
+
+pub loop-g-init : goal.loop-g-init
+loop-g-init c = (search rules, all_none _)
+
+pub returns-then-not-eight_ok : goal.returns-then-not-eight_ok
+returns-then-not-eight_ok c =
+    let a = c.args in
+    let g = c.loop-g.g in
+    let e : all_below 8 (λ i. mr_ok a.state.now (8 * g + i)) ≡ false = sym c.eight_ok.ensures ∙ not-true _ c.if-not-eight_ok.true in
+    sym (block_fails mr_count (mr_ok a.state.now) (8 * g) 8 (search rules) e)
+
+pub loop-g-preserved : goal.loop-g-preserved
+loop-g-preserved c =
+    let a = c.args in
+    let h = c.loop-g in (
+      search rules,
+      c.past_free-g.ensures.2
+          (⊎_elim (λ w. eight_tested a.state.now h.g h.invariant.1 (sym w.1.ensures ∙ not-false _ w.2.left))
+          (λ w. eight_free a.state.now h.g h.invariant.1 (sym c.get64.ensures ∙ w.left)) c.if-get64-ne0.branch),
+    )
+
+pub returns : goal.returns
+returns c =
+    let h = c.loop-g in
+    let e : 8 * h.g ≡ mr_count = omega arith in
+    sym (rw e at h.invariant.1)

@@ -1,0 +1,16 @@
+use Rattle.std.proofs.Common.{◌≡◌, ℕ, ◌+◌, ◌-◌, ◌*◌, ◌<◌, ◌≤◌, ◌&&◌}
+use Rattle.wire.specs.Table.{row_at}
+use Rattle.tables.specs.Layout.{entry_t}
+use Rattle.tables.specs.Limits.{most_places, most_message}
+use Rattle.validate.proofs.together.completions_pass.Given as goal
+
+abbrev pub invariant-loop-k : goal.invariant-loop-k
+invariant-loop-k l =
+    (l.k ≤ most_places)
+    × ((j : ℕ) → j < l.k → (row_at entry_t l.state (most_places * l.n + j)).status ≤ l.statuses)
+    × ((j : ℕ) → j < l.k → (row_at entry_t l.state (most_places * l.n + j)).opcode ≤ l.opcodes)
+    × ((j : ℕ) → j < l.k → (row_at entry_t l.state (most_places * l.n + j)).owner ≤ l.owners)
+    × ((j : ℕ) → j < l.k → (row_at entry_t l.state (most_places * l.n + j)).length ≤ most_message)
+
+abbrev pub decreases-loop-k : goal.decreases-loop-k
+decreases-loop-k l = most_places - l.k
