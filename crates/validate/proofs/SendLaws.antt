@@ -85,7 +85,7 @@ module _ (l : List ℕ) (ok : Accepted l) (q : ℕ) (b : q < qp_count) (live : r
     pub enqueue_accepted : Accepted (queue_bytes l q x)
     enqueue_accepted =
         pair_accepted ok (queued.queue_only l q b live queue_first ok.sized x good room)
-        (rw (queued.queue_at l q b live queue_first ok.sized x good room) (still_sound (grown h) rs joined_sound))
+        (rw (queued.queue_at_lem l q b live queue_first ok.sized x good room) (still_sound (grown h) rs joined_sound))
 
   -- one fewer
   module _ (held : 0 < h.count) where

@@ -15,7 +15,7 @@ pub returns-then-not-has_place : goal.returns-then-not-has_place
 returns-then-not-has_place c =
     let b = c in
     let a = b.args in
-    flush_held a.state.now a.q a.own b.requires.0 a.s b.requires.1 (sym c.has_place.ensures ∙ not-true _ c.if-not-has_place.true)
+    flush_held a.state.now a.q a.own b.requires.0 a.s b.requires.1 (sym c.has_place.ensures ∙ c.if-not-has_place.true)
 
 pub put_work-requires : goal.put_work-requires
 put_work-requires c =
@@ -23,7 +23,7 @@ put_work-requires c =
     let a = b.args in
     flush_needs a.state.now a.q a.own b.requires.0 a.s b.requires.1 (search rules)
     (error_passes a.state.now a.q a.s.opcode a.own b.requires.0 b.requires.1
-    (sym c.has_place.ensures ∙ not-false _ c.if-not-has_place.false))
+    (sym c.has_place.ensures ∙ c.if-not-has_place.false))
 
 pub returns : goal.returns
 returns c =
@@ -32,4 +32,4 @@ returns c =
     let a = b.args in
     flush_done a.state.now a.q a.own b.requires.0 a.s b.requires.1 (search rules)
     (error_passes a.state.now a.q a.s.opcode a.own b.requires.0 b.requires.1
-    (sym k.has_place.ensures ∙ not-false _ k.if-not-has_place.false)) _ c.put_work.ensures
+    (sym k.has_place.ensures ∙ k.if-not-has_place.false)) _ c.put_work.ensures

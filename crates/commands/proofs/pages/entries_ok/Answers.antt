@@ -13,14 +13,14 @@ pub returns-then-not-entry_ok : goal.returns-then-not-entry_ok
 returns-then-not-entry_ok c =
     let s = c in
     let l = c.loop-i in
-    sym (left_fails (entry_ok s.args.memory) s.args.pages.now l.i (search rules) (sym c.entry_ok.ensures ∙ not-true _ c.if-not-entry_ok.true)) ∙ l.invariant.1
+    sym (left_fails (entry_ok s.args.memory) s.args.pages.now l.i (search rules) (sym c.entry_ok.ensures ∙ c.if-not-entry_ok.true)) ∙ l.invariant.1
 
 pub loop-i-preserved : goal.loop-i-preserved
 loop-i-preserved c =
     let s = c in
     let l = c.loop-i in (
       search rules,
-      left_passes (entry_ok s.args.memory) s.args.pages.now l.i (search rules) (sym c.entry_ok.ensures ∙ not-false _ c.if-not-entry_ok.false) ∙ l.invariant.1,
+      left_passes (entry_ok s.args.memory) s.args.pages.now l.i (search rules) (sym c.entry_ok.ensures ∙ c.if-not-entry_ok.false) ∙ l.invariant.1,
     )
 
 pub returns : goal.returns

@@ -20,7 +20,7 @@ returns-then-not-own_permitted c =
     let w = c in
     own_refused l m a.e a.s a.sges x a.w a.total (let h = w.if-total.false in omega arith)
     (sym (own_judged l m a.e a.s a.sges x a.w a.total w.own_party.result w.own_party.ensures c.own_permitted.result
-    c.own_permitted.ensures) ∙ not-true _ c.if-not-own_permitted.true)
+    c.own_permitted.ensures) ∙ c.if-not-own_permitted.true)
 
 pub deliver_far-requires : goal.deliver_far-requires
 deliver_far-requires c =
@@ -31,6 +31,6 @@ deliver_far-requires c =
     let side : OwnSide (card l) a.e a.s a.sges a.total = record {
       short = p.if-total.false;
       permitted = sym (own_judged l a.memory.now a.e a.s a.sges a.inline.now a.w a.total p.own_party.result p.own_party.ensures
-          c.own_permitted.result c.own_permitted.ensures) ∙ not-false _ c.if-not-own_permitted.false;
+          c.own_permitted.result c.own_permitted.ensures) ∙ c.if-not-own_permitted.false;
     } in
     (b.requires.0, (b.requires.1.0, b.requires.1.1, side))

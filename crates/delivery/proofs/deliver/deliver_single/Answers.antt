@@ -22,7 +22,7 @@ side c =
     record {
       short = c.if-a-gt-MOST_MESSAGE.false;
       permitted = sym (own_judged a.s b.requires.1 a.a a.state.now a.memory.now a.e _ c.own_party.ensures _
-          c.own_mask.ensures _ c.range_permitted.ensures) ∙ not-false _ c.if-not-range_permitted.false;
+          c.own_mask.ensures _ c.range_permitted.ensures) ∙ c.if-not-range_permitted.false;
     }
 
 -- no receive is filled
@@ -52,7 +52,7 @@ returns-then-not-range_permitted c =
     let a = b.args in
     own_refused a.state.now a.memory.now a.e a.s (a.a ∷ []) [] no_record a.a.length c.if-a-gt-MOST_MESSAGE.false
     (sym (own_judged a.s b.requires.1 a.a a.state.now a.memory.now a.e _ c.own_party.ensures _
-    c.own_mask.ensures _ c.range_permitted.ensures) ∙ not-true _ c.if-not-range_permitted.true)
+    c.own_mask.ensures _ c.range_permitted.ensures) ∙ c.if-not-range_permitted.true)
 
 pub returns-then-not-range_permitted-2 : goal.returns-then-not-range_permitted-2
 returns-then-not-range_permitted-2 c =
@@ -60,7 +60,7 @@ returns-then-not-range_permitted-2 c =
     let b = k in
     let a = b.args in
     far_refused a.state.now a.memory.now a.e a.s (a.a ∷ []) [] no_record a.a.length (side k) (fits b) _
-    (rw (unfilled a.s b.requires.1)) (sym (range-is c) ∙ not-true _ c.if-not-range_permitted-2.true)
+    (rw (unfilled a.s b.requires.1)) (sym (range-is c) ∙ c.if-not-range_permitted-2.true)
 
 pub move_single-requires : goal.move_single-requires
 move_single-requires c =
@@ -69,7 +69,7 @@ move_single-requires c =
     let b = k in
     let a = b.args in
     let y = carries a.state.now a.memory.now a.e a.s (a.a ∷ []) [] no_record a.a.length (side k) (fits b)
-    (sym (range-is d) ∙ not-false _ c.if-not-range_permitted-2.false) _ refl (single_sending a.s b.requires.1 a.a) in
+    (sym (range-is d) ∙ c.if-not-range_permitted-2.false) _ refl (single_sending a.s b.requires.1 a.a) in
     (b.requires, rw (list_is a.s b.requires.1 a.a) at y)
 
 pub returns : goal.returns
@@ -79,5 +79,5 @@ returns c =
     let b = k in
     let a = b.args in
     all_moved a.state.now a.memory.now a.e a.s (a.a ∷ []) [] no_record a.a.length (side k) (fits b)
-    (sym (range-is d) ∙ not-false _ c.if-not-range_permitted-2.false) _ refl _
+    (sym (range-is d) ∙ c.if-not-range_permitted-2.false) _ refl _
     (rw (list_is a.s b.requires.1 a.a) c.move_single.ensures)

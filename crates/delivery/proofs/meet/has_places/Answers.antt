@@ -13,7 +13,7 @@ use Rattle.delivery.proofs.meet.has_places.Goals as goal
 pub returns-then-not-takes_receive : goal.returns-then-not-takes_receive
 returns-then-not-takes_receive c =
     let a = c.args in
-    let e : takes a.opcode ≡ false = sym c.takes_receive.ensures ∙ not-true _ c.if-not-takes_receive.true in
+    let e : takes a.opcode ≡ false = sym c.takes_receive.ensures ∙ c.if-not-takes_receive.true in
     c.has_room.ensures ∙ ap (λ (h : QueueHead). leb (h.count + 1) h.places) c.load_cq-first.ensures
     ∙ own_place (row_at cq_t a.state.now a.s) (row_at cq_t a.state.now a.r) (eqb a.s a.r) a.opcode e
 
@@ -24,7 +24,7 @@ has_room-own-requires c =
 
 pub returns : goal.returns
 returns c =
-    let e : takes c.args.opcode ≡ true = sym c.takes_receive.ensures ∙ not-false _ c.if-not-takes_receive.false in
+    let e : takes c.args.opcode ≡ true = sym c.takes_receive.ensures ∙ c.if-not-takes_receive.false in
     rw (
       e,
       c.has_room-far.ensures,

@@ -13,11 +13,11 @@ returns-then-not-has_places c =
     let a = c.args in
     no_place_lem a.state.now a.e a.opcode _ c.takes_receive.ensures _
     c.load_waiting-h.ensures c.if-takes_receive-h.false _ c.has_places.ensures
-    (not-true _ c.if-not-has_places.true)
+    c.if-not-has_places.true
 
 pub returns : goal.returns
 returns c =
     let a = c.args in
     ends_meet a.state.now a.e a.opcode _ c.takes_receive.ensures _
     c.load_waiting-h.ensures c.if-takes_receive-h.false _ c.has_places.ensures
-    (not-false _ c.if-not-has_places.false)
+    c.if-not-has_places.false

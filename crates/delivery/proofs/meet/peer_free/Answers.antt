@@ -17,7 +17,7 @@ returns-then-not-answers_to c =
     let a = b.args in
     ap is_pairs (peer_silent a.state.now a.q a.opcode a.own b.requires.0 b.requires.1 c.if-d-ge-QP_COUNT.false _
     c.is_live-live.ensures _ c.load_qp-far.ensures
-    (sym c.answers_to.ensures ∙ not-true _ c.if-not-answers_to.true))
+    (sym c.answers_to.ensures ∙ c.if-not-answers_to.true))
     ∙ free_is a.state.now a.q a.opcode a.own b.requires.0
 
 pub peer_passes-requires : goal.peer_passes-requires
@@ -26,7 +26,7 @@ peer_passes-requires c =
     let a = b.args in
     let h = c.if-d-ge-QP_COUNT.false in
     let k = queues_below a.state.now a.q a.opcode a.own b.requires.0 b.requires.1 h _ c.is_live-live.ensures _
-    c.load_qp-far.ensures (sym c.answers_to.ensures ∙ not-false _ c.if-not-answers_to.false) in
+    c.load_qp-far.ensures (sym c.answers_to.ensures ∙ c.if-not-answers_to.false) in
     (k.0, k.1, h, b.requires.0.size)
 
 pub returns : goal.returns
@@ -36,5 +36,5 @@ returns c =
     c.peer_passes.ensures
     ∙ ap is_pairs (peer_met a.state.now a.q a.opcode a.own b.requires.0 b.requires.1 c.if-d-ge-QP_COUNT.false _
     c.is_live-live.ensures _ c.load_qp-far.ensures
-    (sym c.answers_to.ensures ∙ not-false _ c.if-not-answers_to.false))
+    (sym c.answers_to.ensures ∙ c.if-not-answers_to.false))
     ∙ free_is a.state.now a.q a.opcode a.own b.requires.0

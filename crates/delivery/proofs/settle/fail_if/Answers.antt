@@ -4,7 +4,7 @@ use borrow.Author.Tests.{not-true, not-false}
 use Rattle.delivery.proofs.settle.fail_if.Goals as goal
 
 pub returns-then-not-b : goal.returns-then-not-b
-returns-then-not-b c = let e : c.args.b ≡ false = not-true _ c.if-not-b.true in rw e
+returns-then-not-b c = let e : c.args.b ≡ false = c.if-not-b.true in rw e
 
 pub returns : goal.returns
 returns c =

@@ -6,7 +6,7 @@ use Rattle.delivery.proofs.settle.put_receiver.Goals as goal
 pub returns-then-not-is_consumed : goal.returns-then-not-is_consumed
 returns-then-not-is_consumed c =
     let a = c.args in
-    not_consumed a.state.now a.e a.s a.st a.n a.w (sym c.is_consumed.ensures ∙ not-true _ c.if-not-is_consumed.true)
+    not_consumed a.state.now a.e a.s a.st a.n a.w (sym c.is_consumed.ensures ∙ c.if-not-is_consumed.true)
 
 pub push_completion-requires : goal.push_completion-requires
 push_completion-requires c =

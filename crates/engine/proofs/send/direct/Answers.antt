@@ -32,7 +32,7 @@ pub returns-then-not-is_live : goal.returns-then-not-is_live
 returns-then-not-is_live c =
     let b = c in
     not_live b.args.state.now b.args.qpn (asked b) b.args.memory.now c.if-q-ge-QP_COUNT.false
-    (sym c.is_live.ensures ∙ not-true _ c.if-not-is_live.true)
+    (sym c.is_live.ensures ∙ c.if-not-is_live.true)
 
 pub direct_error-requires : goal.direct_error-requires
 direct_error-requires c = (its c, c.if-own-eq-ERROR.true)

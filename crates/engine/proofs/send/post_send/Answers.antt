@@ -20,7 +20,7 @@ returns-then-not-accepted c =
     let l : List ℕ = a.state.now in
     let m : List ℕ = a.memory.now in
     let x : List ℕ = a.sent.now in
-    not_accepted l a.qpn x m (sym c.accepted.ensures ∙ not-true _ c.if-not-accepted.true)
+    not_accepted l a.qpn x m (sym c.accepted.ensures ∙ c.if-not-accepted.true)
 
 pub load_memory-requires : goal.load_memory-requires
 load_memory-requires c =
@@ -29,7 +29,7 @@ load_memory-requires c =
     let l : List ℕ = a.state.now in
     let m : List ℕ = a.memory.now in
     let x : List ℕ = a.sent.now in
-    let y : accepts l ≡ true = sym c.accepted.ensures ∙ not-false _ c.if-not-accepted.false in
+    let y : accepts l ≡ true = sym c.accepted.ensures ∙ c.if-not-accepted.false in
     (accepted l y).sized
 
 pub returns-then-memory-load_memory : goal.returns-then-memory-load_memory
@@ -39,7 +39,7 @@ returns-then-memory-load_memory c =
     let l : List ℕ = a.state.now in
     let m : List ℕ = a.memory.now in
     let x : List ℕ = a.sent.now in
-    let y : accepts l ≡ true = sym c.accepted.ensures ∙ not-false _ c.if-not-accepted.false in
+    let y : accepts l ≡ true = sym c.accepted.ensures ∙ c.if-not-accepted.false in
     other_memory l a.qpn x m y (λ z. c.if-memory-load_memory.true (z ∙ memory_is l ∙ sym c.load_memory.ensures))
 
 pub inline_bytes-inline-requires : goal.inline_bytes-inline-requires
@@ -57,7 +57,7 @@ direct-requires c =
     let l : List ℕ = a.state.now in
     let m : List ℕ = a.memory.now in
     let x : List ℕ = a.sent.now in
-    let y : accepts l ≡ true = sym t.accepted.ensures ∙ not-false _ r.if-not-accepted.false in
+    let y : accepts l ≡ true = sym t.accepted.ensures ∙ r.if-not-accepted.false in
     let v : length m ≡ (card l).memory = r.if-memory-load_memory.false ∙ r.load_memory.ensures ∙ sym (memory_is l) in (
       record { accepted = y; size = (accepted l y).sized; whole = v ∙ memory_is l },
       rw c.inline_bytes-inline.ensures
@@ -75,7 +75,7 @@ returns-in-Record c =
     let l : List ℕ = a.state.now in
     let m : List ℕ = a.memory.now in
     let x : List ℕ = a.sent.now in
-    let y : accepts l ≡ true = sym t.accepted.ensures ∙ not-false _ r.if-not-accepted.false in
+    let y : accepts l ≡ true = sym t.accepted.ensures ∙ r.if-not-accepted.false in
     let v : length m ≡ (card l).memory = r.if-memory-load_memory.false ∙ r.load_memory.ensures ∙ sym (memory_is l) in
     let p = posted x _ (sym i.in-Record.is ∙ r.read_send.ensures) in
     ran l a.qpn x m y v p.good _ _ _
@@ -90,6 +90,6 @@ returns-in-Refused c =
     let l : List ℕ = a.state.now in
     let m : List ℕ = a.memory.now in
     let x : List ℕ = a.sent.now in
-    let y : accepts l ≡ true = sym t.accepted.ensures ∙ not-false _ r.if-not-accepted.false in
+    let y : accepts l ≡ true = sym t.accepted.ensures ∙ r.if-not-accepted.false in
     let v : length m ≡ (card l).memory = r.if-memory-load_memory.false ∙ r.load_memory.ensures ∙ sym (memory_is l) in
     bad_record_lem l a.qpn x m y v _ (sym c.in-Refused.is ∙ r.read_send.ensures)

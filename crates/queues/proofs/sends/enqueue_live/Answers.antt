@@ -9,14 +9,14 @@ pub returns-then-not-may_queue : goal.returns-then-not-may_queue
 returns-then-not-may_queue c =
     let c1 = c in
     let a = c1.args in
-    enqueue_state a.state.now a.q a.sent.now c1.requires.0 c1.requires.1 (sym c.may_queue.ensures ∙ not-true _ c.if-not-may_queue.true)
+    enqueue_state a.state.now a.q a.sent.now c1.requires.0 c1.requires.1 (sym c.may_queue.ensures ∙ c.if-not-may_queue.true)
 
 pub returns-then-queue_full : goal.returns-then-queue_full
 returns-then-queue_full c =
     let c1 = c in
     let c2 = c1 in
     let a = c2.args in
-    let takes = sym c1.may_queue.ensures ∙ not-false _ c1.if-not-may_queue.false in
+    let takes = sym c1.may_queue.ensures ∙ c1.if-not-may_queue.false in
     enqueue_full a.state.now a.q a.sent.now c2.requires.0 c2.requires.1 takes (sym c.queue_full.ensures ∙ c.if-queue_full.true)
 
 pub push_send-requires : goal.push_send-requires
@@ -34,6 +34,6 @@ returns c =
     let c2 = c1 in
     let c3 = c2 in
     let a = c3.args in
-    let takes = sym c2.may_queue.ensures ∙ not-false _ c2.if-not-may_queue.false in
+    let takes = sym c2.may_queue.ensures ∙ c2.if-not-may_queue.false in
     let room = sym c1.queue_full.ensures ∙ c1.if-queue_full.false in
     enqueue_done a.state.now a.q a.sent.now c3.requires.0 c3.requires.1 takes room _ c.push_send.ensures

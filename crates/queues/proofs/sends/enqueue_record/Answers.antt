@@ -11,10 +11,10 @@ pub returns-then-not-live : goal.returns-then-not-live
 returns-then-not-live c =
     let c1 = c in
     let a = c1.args in
-    enqueue_dead a.state.now a.qpn a.sent.now c1.requires.0 c1.requires.1 (sym c.live.ensures ∙ not-true _ c.if-not-live.true)
+    enqueue_dead a.state.now a.qpn a.sent.now c1.requires.0 c1.requires.1 (sym c.live.ensures ∙ c.if-not-live.true)
 
 pub enqueue_live-requires : goal.enqueue_live-requires
 enqueue_live-requires c =
     let c1 = c in
     let p = c1.requires in
-    (record { ok = p.0; live = sym c1.live.ensures ∙ not-false _ c1.if-not-live.false }, p.1)
+    (record { ok = p.0; live = sym c1.live.ensures ∙ c1.if-not-live.false }, p.1)

@@ -14,7 +14,7 @@ unfolding accepts
 returns-then-not-header_ok c =
     rw (
       eq-eqb (length c.args.state.now) state_size (search rules),
-      sym c.header_ok.ensures ∙ not-true _ c.if-not-header_ok.true,
+      sym c.header_ok.ensures ∙ c.if-not-header_ok.true,
     )
 
 pub returns-then-not-pds_ok : goal.returns-then-not-pds_ok
@@ -22,8 +22,8 @@ unfolding accepts
 returns-then-not-pds_ok c =
     rw (
       eq-eqb (length c.args.state.now) state_size (search rules),
-      sym c.header_ok.ensures ∙ not-false _ c.if-not-header_ok.false,
-      sym c.pds_ok.ensures ∙ not-true _ c.if-not-pds_ok.true,
+      sym c.header_ok.ensures ∙ c.if-not-header_ok.false,
+      sym c.pds_ok.ensures ∙ c.if-not-pds_ok.true,
     )
 
 pub returns-then-not-cqs_ok : goal.returns-then-not-cqs_ok
@@ -31,9 +31,9 @@ unfolding accepts
 returns-then-not-cqs_ok c =
     rw (
       eq-eqb (length c.args.state.now) state_size (search rules),
-      sym c.header_ok.ensures ∙ not-false _ c.if-not-header_ok.false,
-      sym c.pds_ok.ensures ∙ not-false _ c.if-not-pds_ok.false,
-      sym c.cqs_ok.ensures ∙ not-true _ c.if-not-cqs_ok.true,
+      sym c.header_ok.ensures ∙ c.if-not-header_ok.false,
+      sym c.pds_ok.ensures ∙ c.if-not-pds_ok.false,
+      sym c.cqs_ok.ensures ∙ c.if-not-cqs_ok.true,
     )
 
 pub returns-then-not-mrs_ok : goal.returns-then-not-mrs_ok
@@ -41,10 +41,10 @@ unfolding accepts
 returns-then-not-mrs_ok c =
     rw (
       eq-eqb (length c.args.state.now) state_size (search rules),
-      sym c.header_ok.ensures ∙ not-false _ c.if-not-header_ok.false,
-      sym c.pds_ok.ensures ∙ not-false _ c.if-not-pds_ok.false,
-      sym c.cqs_ok.ensures ∙ not-false _ c.if-not-cqs_ok.false,
-      sym c.mrs_ok.ensures ∙ not-true _ c.if-not-mrs_ok.true,
+      sym c.header_ok.ensures ∙ c.if-not-header_ok.false,
+      sym c.pds_ok.ensures ∙ c.if-not-pds_ok.false,
+      sym c.cqs_ok.ensures ∙ c.if-not-cqs_ok.false,
+      sym c.mrs_ok.ensures ∙ c.if-not-mrs_ok.true,
     )
 
 pub returns : goal.returns
@@ -52,8 +52,8 @@ unfolding accepts
 returns c =
     rw (
       eq-eqb (length c.args.state.now) state_size (search rules),
-      sym c.header_ok.ensures ∙ not-false _ c.if-not-header_ok.false,
-      sym c.pds_ok.ensures ∙ not-false _ c.if-not-pds_ok.false,
-      sym c.cqs_ok.ensures ∙ not-false _ c.if-not-cqs_ok.false,
-      sym c.mrs_ok.ensures ∙ not-false _ c.if-not-mrs_ok.false,
+      sym c.header_ok.ensures ∙ c.if-not-header_ok.false,
+      sym c.pds_ok.ensures ∙ c.if-not-pds_ok.false,
+      sym c.cqs_ok.ensures ∙ c.if-not-cqs_ok.false,
+      sym c.mrs_ok.ensures ∙ c.if-not-mrs_ok.false,
     ) c.qps_ok.ensures

@@ -20,12 +20,12 @@ pub returns-then-not-queue_ok : goal.returns-then-not-queue_ok
 returns-then-not-queue_ok c =
     let a = c.args in
     let f : row_at cq_flag_t a.state.now a.n ≡ 1 = rw c.load_cq_flag-live.ensures at c.if-live-ne1.false in
-    rw (cq_rest a.state.now a.n f, ← c.load_cq-h.ensures, sym c.queue_ok.ensures ∙ not-true _ c.if-not-queue_ok.true)
+    rw (cq_rest a.state.now a.n f, ← c.load_cq-h.ensures, sym c.queue_ok.ensures ∙ c.if-not-queue_ok.true)
 
 pub entries_ok-requires : goal.entries_ok-requires
 entries_ok-requires c =
     let h = c.load_cq-h.result in
-    let e : queue_ok h ≡ true = sym c.queue_ok.ensures ∙ not-false _ c.if-not-queue_ok.false in
+    let e : queue_ok h ≡ true = sym c.queue_ok.ensures ∙ c.if-not-queue_ok.false in
     (search rules, head_first h e, search rules)
 
 pub returns : goal.returns
@@ -33,4 +33,4 @@ unfolding queue_at
 returns c =
     let a = c.args in
     let f : row_at cq_flag_t a.state.now a.n ≡ 1 = rw c.load_cq_flag-live.ensures at c.if-live-ne1.false in
-    rw (cq_rest a.state.now a.n f, ← c.load_cq-h.ensures, sym c.queue_ok.ensures ∙ not-false _ c.if-not-queue_ok.false) c.entries_ok.ensures
+    rw (cq_rest a.state.now a.n f, ← c.load_cq-h.ensures, sym c.queue_ok.ensures ∙ c.if-not-queue_ok.false) c.entries_ok.ensures

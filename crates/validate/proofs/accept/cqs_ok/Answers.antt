@@ -13,7 +13,7 @@ returns-then-not-cq_ok c =
     let a = c.args in
     let h = c.loop-n in
     let p : ℕ → Bool = cq_ok a.state.now in
-    let e : p h.n ≡ false = sym c.cq_ok.ensures ∙ not-true _ c.if-not-cq_ok.true in
+    let e : p h.n ≡ false = sym c.cq_ok.ensures ∙ c.if-not-cq_ok.true in
     sym (all_fails cq_count p h.n (search rules) e)
 
 pub loop-n-preserved : goal.loop-n-preserved
@@ -21,7 +21,7 @@ loop-n-preserved c =
     let a = c.args in
     let h = c.loop-n in
     let p : ℕ → Bool = cq_ok a.state.now in
-    let e : p h.n ≡ true = sym c.cq_ok.ensures ∙ not-false _ c.if-not-cq_ok.false in
+    let e : p h.n ≡ true = sym c.cq_ok.ensures ∙ c.if-not-cq_ok.false in
     (search rules, all_more h.n p h.invariant.1 e)
 
 pub returns : goal.returns

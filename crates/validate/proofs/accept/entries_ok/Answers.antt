@@ -23,7 +23,7 @@ returns-then-not-completion_ok c =
     let h = c.loop-left in
     let es : List Completion = ring_at a.state.now a.n in
     let g : get_or es h.at no_completion ≡ c.load_entry.result = entry_at a.state.now a.n h.at (search rules) ∙ sym c.load_entry.ensures in
-    let e : completion_ok (get_or es h.at no_completion) ≡ false = ap completion_ok g ∙ sym c.completion_ok.ensures ∙ not-true _ c.if-not-completion_ok.true in
+    let e : completion_ok (get_or es h.at no_completion) ≡ false = ap completion_ok g ∙ sym c.completion_ok.ensures ∙ c.if-not-completion_ok.true in
     sym (sym h.invariant.1 ∙ ring_fails no_completion most_places completion_ok es h.at h.left (search rules) e)
 
 pub loop-left-preserved : goal.loop-left-preserved
@@ -32,7 +32,7 @@ loop-left-preserved c =
     let h = c.loop-left in
     let es : List Completion = ring_at a.state.now a.n in
     let g : get_or es h.at no_completion ≡ c.load_entry.result = entry_at a.state.now a.n h.at (search rules) ∙ sym c.load_entry.ensures in
-    let e : completion_ok (get_or es h.at no_completion) ≡ true = ap completion_ok g ∙ sym c.completion_ok.ensures ∙ not-false _ c.if-not-completion_ok.false in
+    let e : completion_ok (get_or es h.at no_completion) ≡ true = ap completion_ok g ∙ sym c.completion_ok.ensures ∙ c.if-not-completion_ok.false in
     (rw c.ring_place-at.ensures (mod-lt (h.at + 1) (omega arith)), rw c.ring_place-at.ensures (sym (ring_goes no_completion most_places completion_ok es h.at h.left (search rules) e) ∙ h.invariant.1))
 
 pub returns : goal.returns

@@ -19,19 +19,19 @@ pub returns-then-not-names_ok : goal.returns-then-not-names_ok
 returns-then-not-names_ok c =
     let a = c.args in
     let f : row_at qp_flag_t a.state.now a.n ≡ 1 = rw c.load_qp_flag-live.ensures at c.if-live-ne1.false in
-    rw (qp_rest a.state.now a.n f, ← c.load_qp-p.ensures, sym c.names_ok.ensures ∙ not-true _ c.if-not-names_ok.true)
+    rw (qp_rest a.state.now a.n f, ← c.load_qp-p.ensures, sym c.names_ok.ensures ∙ c.if-not-names_ok.true)
 
 pub returns-then-not-pair_ok : goal.returns-then-not-pair_ok
 returns-then-not-pair_ok c =
     let a = c.args in
     let f : row_at qp_flag_t a.state.now a.n ≡ 1 = rw c.load_qp_flag-live.ensures at c.if-live-ne1.false in
-    rw (qp_rest a.state.now a.n f, ← c.load_qp-p.ensures, sym c.names_ok.ensures ∙ not-false _ c.if-not-names_ok.false, sym c.pair_ok.ensures ∙ not-true _ c.if-not-pair_ok.true)
+    rw (qp_rest a.state.now a.n f, ← c.load_qp-p.ensures, sym c.names_ok.ensures ∙ c.if-not-names_ok.false, sym c.pair_ok.ensures ∙ c.if-not-pair_ok.true)
 
 pub returns-then-not-waiting_ok : goal.returns-then-not-waiting_ok
 returns-then-not-waiting_ok c =
     let a = c.args in
     let f : row_at qp_flag_t a.state.now a.n ≡ 1 = rw c.load_qp_flag-live.ensures at c.if-live-ne1.false in
-    rw (qp_rest a.state.now a.n f, ← c.load_qp-p.ensures, sym c.names_ok.ensures ∙ not-false _ c.if-not-names_ok.false, sym c.pair_ok.ensures ∙ not-false _ c.if-not-pair_ok.false, sym c.waiting_ok.ensures ∙ not-true _ c.if-not-waiting_ok.true)
+    rw (qp_rest a.state.now a.n f, ← c.load_qp-p.ensures, sym c.names_ok.ensures ∙ c.if-not-names_ok.false, sym c.pair_ok.ensures ∙ c.if-not-pair_ok.false, sym c.waiting_ok.ensures ∙ c.if-not-waiting_ok.true)
 
 pub sends_ok-requires : goal.sends_ok-requires
 sends_ok-requires c = (search rules, search rules, ap (λ (p : QueuePair). p.state) c.load_qp-p.ensures)
@@ -40,4 +40,4 @@ pub returns : goal.returns
 returns c =
     let a = c.args in
     let f : row_at qp_flag_t a.state.now a.n ≡ 1 = rw c.load_qp_flag-live.ensures at c.if-live-ne1.false in
-    rw (qp_rest a.state.now a.n f, ← c.load_qp-p.ensures, sym c.names_ok.ensures ∙ not-false _ c.if-not-names_ok.false, sym c.pair_ok.ensures ∙ not-false _ c.if-not-pair_ok.false, sym c.waiting_ok.ensures ∙ not-false _ c.if-not-waiting_ok.false) c.sends_ok.ensures
+    rw (qp_rest a.state.now a.n f, ← c.load_qp-p.ensures, sym c.names_ok.ensures ∙ c.if-not-names_ok.false, sym c.pair_ok.ensures ∙ c.if-not-pair_ok.false, sym c.waiting_ok.ensures ∙ c.if-not-waiting_ok.false) c.sends_ok.ensures

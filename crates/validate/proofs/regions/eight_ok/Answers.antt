@@ -15,7 +15,7 @@ returns-then-not-mr_ok c =
     let a = c.args in
     let h = c.loop-i in
     let p : ℕ → Bool = λ k. mr_ok a.state.now (8 * a.g + k) in
-    let e : p h.i ≡ false = sym c.mr_ok.ensures ∙ not-true _ c.if-not-mr_ok.true in
+    let e : p h.i ≡ false = sym c.mr_ok.ensures ∙ c.if-not-mr_ok.true in
     sym (all_fails 8 p h.i (search rules) e)
 
 pub loop-i-preserved : goal.loop-i-preserved
@@ -23,7 +23,7 @@ loop-i-preserved c =
     let a = c.args in
     let h = c.loop-i in
     let p : ℕ → Bool = λ k. mr_ok a.state.now (8 * a.g + k) in
-    let e : p h.i ≡ true = sym c.mr_ok.ensures ∙ not-false _ c.if-not-mr_ok.false in
+    let e : p h.i ≡ true = sym c.mr_ok.ensures ∙ c.if-not-mr_ok.false in
     (search rules, all_more h.i p h.invariant.1 e)
 
 pub returns : goal.returns

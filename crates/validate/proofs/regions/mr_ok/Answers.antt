@@ -20,7 +20,7 @@ pub returns-then-not-pd_live : goal.returns-then-not-pd_live
 returns-then-not-pd_live c =
     let a = c.args in
     let f : row_at mr_flag_t a.state.now a.n ≡ 1 = rw c.load_mr_flag-live.ensures at c.if-live-ne1.false in
-    let d : (card a.state.now).pd (row_at mr_t a.state.now a.n).pd ≡ false = rw (← c.load_mr-r.ensures) (sym c.pd_live.ensures ∙ not-true _ c.if-not-pd_live.true) in
+    let d : (card a.state.now).pd (row_at mr_t a.state.now a.n).pd ≡ false = rw (← c.load_mr-r.ensures) (sym c.pd_live.ensures ∙ c.if-not-pd_live.true) in
     rw (mr_rest a.state.now a.n f, d)
 
 pub returns-then-not-fields_ok : goal.returns-then-not-fields_ok
@@ -28,8 +28,8 @@ returns-then-not-fields_ok c =
     let a = c.args in
     let m = c.load_mr-r.ensures in
     let f : row_at mr_flag_t a.state.now a.n ≡ 1 = rw c.load_mr_flag-live.ensures at c.if-live-ne1.false in
-    let d : (card a.state.now).pd (row_at mr_t a.state.now a.n).pd ≡ true = rw (← m) (sym c.pd_live.ensures ∙ not-false _ c.if-not-pd_live.false) in
-    let g : fields_ok (row_at mr_t a.state.now a.n) ≡ false = rw (← m) (sym c.fields_ok.ensures ∙ not-true _ c.if-not-fields_ok.true) in
+    let d : (card a.state.now).pd (row_at mr_t a.state.now a.n).pd ≡ true = rw (← m) (sym c.pd_live.ensures ∙ c.if-not-pd_live.false) in
+    let g : fields_ok (row_at mr_t a.state.now a.n) ≡ false = rw (← m) (sym c.fields_ok.ensures ∙ c.if-not-fields_ok.true) in
     rw (mr_rest a.state.now a.n f, d, g)
 
 pub returns : goal.returns
@@ -38,6 +38,6 @@ returns c =
     let a = s.args in
     let m = c.load_mr-r.ensures in
     let f : row_at mr_flag_t a.state.now a.n ≡ 1 = rw c.load_mr_flag-live.ensures at c.if-live-ne1.false in
-    let d : (card a.state.now).pd (row_at mr_t a.state.now a.n).pd ≡ true = rw (← m) (sym c.pd_live.ensures ∙ not-false _ c.if-not-pd_live.false) in
-    let g : fields_ok (row_at mr_t a.state.now a.n) ≡ true = rw (← m) (sym c.fields_ok.ensures ∙ not-false _ c.if-not-fields_ok.false) in
+    let d : (card a.state.now).pd (row_at mr_t a.state.now a.n).pd ≡ true = rw (← m) (sym c.pd_live.ensures ∙ c.if-not-pd_live.false) in
+    let g : fields_ok (row_at mr_t a.state.now a.n) ≡ true = rw (← m) (sym c.fields_ok.ensures ∙ c.if-not-fields_ok.false) in
     rw (mr_rest a.state.now a.n f, d, g) (c.land_ok.ensures ∙ rw s.requires.2)

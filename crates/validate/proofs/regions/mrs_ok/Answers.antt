@@ -14,7 +14,7 @@ pub returns-then-not-eight_ok : goal.returns-then-not-eight_ok
 returns-then-not-eight_ok c =
     let a = c.args in
     let g = c.loop-g.g in
-    let e : all_below 8 (λ i. mr_ok a.state.now (8 * g + i)) ≡ false = sym c.eight_ok.ensures ∙ not-true _ c.if-not-eight_ok.true in
+    let e : all_below 8 (λ i. mr_ok a.state.now (8 * g + i)) ≡ false = sym c.eight_ok.ensures ∙ c.if-not-eight_ok.true in
     sym (block_fails mr_count (mr_ok a.state.now) (8 * g) 8 (search rules) e)
 
 pub loop-g-preserved : goal.loop-g-preserved

@@ -42,7 +42,7 @@ returns-then-not-may_queue c =
     let f : (row_at send_head_t l s.args.n).first < most_queued = rw q at c.if-first-ge-MOST_QUEUED.false in
     let g : (row_at send_head_t l s.args.n).count ≤ most_queued = rw q at c.if-count-gt-MOST_QUEUED.false in
     let z : (row_at send_head_t l s.args.n).count ≡ 0 → ⊥ = rw q at c.if-h-eq0.false in
-    let m : may_queue (row_at qp_t l s.args.n).state ≡ false = ap may_queue (sym s.requires.2) ∙ sym c.may_queue.ensures ∙ not-true _ c.if-not-may_queue.true in
+    let m : may_queue (row_at qp_t l s.args.n).state ≡ false = ap may_queue (sym s.requires.2) ∙ sym c.may_queue.ensures ∙ c.if-not-may_queue.true in
     sym (sends_state (pair_at l s.args.n) f g z m)
 
 records-ok-requires c κs = search rules
@@ -56,5 +56,5 @@ returns c =
     let f : (row_at send_head_t l s.args.n).first < most_queued = rw q at c.if-first-ge-MOST_QUEUED.false in
     let g : (row_at send_head_t l s.args.n).count ≤ most_queued = rw q at c.if-count-gt-MOST_QUEUED.false in
     let z : (row_at send_head_t l s.args.n).count ≡ 0 → ⊥ = rw q at c.if-h-eq0.false in
-    let m : may_queue (row_at qp_t l s.args.n).state ≡ true = ap may_queue (sym s.requires.2) ∙ sym c.may_queue.ensures ∙ not-false _ c.if-not-may_queue.false in
+    let m : may_queue (row_at qp_t l s.args.n).state ≡ true = ap may_queue (sym s.requires.2) ∙ sym c.may_queue.ensures ∙ c.if-not-may_queue.false in
     rw (sends_rest (pair_at l s.args.n) f g z m, ← q) c.records_ok.ensures

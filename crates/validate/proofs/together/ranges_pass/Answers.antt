@@ -14,7 +14,7 @@ returns-then-not-range_ok c =
     let a = c.args in
     let h = c.loop-i in
     let p : ℕ → Bool = λ k. range_ok a.limit (row_at mr_t a.state.now (8 * a.g + k)) in
-    let e : p h.i ≡ false = rw (← c.load_mr.ensures) (sym c.range_ok.ensures ∙ not-true _ c.if-not-range_ok.true) in
+    let e : p h.i ≡ false = rw (← c.load_mr.ensures) (sym c.range_ok.ensures ∙ c.if-not-range_ok.true) in
     sym (all_fails 8 p h.i (search rules) e)
 
 pub loop-i-preserved : goal.loop-i-preserved
@@ -22,7 +22,7 @@ loop-i-preserved c =
     let a = c.args in
     let h = c.loop-i in
     let p : ℕ → Bool = λ k. range_ok a.limit (row_at mr_t a.state.now (8 * a.g + k)) in
-    let e : p h.i ≡ true = rw (← c.load_mr.ensures) (sym c.range_ok.ensures ∙ not-false _ c.if-not-range_ok.false) in
+    let e : p h.i ≡ true = rw (← c.load_mr.ensures) (sym c.range_ok.ensures ∙ c.if-not-range_ok.false) in
     (search rules, all_more h.i p h.invariant.1 e)
 
 pub returns : goal.returns

@@ -21,7 +21,7 @@ returns c e =
     let a = c.args in
     let r : ℕ → Region = λ i. row_at mr_t a.state.now (8 * a.g + i) in
     all_four 8 (λ i. variant_ok (r i)) (λ i. virt_ok a.limit (r i)) (λ i. word_ok a.kind a.domains (r i)) (λ i. range_ok a.limit (r i))
-    (sym c.variants_pass.ensures ∙ not-false _ c.if-not-variants_pass.false)
-    (c.virts_pass.ensures (not-false _ c.if-not-virts_pass.false))
-    (c.words_pass.ensures (not-false _ c.if-not-words_pass.false))
+    (sym c.variants_pass.ensures ∙ c.if-not-variants_pass.false)
+    (c.virts_pass.ensures c.if-not-virts_pass.false)
+    (c.words_pass.ensures c.if-not-words_pass.false)
     (sym c.ranges_pass.ensures ∙ e)

@@ -3,7 +3,7 @@ use borrow.Author.Tests.{not-true, not-false}
 use Rattle.validate.proofs.together.words_ok.Goals as goal
 
 pub returns-then-not-remote_ok : goal.returns-then-not-remote_ok
-returns-then-not-remote_ok c = rw (sym c.remote_ok.ensures ∙ not-true _ c.if-not-remote_ok.true)
+returns-then-not-remote_ok c = rw (sym c.remote_ok.ensures ∙ c.if-not-remote_ok.true)
 
 pub returns : goal.returns
-returns c = rw (sym c.remote_ok.ensures ∙ not-false _ c.if-not-remote_ok.false)
+returns c = rw (sym c.remote_ok.ensures ∙ c.if-not-remote_ok.false)
