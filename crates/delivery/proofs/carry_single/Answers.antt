@@ -13,7 +13,7 @@ imm-fits : (b : goal.Start) → b.args.s.imm < 2 ^ 32
 imm-fits b = search rules
 
 pub deliver_single-st-requires : goal.deliver_single-st-requires
-deliver_single-st-requires c = (c.requires.0, c.requires.1.0)
+deliver_single-st-requires c = (c.requires.ready, c.requires.s_value.0)
 
 pub settle_single-requires : goal.settle_single-requires
 settle_single-requires c =
@@ -21,9 +21,9 @@ settle_single-requires c =
     let b = k in
     let a = b.args in
     let d = k.deliver_single-st.ensures in (
-      single_settling a.state.now a.memory.now a.e b.requires.0.accepted a.s b.requires.1.0 a.a (wr-fits b) (imm-fits b) b.requires.1.1 _ _ d,
-      untaken a.s b.requires.1.0,
-      own_fault a.s b.requires.1.0 a.state.now a.e (a.a ∷ []) no_record a.a.length _ d.status,
+      single_settling a.state.now a.memory.now a.e b.requires.ready.accepted a.s b.requires.s_value.0 a.a (wr-fits b) (imm-fits b) b.requires.s_value.1 _ _ d,
+      untaken a.s b.requires.s_value.0,
+      own_fault a.s b.requires.s_value.0 a.state.now a.e (a.a ∷ []) no_record a.a.length _ d.status,
     )
 
 pub returns : goal.returns
@@ -31,5 +31,5 @@ returns c =
     let k = c in
     let b = k in
     let a = b.args in
-    single_carried a.state.now a.memory.now a.e b.requires.0.accepted a.s b.requires.1.0 a.a (wr-fits b) (imm-fits b) b.requires.1.1 _ _
+    single_carried a.state.now a.memory.now a.e b.requires.ready.accepted a.s b.requires.s_value.0 a.a (wr-fits b) (imm-fits b) b.requires.s_value.1 _ _
     k.deliver_single-st.ensures _ c.settle_single.ensures

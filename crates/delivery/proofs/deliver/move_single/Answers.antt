@@ -9,12 +9,12 @@ pub transfer_between-requires : goal.transfer_between-requires
 transfer_between-requires c =
     let b = c in
     let a = b.args in
-    let i = b.requires.0.1 in
-    let y = there (card a.state.now) a.s [] (a.a ∷ []) (far_list a.s no_record a.a.length) b.requires.1 (plain a.s i) in
-    (b.requires.0.0, rw (unfilled a.s i) at y)
+    let i = b.requires.ready.1 in
+    let y = there (card a.state.now) a.s [] (a.a ∷ []) (far_list a.s no_record a.a.length) b.requires.carries (plain a.s i) in
+    (b.requires.ready.0, rw (unfilled a.s i) at y)
 
 pub returns : goal.returns
 returns c =
     let b = c in
     let s = b.args.s in
-    rw (plain s b.requires.0.1, unfilled s b.requires.0.1) c.transfer_between.ensures
+    rw (plain s b.requires.ready.1, unfilled s b.requires.ready.1) c.transfer_between.ensures

@@ -11,9 +11,9 @@ returns-then-not-is_consumed c =
 pub push_completion-requires : goal.push_completion-requires
 push_completion-requires c =
     let b = c in
-    let k = b.requires.1 (sym c.is_consumed.ensures ∙ not-false _
+    let k = b.requires.rcq_lt_cq_count (sym c.is_consumed.ensures ∙ not-false _
     c.if-not-is_consumed.false) in
-    (k.0, b.requires.0.2, k.1)
+    (k.0, b.requires.d_lt_qp_count.2, k.1)
 
 pub returns : goal.returns
 returns c =

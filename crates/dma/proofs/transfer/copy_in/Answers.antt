@@ -9,14 +9,14 @@ use Rattle.dma.proofs.transfer.copy_in.Goals as goal
 pub run_of-n-requires : goal.run_of-n-requires
 run_of-n-requires c =
     let s = c in
-    (s.requires.0, (s.requires.1.0, s.requires.1.1))
+    (s.requires.ready, (s.requires.s_value.0, s.requires.s_value.1))
 
 pub place_of-to-requires : goal.place_of-to-requires
 place_of-to-requires c =
     let s = c in (
-      s.requires.0.accepted,
-      s.requires.0.size,
-      front_mapped s.args.state.now s.args.memory.now s.requires.0 s.args.s s.requires.1.0 _ c.run_of-n.ensures.most,
+      s.requires.ready.accepted,
+      s.requires.ready.size,
+      front_mapped s.args.state.now s.args.memory.now s.requires.ready s.args.s s.requires.s_value.0 _ c.run_of-n.ensures.most,
     )
 
 pub copy_bytes-requires : goal.copy_bytes-requires
@@ -36,9 +36,9 @@ pub place_of-then-requires : goal.place_of-then-requires
 place_of-then-requires c =
     let run = c in
     let s = run in (
-      s.requires.0.accepted,
-      s.requires.0.size,
-      back_mapped s.args.state.now s.args.memory.now s.requires.0 s.args.s s.requires.1.0 _ run.run_of-n.ensures.most,
+      s.requires.ready.accepted,
+      s.requires.ready.size,
+      back_mapped s.args.state.now s.args.memory.now s.requires.ready s.args.s s.requires.s_value.0 _ run.run_of-n.ensures.most,
     )
 
 pub copy_bytes-requires-then-n-s : goal.copy_bytes-requires-then-n-s
@@ -67,7 +67,7 @@ returns-then-n-s c =
     let d = run.run_of-n.ensures in
     let k = card s.args.state.now in
     let m = s.args.memory.now in
-    in_two k m s.args.s _ d.most _ _ s.args.staging.now s.args.at s.requires.1.2
+    in_two k m s.args.s _ d.most _ _ s.args.staging.now s.args.at s.requires.s_value.2
     (written k m _ d.first _ at.place_of-to.ensures _ _ (simp length-drop (omega (arith, d.most))) one.copy_bytes.ensures)
     (written k _ _ (lies_kept k _ _ _ one.copy_bytes.auto.0 d.others) _ then.place_of-then.ensures _ _
     (simp length-drop (omega (arith, d.most))) two.copy_bytes-then-n-s.ensures)

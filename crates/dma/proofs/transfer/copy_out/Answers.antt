@@ -8,14 +8,14 @@ use Rattle.dma.proofs.transfer.copy_out.Goals as goal
 pub run_of-n-requires : goal.run_of-n-requires
 run_of-n-requires c =
     let s = c in
-    (s.requires.0, (s.requires.1.0, s.requires.1.1))
+    (s.requires.ready, (s.requires.s_value.0, s.requires.s_value.1))
 
 pub place_of-from-requires : goal.place_of-from-requires
 place_of-from-requires c =
     let s = c in (
-      s.requires.0.accepted,
-      s.requires.0.size,
-      front_mapped s.args.state.now s.args.memory.now s.requires.0 s.args.s s.requires.1.0 _ c.run_of-n.ensures.most,
+      s.requires.ready.accepted,
+      s.requires.ready.size,
+      front_mapped s.args.state.now s.args.memory.now s.requires.ready s.args.s s.requires.s_value.0 _ c.run_of-n.ensures.most,
     )
 
 pub copy_bytes-requires : goal.copy_bytes-requires
@@ -35,9 +35,9 @@ pub place_of-then-requires : goal.place_of-then-requires
 place_of-then-requires c =
     let run = c in
     let s = run in (
-      s.requires.0.accepted,
-      s.requires.0.size,
-      back_mapped s.args.state.now s.args.memory.now s.requires.0 s.args.s s.requires.1.0 _ run.run_of-n.ensures.most,
+      s.requires.ready.accepted,
+      s.requires.ready.size,
+      back_mapped s.args.state.now s.args.memory.now s.requires.ready s.args.s s.requires.s_value.0 _ run.run_of-n.ensures.most,
     )
 
 pub copy_bytes-requires-then-n-s : goal.copy_bytes-requires-then-n-s

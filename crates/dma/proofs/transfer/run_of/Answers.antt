@@ -8,32 +8,32 @@ returns-then-s-eq0 c =
     let s = c in
     let l = s.args.state.now in
     let m = s.args.memory.now in
-    run_none l m s.requires.0 s.args.s s.requires.1.0 _ refl c.if-s-eq0.true
+    run_none l m s.requires.ready s.args.s s.requires.s_value.0 _ refl c.if-s-eq0.true
 
 pub load_mr-r-requires : goal.load_mr-r-requires
 load_mr-r-requires c =
     let s = c in
     let f = c.if-s-eq0.false in
-    (slot_below s.args.state.now s.requires.0.accepted s.args.s s.requires.1.0 (omega arith), s.requires.0.size)
+    (slot_below s.args.state.now s.requires.ready.accepted s.args.s s.requires.s_value.0 (omega arith), s.requires.ready.size)
 
 pub returns-then-r-eq-FLAT : goal.returns-then-r-eq-FLAT
 returns-then-r-eq-FLAT c =
     let s = c in
     let l = s.args.state.now in
     let m = s.args.memory.now in
-    run_flat l m s.requires.0 s.args.s s.requires.1.0 _ c.load_mr-r.ensures c.if-r-eq-FLAT.true
+    run_flat l m s.requires.ready s.args.s s.requires.s_value.0 _ c.load_mr-r.ensures c.if-r-eq-FLAT.true
 
 pub overflow_sub-left : goal.overflow_sub-left
 overflow_sub-left c =
     let s = c in
     let f = c.if-s-eq0.false in
-    row_low s.args.state.now s.requires.0.accepted s.args.s s.requires.1.0 (omega arith) _ c.load_mr-r.ensures
+    row_low s.args.state.now s.requires.ready.accepted s.args.s s.requires.s_value.0 (omega arith) _ c.load_mr-r.ensures
 
 pub overflow_add-left : goal.overflow_add-left
 overflow_add-left c =
     let s = c in
     let f = c.if-s-eq0.false in
-    let b = row_small s.args.state.now s.requires.0.accepted s.args.s s.requires.1.0 (omega arith) _ c.load_mr-r.ensures in
+    let b = row_small s.args.state.now s.requires.ready.accepted s.args.s s.requires.s_value.0 (omega arith) _ c.load_mr-r.ensures in
     record { fits = omega arith }
 
 pub returns-then-s-left : goal.returns-then-s-left
@@ -41,11 +41,11 @@ returns-then-s-left c =
     let s = c in
     let l = s.args.state.now in
     let m = s.args.memory.now in
-    run_within l m s.requires.0 s.args.s s.requires.1.0 _ c.load_mr-r.ensures c.if-s-left.true
+    run_within l m s.requires.ready s.args.s s.requires.s_value.0 _ c.load_mr-r.ensures c.if-s-left.true
 
 pub returns : goal.returns
 returns c =
     let s = c in
     let l = s.args.state.now in
     let m = s.args.memory.now in
-    run_across l m s.requires.0 s.args.s s.requires.1.0 _ c.load_mr-r.ensures c.if-s-left.false s.requires.1.1
+    run_across l m s.requires.ready s.args.s s.requires.s_value.0 _ c.load_mr-r.ensures c.if-s-left.false s.requires.s_value.1

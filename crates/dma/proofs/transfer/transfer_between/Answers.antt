@@ -28,18 +28,18 @@ lie c =
 pub run_of-requires : goal.run_of-requires
 run_of-requires c =
     let s = c in
-    (s.requires.0, (s.requires.1.sources, omega (arith, s.requires.1.most, one_total s.args.a)))
+    (s.requires.ready, (s.requires.message.sources, omega (arith, s.requires.message.most, one_total s.args.a)))
 
 pub run_of-requires-2 : goal.run_of-requires-2
 run_of-requires-2 c =
     let s = c in
-    (s.requires.0, (s.requires.1.targets, omega (arith, s.requires.1.most, s.requires.1.total, one_total s.args.b)))
+    (s.requires.ready, (s.requires.message.targets, omega (arith, s.requires.message.most, s.requires.message.total, one_total s.args.b)))
 
 pub deliver_between-requires : goal.deliver_between-requires
 deliver_between-requires c =
     let s = c in
     let a = s.args in
-    let m = s.requires.1 in
+    let m = s.requires.message in
     let l = lie c in
     let x = room (card a.state.now) a.memory.now a.a l.0 _ c.place_of-x.ensures in
     let y = room (card a.state.now) a.memory.now a.b l.1 _ c.place_of-y.ensures in
@@ -53,13 +53,13 @@ returns-then-run_of-a c =
     let a = s.args in
     let l = lie c in
     between (card a.state.now) a.memory.now _ a.a a.b c.place_of-x.result c.place_of-y.result a.back l.0 l.1
-    c.place_of-x.ensures c.place_of-y.ensures s.requires.1.total c.deliver_between.ensures
+    c.place_of-x.ensures c.place_of-y.ensures s.requires.message.total c.deliver_between.ensures
 
 pub transfer_many-requires : goal.transfer_many-requires
 transfer_many-requires c =
     let s = c in
     let a = s.args in
-    (s.requires.0, (omega arith, omega arith, backwards (card a.state.now) (a.a ∷ []) (a.b ∷ []) s.requires.1))
+    (s.requires.ready, (omega arith, omega arith, backwards (card a.state.now) (a.a ∷ []) (a.b ∷ []) s.requires.message))
 
 pub returns-then-back : goal.returns-then-back
 returns-then-back c = rw c.if-back.true c.transfer_many.ensures

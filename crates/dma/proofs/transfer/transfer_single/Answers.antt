@@ -9,12 +9,12 @@ use Rattle.dma.proofs.transfer.transfer_single.Goals as goal
 pub run_of-requires : goal.run_of-requires
 run_of-requires c =
     let s = c in
-    (s.requires.0, (s.requires.1.sources, omega (arith, s.requires.1.most, one_total s.args.from)))
+    (s.requires.ready, (s.requires.message.sources, omega (arith, s.requires.message.most, one_total s.args.from)))
 
 pub run_of-requires-2 : goal.run_of-requires-2
 run_of-requires-2 c =
     let s = c in
-    (s.requires.0, (s.requires.1.targets, omega (arith, s.requires.1.most, s.requires.1.total, one_total s.args.to)))
+    (s.requires.ready, (s.requires.message.targets, omega (arith, s.requires.message.most, s.requires.message.total, one_total s.args.to)))
 
 pub transfer_one-requires : goal.transfer_one-requires
 transfer_one-requires c =
@@ -24,9 +24,9 @@ transfer_one-requires c =
     let second = c in
     let f = eqb first.run_of.result s.args.from.length in
     let g = eqb second.run_of-2.result s.args.to.length in (
-      s.requires.0,
+      s.requires.ready,
       (
-        s.requires.1,
+        s.requires.message,
         whole_lies _ _ _ _ first.run_of.ensures (eqb-true _ _ (and_left f g t)),
         whole_lies _ _ _ _ second.run_of-2.ensures (eqb-true _ _ (and_right f g t)),
       ),
@@ -35,7 +35,7 @@ transfer_one-requires c =
 pub transfer_many-requires : goal.transfer_many-requires
 transfer_many-requires c =
     let s = c in
-    (s.requires.0, (omega arith, omega arith, s.requires.1))
+    (s.requires.ready, (omega arith, omega arith, s.requires.message))
 
 pub returns : goal.returns
 returns c = c.transfer_many.ensures

@@ -6,6 +6,7 @@ use Rattle.validate.specs.Accept.{mr_ok}
 use Rattle.tables.specs.Limits.{mr_count}
 use Rattle.validate.proofs.TestLaws.{eight_free, eight_tested}
 use Rattle.validate.proofs.regions.mrs_ok.Goals as goal
+use Rattle.validate.proofs.regions.mrs_ok.Goals.{then-get64-ne0+else-not-eight_ok, else-get64-ne0}
 
 pub loop-g-init : goal.loop-g-init
 loop-g-init c = (search rules, all_none _)
@@ -23,8 +24,10 @@ loop-g-preserved c =
     let h = c.loop-g in (
       search rules,
       c.past_free-g.ensures.2
-          (⊎_elim (λ w. eight_tested a.state.now h.g h.invariant.1 (sym w.1.ensures ∙ not-false _ w.2.left))
-          (λ w. eight_free a.state.now h.g h.invariant.1 (sym c.get64.ensures ∙ w.left)) c.if-get64-ne0.branch),
+          (elim c.if-get64-ne0.branch [
+            then-get64-ne0+else-not-eight_ok w ↦ eight_tested a.state.now h.g h.invariant.1 (sym w.eight_ok.ensures ∙ w.if-not-eight_ok.false)
+            | else-get64-ne0 w ↦ eight_free a.state.now h.g h.invariant.1 (sym c.get64.ensures ∙ w.if-get64-ne0.false)
+          ]),
     )
 
 pub returns : goal.returns

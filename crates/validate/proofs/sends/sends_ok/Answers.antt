@@ -45,8 +45,6 @@ returns-then-not-may_queue c =
     let m : may_queue (row_at qp_t l s.args.n).state ≡ false = ap may_queue (sym s.requires.2) ∙ sym c.may_queue.ensures ∙ c.if-not-may_queue.true in
     sym (sends_state (pair_at l s.args.n) f g z m)
 
-records-ok-requires c κs = search rules
-
 pub returns : goal.returns
 unfolding pair_at
 returns c =

@@ -8,4 +8,4 @@ returns-then-limit-r c = let a = c.args in sym (range_far a.limit a.r c.if-limit
 pub returns : goal.returns
 returns c =
     let a = c.args in
-    range_by a.limit a.r c.wrapping_sub_u64.result c.wrapping_sub_u64.ensures (search rules) (search rules) c.if-limit-r.false
+    range_by a.limit a.r c.wrapping_sub_u64.result c.wrapping_sub_u64.ensures.value (search rules) (search rules) c.if-limit-r.false
