@@ -17,7 +17,7 @@ use Rattle.delivery.proofs.EndLaws.{is_met, ran_on, stopped, runs_then}
 use Rattle.delivery.proofs.run.Goals as goal
 
 abbrev asked : (b : goal.Start) → Request
-asked b = request_by b.args.s b.args.t6 b.args.inline.now
+asked b = request_by b.args.s b.args.sges b.args.inline.now
 
 -- the two pairs that passed
 
@@ -37,18 +37,18 @@ both k =
 is_one : (c : goal.Then-is_single) → is_single c.args.s ≡ true
 is_one c = sym c.is_single.ensures ∙ c.if-is_single.true
 
-list : (c : goal.Then-is_single) → let a = c.args in take a.s.count a.t6 ≡ get_or a.t6 0 no_sge ∷ []
+list : (c : goal.Then-is_single) → let a = c.args in take a.s.count a.sges ≡ get_or a.sges 0 no_sge ∷ []
 list c =
     let b = c in
     let a = b.args in
-    let four : length a.t6 ≡ 4 = b.well-formed.1.1.1.1.1.0.1.0.1 in
-    alone a.t6 a.s.count (one a.s (is_one c)) (omega arith)
+    let four : length a.sges ≡ 4 = b.well-formed.1.1.1.1.1.0.1.0.1 in
+    alone a.sges a.s.count (one a.s (is_one c)) (omega arith)
 
 pub meet-requires : goal.meet-requires
 meet-requires c = (c.requires.0.1, c.requires.0.2)
 
 pub carry_single-st-requires : goal.carry_single-st-requires
-carry_single-st-requires c = (c.requires.0.0, (is_one c, both c))
+carry_single-st-requires c = record { ready = c.requires.0.0; s_value = (is_one c, both c) }
 
 pub returns-then-is_single : goal.returns-then-is_single
 returns-then-is_single c =
@@ -56,7 +56,7 @@ returns-then-is_single c =
     let b = c in
     let a = b.args in
     ran_on a.state.now a.q a.s.opcode (asked b) refl a.memory.now _ (pairs k) _ _ _
-    (c.carry_single-st.ensures a.t6 a.inline.now (list c))
+    (c.carry_single-st.ensures a.sges a.inline.now (list c))
 
 pub carry_out-st-requires : goal.carry_out-st-requires
 carry_out-st-requires c = (c.requires.0.0, (c.requires.1, both c))

@@ -70,7 +70,7 @@ move_single-requires c =
     let a = b.args in
     let y = carries a.state.now a.memory.now a.e a.s (a.a ∷ []) [] no_record a.a.length (side k) (fits b)
     (sym (range-is d) ∙ c.if-not-range_permitted-2.false) _ refl (single_sending a.s b.requires.1 a.a) in
-    (b.requires, rw (list_is a.s b.requires.1 a.a) at y)
+    record { ready = b.requires; carries = rw (list_is a.s b.requires.1 a.a) at y }
 
 pub returns : goal.returns
 returns c =

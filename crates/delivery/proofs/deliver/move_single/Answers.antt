@@ -11,7 +11,7 @@ transfer_between-requires c =
     let a = b.args in
     let i = b.requires.ready.1 in
     let y = there (card a.state.now) a.s [] (a.a ∷ []) (far_list a.s no_record a.a.length) b.requires.carries (plain a.s i) in
-    (b.requires.ready.0, rw (unfilled a.s i) at y)
+    record { ready = b.requires.ready.0; message = rw (unfilled a.s i) at y }
 
 pub returns : goal.returns
 returns c =

@@ -14,9 +14,9 @@ returns-then-is_inline c =
 pub returns-then-s-eq1 : goal.returns-then-s-eq1
 returns-then-s-eq1 c =
     let b = c in
-    let four : length b.args.t2 ≡ 4 = b.well-formed.1.0.1.0.1 in
+    let four : length b.args.sges ≡ 4 = b.well-formed.1.0.1.0.1 in
     let e : is_inline b.args.s ≡ false = sym c.is_inline.ensures ∙ c.if-is_inline.false in
-    rw (e, alone b.args.t2 b.args.s.count c.if-s-eq1.true (omega arith)) (sym (one_total (get_or b.args.t2 0 no_sge)))
+    rw (e, alone b.args.sges b.args.s.count c.if-s-eq1.true (omega arith)) (sym (one_total (get_or b.args.sges 0 no_sge)))
 
 pub sges_total-requires : goal.sges_total-requires
 sges_total-requires c =

@@ -12,7 +12,7 @@ use Rattle.delivery.proofs.settle.settle.Goals as goal
 pub put_receiver-requires : goal.put_receiver-requires
 put_receiver-requires c =
     let p = c.requires in
-    ((p.far, p.count, search rules, p.short), λ t. rw c.put_sender.ensures (p.second t))
+    record { d_lt_qp_count = (p.far, p.count, search rules, p.short); rcq_lt_cq_count = λ t. rw c.put_sender.ensures (p.second t) }
 
 pub consume_if-requires : goal.consume_if-requires
 consume_if-requires c =

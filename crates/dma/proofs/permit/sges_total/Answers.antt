@@ -10,12 +10,12 @@ pub loop-i-preserved : goal.loop-i-preserved
 loop-i-preserved c =
     let s = c in
     let l = c.loop-i in
-    let four : length s.args.t1 ≡ 4 = s.well-formed.0.1.0.1 in
-    let e = left_total s.args.t1 s.args.count l.i (omega arith) (omega arith) in
+    let four : length s.args.sges ≡ 4 = s.well-formed.0.1.0.1 in
+    let e = left_total s.args.sges s.args.count l.i (omega arith) (omega arith) in
     (omega arith, search rules, omega arith)
 
 pub returns : goal.returns
 returns c =
     let s = c in
-    let e = none_total s.args.t1 s.args.count c.loop-i.i c.loop-i-test.false in
+    let e = none_total s.args.sges s.args.count c.loop-i.i c.loop-i-test.false in
     omega arith

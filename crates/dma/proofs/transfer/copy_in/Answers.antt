@@ -9,7 +9,7 @@ use Rattle.dma.proofs.transfer.copy_in.Goals as goal
 pub run_of-n-requires : goal.run_of-n-requires
 run_of-n-requires c =
     let s = c in
-    (s.requires.ready, (s.requires.s_value.0, s.requires.s_value.1))
+    record { ready = s.requires.ready; s_value = (s.requires.s_value.0, s.requires.s_value.1) }
 
 pub place_of-to-requires : goal.place_of-to-requires
 place_of-to-requires c =

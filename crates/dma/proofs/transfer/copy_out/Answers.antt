@@ -8,7 +8,7 @@ use Rattle.dma.proofs.transfer.copy_out.Goals as goal
 pub run_of-n-requires : goal.run_of-n-requires
 run_of-n-requires c =
     let s = c in
-    (s.requires.ready, (s.requires.s_value.0, s.requires.s_value.1))
+    record { ready = s.requires.ready; s_value = (s.requires.s_value.0, s.requires.s_value.1) }
 
 pub place_of-from-requires : goal.place_of-from-requires
 place_of-from-requires c =

@@ -9,12 +9,12 @@ use Rattle.dma.proofs.MoveLaws.{Turn, turn, gathered, gather_more}
 use Rattle.dma.proofs.transfer.gather.Goals as goal
 
 step : (b : goal.In-loop-i)
-    → Turn (card b.args.state.now) b.args.t3 b.args.count b.loop-i.i b.loop-i.at
+    → Turn (card b.args.state.now) b.args.sges b.args.count b.loop-i.i b.loop-i.at
 step b =
     let s = b in
     let l = b.loop-i in
-    let four : length s.args.t3 ≡ 4 = s.well-formed.1.1.0.1.0.1 in
-    turn (card s.args.state.now) s.args.t3 s.args.count l.i l.at l.invariant.0 (omega arith) (omega arith)
+    let four : length s.args.sges ≡ 4 = s.well-formed.1.1.0.1.0.1 in
+    turn (card s.args.state.now) s.args.sges s.args.count l.i l.at l.invariant.0 (omega arith) (omega arith)
 
 pub loop-i-init : goal.loop-i-init
 loop-i-init c = (record { turns = omega arith; sum = omega arith; maps = c.requires.1.1 }, refl, refl)
@@ -23,7 +23,7 @@ pub copy_out-requires : goal.copy_out-requires
 copy_out-requires c =
     let s = c in
     let w = step c in
-    (s.requires.0, (w.maps, omega (arith, w.fits), omega (arith, w.fits)))
+    record { ready = s.requires.0; s_value = (w.maps, omega (arith, w.fits), omega (arith, w.fits)) }
 
 pub overflow_add-at : goal.overflow_add-at
 overflow_add-at c =
@@ -37,8 +37,8 @@ loop-i-preserved c =
     let w = step c in (
       w.next,
       c.copy_out.auto.1.1.1.0 ∙ l.invariant.1,
-      gather_more (card s.args.state.now) s.args.memory.now (get_or s.args.t3 l.i no_sge) l.staging _ l.at
-          (drop (l.i + 1) (take s.args.count s.args.t3)) _ c.copy_out.ensures (rw w.cons at l.invariant.2),
+      gather_more (card s.args.state.now) s.args.memory.now (get_or s.args.sges l.i no_sge) l.staging _ l.at
+          (drop (l.i + 1) (take s.args.count s.args.sges)) _ c.copy_out.ensures (rw w.cons at l.invariant.2),
     )
 
 pub shape_of-staging : goal.shape_of-staging
@@ -48,4 +48,4 @@ pub returns : goal.returns
 returns c =
     let s = c in
     let l = c.loop-i in
-    gathered (card s.args.state.now) s.args.memory.now s.args.t3 s.args.count l.i c.loop-i-test.false l.at l.staging l.invariant.0.sum l.invariant.2
+    gathered (card s.args.state.now) s.args.memory.now s.args.sges s.args.count l.i c.loop-i-test.false l.at l.staging l.invariant.0.sum l.invariant.2

@@ -8,12 +8,12 @@ use Rattle.dma.proofs.MoveLaws.{Turn, turn, scattered, scatter_more}
 use Rattle.dma.proofs.transfer.scatter.Goals as goal
 
 step : (b : goal.In-loop-i)
-    → Turn (card b.args.state.now) b.args.t3 b.args.count b.loop-i.i b.loop-i.at
+    → Turn (card b.args.state.now) b.args.sges b.args.count b.loop-i.i b.loop-i.at
 step b =
     let s = b in
     let l = b.loop-i in
-    let four : length s.args.t3 ≡ 4 = s.well-formed.1.1.0.1.0.1 in
-    turn (card s.args.state.now) s.args.t3 s.args.count l.i l.at l.invariant.0 (omega arith) (omega arith)
+    let four : length s.args.sges ≡ 4 = s.well-formed.1.1.0.1.0.1 in
+    turn (card s.args.state.now) s.args.sges s.args.count l.i l.at l.invariant.0 (omega arith) (omega arith)
 
 pub loop-i-init : goal.loop-i-init
 loop-i-init c = (record { turns = omega arith; sum = omega arith; maps = c.requires.1.1 }, refl, refl)
@@ -38,8 +38,8 @@ loop-i-preserved c =
     let w = step c in (
       w.next,
       c.copy_in.auto.1.0 ∙ l.invariant.1,
-      scatter_more (card s.args.state.now) l.memory (get_or s.args.t3 l.i no_sge) _ s.args.staging.now l.at
-          (drop (l.i + 1) (take s.args.count s.args.t3)) _ (omega arith) c.copy_in.ensures (rw w.cons at l.invariant.2),
+      scatter_more (card s.args.state.now) l.memory (get_or s.args.sges l.i no_sge) _ s.args.staging.now l.at
+          (drop (l.i + 1) (take s.args.count s.args.sges)) _ (omega arith) c.copy_in.ensures (rw w.cons at l.invariant.2),
     )
 
 pub shape_of-memory : goal.shape_of-memory
@@ -49,4 +49,4 @@ pub returns : goal.returns
 returns c =
     let s = c in
     let l = c.loop-i in
-    scattered (card s.args.state.now) l.memory s.args.t3 s.args.count l.i c.loop-i-test.false _ (drop l.at s.args.staging.now) l.invariant.2
+    scattered (card s.args.state.now) l.memory s.args.sges s.args.count l.i c.loop-i-test.false _ (drop l.at s.args.staging.now) l.invariant.2

@@ -28,12 +28,12 @@ lie c =
 pub run_of-requires : goal.run_of-requires
 run_of-requires c =
     let s = c in
-    (s.requires.ready, (s.requires.message.sources, omega (arith, s.requires.message.most, one_total s.args.a)))
+    record { ready = s.requires.ready; s_value = (s.requires.message.sources, omega (arith, s.requires.message.most, one_total s.args.a)) }
 
 pub run_of-requires-2 : goal.run_of-requires-2
 run_of-requires-2 c =
     let s = c in
-    (s.requires.ready, (s.requires.message.targets, omega (arith, s.requires.message.most, s.requires.message.total, one_total s.args.b)))
+    record { ready = s.requires.ready; s_value = (s.requires.message.targets, omega (arith, s.requires.message.most, s.requires.message.total, one_total s.args.b)) }
 
 pub deliver_between-requires : goal.deliver_between-requires
 deliver_between-requires c =

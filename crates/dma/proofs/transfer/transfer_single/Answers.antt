@@ -9,12 +9,12 @@ use Rattle.dma.proofs.transfer.transfer_single.Goals as goal
 pub run_of-requires : goal.run_of-requires
 run_of-requires c =
     let s = c in
-    (s.requires.ready, (s.requires.message.sources, omega (arith, s.requires.message.most, one_total s.args.from)))
+    record { ready = s.requires.ready; s_value = (s.requires.message.sources, omega (arith, s.requires.message.most, one_total s.args.from)) }
 
 pub run_of-requires-2 : goal.run_of-requires-2
 run_of-requires-2 c =
     let s = c in
-    (s.requires.ready, (s.requires.message.targets, omega (arith, s.requires.message.most, s.requires.message.total, one_total s.args.to)))
+    record { ready = s.requires.ready; s_value = (s.requires.message.targets, omega (arith, s.requires.message.most, s.requires.message.total, one_total s.args.to)) }
 
 pub transfer_one-requires : goal.transfer_one-requires
 transfer_one-requires c =
@@ -23,14 +23,11 @@ transfer_one-requires c =
     let first = c in
     let second = c in
     let f = eqb first.run_of.result s.args.from.length in
-    let g = eqb second.run_of-2.result s.args.to.length in (
-      s.requires.ready,
-      (
+    let g = eqb second.run_of-2.result s.args.to.length in record { ready = s.requires.ready; message = (
         s.requires.message,
         whole_lies _ _ _ _ first.run_of.ensures (eqb-true _ _ (and_left f g t)),
         whole_lies _ _ _ _ second.run_of-2.ensures (eqb-true _ _ (and_right f g t)),
-      ),
-    )
+      ) }
 
 pub transfer_many-requires : goal.transfer_many-requires
 transfer_many-requires c =

@@ -7,7 +7,7 @@ pub first_send-s-requires : goal.first_send-s-requires
 first_send-s-requires c =
     let b = c in
     let h = head_of_lem b.args.state.now b.requires.0.accepted b.args.q b.requires.1 in
-    ((h.below, b.requires.0.size, h.first), search rules)
+    record { q_lt_qp_count = (h.below, b.requires.0.size, h.first); out_len = search rules }
 
 pub finish-requires : goal.finish-requires
 finish-requires c =

@@ -26,7 +26,7 @@ push_send-requires c =
     let s = c2.requires.0 in
     let x = c2.args.sent.now in
     let room = queue_room s (sym c1.queue_full.ensures ∙ c1.if-queue_full.false) in
-    ((pair_below s, (pair_ok_lem s).sized, room), (least x c2.requires.1, most x c2.requires.1))
+    record { q_lt_qp_count = (pair_below s, (pair_ok_lem s).sized, room); in_bounds = (least x c2.requires.1, most x c2.requires.1) }
 
 pub returns : goal.returns
 returns c =
