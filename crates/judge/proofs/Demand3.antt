@@ -170,7 +170,7 @@ unfolding passes placed
 correct c l a q r m p =
     record {
       verdict = verdict c l a q r p;
-      in_error_lem = flushed_is c l a q r p;
+      in_error = flushed_is c l a q r p;
       memory = same_memory c l a q r p;
       inside = λ x u b. rw p.whole (Keys.all_inside c.memory c.mr (standing l) (ended l) (handed l) (Distinct l) a.keys b.key x u b.address);
     }

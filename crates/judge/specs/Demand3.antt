@@ -18,7 +18,7 @@ pub record Correct (l : Log) (w : Work) (s : ℕ) (m m' : List ℕ) : Type 0 whe
   -- it succeeds exactly when the judge passes it
   pub verdict : eqb s 0 ≡ judge l w
   -- it is flushed exactly when the log puts its queue pair in error
-  pub in_error_lem : eqb s 4 ≡ errored l w.qpn
+  pub in_error : eqb s 4 ≡ errored l w.qpn
   -- on success the message bytes are written in turn, with the values before the call; on failure none is
   pub memory : m' ≡ judged_memory l w m
   -- a byte that passes lies in the memory, and its address is below 2^64

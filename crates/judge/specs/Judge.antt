@@ -132,24 +132,24 @@ flushes_at_once l q = errored l q && is_empty (waiting l q)
 -- the right that a use needs
 pub data Right : Type 0 where
   none_needed : Right
-  local_write_lem : Right
-  remote_write_lem : Right
-  remote_read_lem : Right
+  local_write : Right
+  remote_write : Right
+  remote_read : Right
 
 -- access 1 is local write, 2 remote write, 4 remote read: the bit of that value is set
 abbrev pub grants : (access : ℕ) → Right → Bool
 grants a none_needed = true
-grants a local_write_lem = eqb (a % 2) 1
-grants a remote_write_lem = eqb (a / 2 % 2) 1
-grants a remote_read_lem = eqb (a / 4 % 2) 1
+grants a local_write = eqb (a % 2) 1
+grants a remote_write = eqb (a / 2 % 2) 1
+grants a remote_read = eqb (a / 4 % 2) 1
 
 -- 02, M-104: "Each byte of a remote write or read needs the right in the region and in the peer's flags .. local uses only at
 -- the region"
 abbrev pub flags_grant : (rights : ℕ) → Right → Bool
 flags_grant f none_needed = true
-flags_grant f local_write_lem = true
-flags_grant f remote_write_lem = grants f remote_write_lem
-flags_grant f remote_read_lem = grants f remote_read_lem
+flags_grant f local_write = true
+flags_grant f remote_write = grants f remote_write
+flags_grant f remote_read = grants f remote_read
 
 -- whose use it is: a queue pair's, by the domain that it was created in and its access flags
 pub record Party : Type 0 where
@@ -205,14 +205,14 @@ pub record Side : Type 0 where
 
 -- the sender reads its pieces, or with opcode 4 writes them
 abbrev pub own_right : (opcode : ℕ) → Right
-own_right o = cond (eqb o 4) local_write_lem none_needed
+own_right o = cond (eqb o 4) local_write none_needed
 
 unfoldable pub near : Log → Work → Side
 near l w = record { party = party l (some w.qpn); right = own_right w.request.opcode; bytes = own_bytes w.request }
 
 -- the peer's bytes are written remotely by opcodes 0 and 1, read remotely by 4, and are its own receive's with 2 and 3
 abbrev pub far_right : (opcode : ℕ) → Right
-far_right o = cond (eqb o 4) remote_read_lem (cond (leb o 1) remote_write_lem local_write_lem)
+far_right o = cond (eqb o 4) remote_read (cond (leb o 1) remote_write local_write)
 
 unfoldable pub far : Log → Work → Side
 far l w =
