@@ -210,17 +210,17 @@ outcome_room l k p l' d = go (refusal (class_checks (card l) k)) refl
 
 -- every command that passes its tests
 kept : (l : List ℕ) → Accepted l → (q : Command) → refusal (command_checks (card l) q) ≡ none → Kept l q
-kept l ok Command.query_device e = effect.query_device l ok
-kept l ok Command.query_port e = effect.query_port l ok
-kept l ok (Command.create_cq n) e = effect.create_cq l ok n e
-kept l ok (Command.destroy_cq n) e = effect.destroy_cq l ok n e
-kept l ok Command.create_pd e = effect.create_pd l ok e
-kept l ok (Command.destroy_pd n) e = effect.destroy_pd l ok n e
+kept l ok Command.query_device e = effect.query_device_lem l ok
+kept l ok Command.query_port e = effect.query_port_lem l ok
+kept l ok (Command.create_cq n) e = effect.create_cq_lem l ok n e
+kept l ok (Command.destroy_cq n) e = effect.destroy_cq_lem l ok n e
+kept l ok Command.create_pd e = effect.create_pd_lem l ok e
+kept l ok (Command.destroy_pd n) e = effect.destroy_pd_lem l ok n e
 kept l ok (Command.register g) e = regions.register l ok g e
 kept l ok (Command.deregister n) e = regions.deregister l ok n e
-kept l ok (Command.create_qp r) e = pairs.create_qp l ok r e
-kept l ok (Command.modify_qp r) e = pairs.modify_qp l ok r e
-kept l ok (Command.destroy_qp q) e = pairs.destroy_qp l ok q e
+kept l ok (Command.create_qp r) e = pairs.create_qp_lem l ok r e
+kept l ok (Command.modify_qp r) e = pairs.modify_qp_lem l ok r e
+kept l ok (Command.destroy_qp q) e = pairs.destroy_qp_lem l ok q e
 
 -- tests that all pass, and the later of them
 pub rest_none : (xs ys : List Check) → refusal (xs ++ ys) ≡ none → refusal ys ≡ none

@@ -33,11 +33,11 @@ use Rattle.commands.specs.declared.Outcome.{Outcome}
 use Rattle.commands.specs.declared.Outcome.TheVariants.{Refused, Done}
 
 -- what a call of a test has shown, where its result r let the command pass, and where it did not
-pub passes : {r b : Bool} → r ≡ b → not r ≡ false → b ≡ true
-passes {r = r} e f = sym e ∙ not-false r f
+pub passes : {r b : Bool} → r ≡ b → r ≡ true → b ≡ true
+passes e f = sym e ∙ f
 
-pub fails : {r b : Bool} → r ≡ b → not r ≡ true → b ≡ false
-fails {r = r} e f = sym e ∙ not-true r f
+pub fails : {r b : Bool} → r ≡ b → r ≡ false → b ≡ false
+fails e f = sym e ∙ f
 
 -- a command that a test refuses, and one that passes all
 module _ (l : List ℕ) (q : Command) where

@@ -5,7 +5,7 @@ use borrow.Author.Rules.{rules}
 use Rattle.delivery.proofs.carry_out.Goals as goal
 
 told : (b : goal.Start) → Told b.args.s b.args.inline.now
-told b = record { limits = b.requires.1.0; wr = search rules; imm = search rules }
+told b = record { limits = b.requires.bounded.0; wr = search rules; imm = search rules }
 
 ends : (k : goal.After-taken_receive-w) →
     let a = k.args in
@@ -13,8 +13,8 @@ ends : (k : goal.After-taken_receive-w) →
 ends k =
     let b = k in
     let a = b.args in
-    ending a.state.now a.memory.now a.e.q b.requires.0.accepted a.s a.sges a.inline.now (told b) b.requires.1.1.good a.e
-    b.requires.1.1.rows _ k.total_of-total.ensures _ k.taken_receive-w.ensures
+    ending a.state.now a.memory.now a.e.q b.requires.ready.accepted a.s a.sges a.inline.now (told b) b.requires.bounded.1.good a.e
+    b.requires.bounded.1.rows _ k.total_of-total.ensures _ k.taken_receive-w.ensures
 
 pub taken_receive-w-requires : goal.taken_receive-w-requires
 taken_receive-w-requires c =
@@ -23,11 +23,11 @@ taken_receive-w-requires c =
     let l = a.state.now in
     let m = a.memory.now in
     let x = a.inline.now in
-    let y = b.requires.0.accepted in
-    let g = b.requires.1.1.good in
-    let h = b.requires.1.1.rows in (
+    let y = b.requires.ready.accepted in
+    let g = b.requires.bounded.1.good in
+    let h = b.requires.bounded.1.rows in (
       peer_below l m a.e.q y a.s a.sges x (told b) g a.e h,
-      b.requires.0.size,
+      b.requires.ready.size,
       head_below l m a.e.q y a.s a.sges x (told b) g a.e h,
     )
 
@@ -35,7 +35,7 @@ pub deliver-st-requires : goal.deliver-st-requires
 deliver-st-requires c =
     let k = c in
     let z = ends k in
-    (k.requires.0, (z.count, z.sending))
+    record { ready = k.requires.ready; count_bound = (z.count, z.sending) }
 
 pub settle-requires : goal.settle-requires
 settle-requires c = let d = c in (ends d).settling _ _ d.deliver-st.ensures

@@ -12,22 +12,22 @@ use borrow.Author.Rules.{rules}
 use Rattle.delivery.proofs.finish.Goals as goal
 
 told : (b : goal.Start) → Told b.args.s b.args.inline.now
-told b = record { limits = b.requires.1; wr = search rules; imm = search rules }
+told b = record { limits = b.requires.bounded; wr = search rules; imm = search rules }
 
 free : (b : goal.Start) → refusal (hold_checks (card b.args.state.now) b.args.q (bare b.args.s.opcode)) ≡ none
-free b = free_passes b.args.state.now b.args.q b.args.s.opcode b.requires.0.2
+free b = free_passes b.args.state.now b.args.q b.args.s.opcode b.requires.ready.2
 
 -- the row that was loaded
 
 its : (k : goal.After-load_qp-own) → let a = k.args in Sender a.state.now a.q k.load_qp-own.result
 its k =
     let b = k in
-    sender b.args.state.now b.requires.0.0.accepted b.requires.0.0.size b.args.q b.requires.0.1 _ k.load_qp-own.ensures
+    sender b.args.state.now b.requires.ready.0.accepted b.requires.ready.0.size b.args.q b.requires.ready.1 _ k.load_qp-own.ensures
 
 pub load_qp-own-requires : goal.load_qp-own-requires
 load_qp-own-requires c =
     let b = c in
-    (qp_below b.args.state.now b.args.q b.requires.0.1, b.requires.0.0.size)
+    (qp_below b.args.state.now b.args.q b.requires.ready.1, b.requires.ready.0.size)
 
 pub put_work-requires : goal.put_work-requires
 put_work-requires c =
@@ -46,13 +46,13 @@ pub load_qp-far-requires : goal.load_qp-far-requires
 load_qp-far-requires c =
     let k = c in
     let b = k in
-    (dest_below b.args.state.now b.args.q _ (its k) b.args.s c.if-own-eq-ERROR.false (free b) b.args.sges b.args.inline.now (told b), b.requires.0.0.size)
+    (dest_below b.args.state.now b.args.q _ (its k) b.args.s c.if-own-eq-ERROR.false (free b) b.args.sges b.args.inline.now (told b), b.requires.ready.0.size)
 
 pub carry_out-requires : goal.carry_out-requires
 carry_out-requires c =
     let k = c in
     let b = k in
-    (b.requires.0.0, (b.requires.1, met_rows b.args.state.now b.args.q _ (its k) b.args.s c.if-own-eq-ERROR.false (free b) _ c.load_qp-far.ensures))
+    record { ready = b.requires.ready.0; bounded = (b.requires.bounded, met_rows b.args.state.now b.args.q _ (its k) b.args.s c.if-own-eq-ERROR.false (free b) _ c.load_qp-far.ensures) }
 
 pub returns : goal.returns
 returns c = c.carry_out.ensures

@@ -29,8 +29,8 @@ both k =
     let b = k in
     let a = b.args in
     let l : List ℕ = a.state.now in
-    is_met l a.q a.s.opcode (sender_live l a.q a.s.opcode a.own b.requires.0.1)
-    (runs_then l a.q a.own b.requires.0.1 a.s b.requires.0.2) _ (pairs k)
+    is_met l a.q a.s.opcode (sender_live l a.q a.s.opcode a.own b.requires.ready.1)
+    (runs_then l a.q a.own b.requires.ready.1 a.s b.requires.ready.2) _ (pairs k)
 
 -- a write or a read of one entry, and its list
 
@@ -41,14 +41,14 @@ list : (c : goal.Then-is_single) → let a = c.args in take a.s.count a.sges ≡
 list c =
     let b = c in
     let a = b.args in
-    let four : length a.sges ≡ 4 = b.well-formed.1.1.1.1.1.0.1.0.1 in
+    let four : length a.sges ≡ 4 = b.well_formed.1.1.1.1.1.0.1.0.1 in
     alone a.sges a.s.count (one a.s (is_one c)) (omega arith)
 
 pub meet-requires : goal.meet-requires
-meet-requires c = (c.requires.0.1, c.requires.0.2)
+meet-requires c = (c.requires.ready.1, c.requires.ready.2)
 
 pub carry_single-st-requires : goal.carry_single-st-requires
-carry_single-st-requires c = record { ready = c.requires.0.0; s_value = (is_one c, both c) }
+carry_single-st-requires c = record { ready = c.requires.ready.0; s_value = (is_one c, both c) }
 
 pub returns-then-is_single : goal.returns-then-is_single
 returns-then-is_single c =
@@ -59,7 +59,7 @@ returns-then-is_single c =
     (c.carry_single-st.ensures a.sges a.inline.now (list c))
 
 pub carry_out-st-requires : goal.carry_out-st-requires
-carry_out-st-requires c = (c.requires.0.0, (c.requires.1, both c))
+carry_out-st-requires c = record { ready = c.requires.ready.0; bounded = (c.requires.bounded, both c) }
 
 pub returns-else-is_single : goal.returns-else-is_single
 returns-else-is_single c =

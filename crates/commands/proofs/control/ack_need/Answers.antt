@@ -35,4 +35,4 @@ returns-in_default-n c =
     let head = read in
     let k = head.args.command.now in
     let named = head_number (refusal (head_checks k)) (le_at 1 k 1) _ (sym head.read_head.ensures ∙ read.in-Number.is) in
-    sym (need_named k named.0 ∙ room_other k _ (sym named.1) c.in-0.rest.0.1 c.in-0.rest.1)
+    sym (need_named k named.0 ∙ room_other k _ (sym named.1) c.in_default-n.in_default-n-own.rest.0.1 c.in_default-n.in_default-n-own.rest.1)

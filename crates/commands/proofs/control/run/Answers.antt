@@ -94,11 +94,11 @@ returns-in-12 c =
     by_number _ _ _ _ Command.destroy_qp (rw e) (λ n. refl) _ c.read_number-in-12.ensures c.destroy-in-12.ensures
 
 pub returns-in-6 : goal.returns-in-6
-returns-in-6 c = run_gap _ _ _ c.requires.1 c.in-0.keys12
+returns-in-6 c = run_gap _ _ _ c.requires.1 c.in-6.in-6-own.keys12
 
 pub returns-in-6-2 : goal.returns-in-6-2
 returns-in-6-2 c =
-    let r = c.in-0.rest in
+    let r = c.in-6.in-6-own.rest in
     run_unknown _ _ _ c.requires.1
     r.0.0.0.0.0.0.0.0.0.0.0.1 r.0.0.0.0.0.0.0.0.0.0.1 r.0.0.0.0.0.0.0.0.0.1 r.0.0.0.0.0.0.0.0.1
     r.0.0.0.0.0.0.0.1 r.0.0.0.0.0.0.1 r.0.0.0.0.0.1 r.0.0.0.0.1 r.0.0.0.1 r.0.0.1 r.0.1

@@ -25,7 +25,7 @@ loop-k-preserved c =
     let s = c in
     let l = c.loop-k in (
       search rules,
-      c.store_page.auto.0 ∙ l.invariant.1,
+      c.store_page.auto.state ∙ l.invariant.1,
       put_more s.args.n l.k s.args.pages.now l.state _ (search rules) c.store_page.ensures ∙ l.invariant.2,
     )
 

@@ -55,7 +55,7 @@ put_pages-requires c =
     let s = read in
     let inside = passes range.in_pages.ensures range.if-not-in_pages.false in
     let fits = list_fits s.args.state.now s.args.pages.now read.in-Value.g s.requires.0 (rw range.load_memory.ensures at inside) in
-    (room.if-n-ge-MR_COUNT.false, put.put_region-variant.auto.0 ∙ s.requires.1, fits.0, fits.1)
+    (room.if-n-ge-MR_COUNT.false, put.put_region-variant.auto.state ∙ s.requires.1, fits.0, fits.1)
 
 pub returns : goal.returns
 returns c =

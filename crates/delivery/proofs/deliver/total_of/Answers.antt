@@ -14,7 +14,7 @@ returns-then-is_inline c =
 pub returns-then-s-eq1 : goal.returns-then-s-eq1
 returns-then-s-eq1 c =
     let b = c in
-    let four : length b.args.sges ≡ 4 = b.well-formed.1.0.1.0.1 in
+    let four : length b.args.sges ≡ 4 = b.well_formed.1.0.1.0.1 in
     let e : is_inline b.args.s ≡ false = sym c.is_inline.ensures ∙ c.if-is_inline.false in
     rw (e, alone b.args.sges b.args.s.count c.if-s-eq1.true (omega arith)) (sym (one_total (get_or b.args.sges 0 no_sge)))
 

@@ -10,7 +10,7 @@ pub loop-i-preserved : goal.loop-i-preserved
 loop-i-preserved c =
     let s = c in
     let l = c.loop-i in
-    let four : length s.args.sges ≡ 4 = s.well-formed.0.1.0.1 in
+    let four : length s.args.sges ≡ 4 = s.well_formed.0.1.0.1 in
     let e = left_total s.args.sges s.args.count l.i (omega arith) (omega arith) in
     (omega arith, search rules, omega arith)
 

@@ -48,13 +48,13 @@ copy_bytes-requires-then-n-s c =
     let s = run in
     let d = run.run_of-n.ensures in
     let k = room (card s.args.state.now) s.args.memory.now _ d.others _ c.place_of-then.ensures in
-    (omega (arith, one.copy_bytes.auto.0), omega (arith, d.most))
+    (omega (arith, one.copy_bytes.auto.dst), omega (arith, d.most))
 
 pub shape_of-memory-then-n-s : goal.shape_of-memory-then-n-s
 shape_of-memory-then-n-s c =
     let two = c in
     let one = two in
-    two.copy_bytes-then-n-s.auto.0 ∙ one.copy_bytes.auto.0
+    two.copy_bytes-then-n-s.auto.dst ∙ one.copy_bytes.auto.dst
 
 pub returns-then-n-s : goal.returns-then-n-s
 returns-then-n-s c =
@@ -69,11 +69,11 @@ returns-then-n-s c =
     let m = s.args.memory.now in
     in_two k m s.args.s _ d.most _ _ s.args.staging.now s.args.at s.requires.s_value.2
     (written k m _ d.first _ at.place_of-to.ensures _ _ (simp length-drop (omega (arith, d.most))) one.copy_bytes.ensures)
-    (written k _ _ (lies_kept k _ _ _ one.copy_bytes.auto.0 d.others) _ then.place_of-then.ensures _ _
+    (written k _ _ (lies_kept k _ _ _ one.copy_bytes.auto.dst d.others) _ then.place_of-then.ensures _ _
     (simp length-drop (omega (arith, d.most))) two.copy_bytes-then-n-s.ensures)
 
 pub shape_of-memory-else-n-s : goal.shape_of-memory-else-n-s
-shape_of-memory-else-n-s c = c.copy_bytes.auto.0
+shape_of-memory-else-n-s c = c.copy_bytes.auto.dst
 
 pub returns-else-n-s : goal.returns-else-n-s
 returns-else-n-s c =

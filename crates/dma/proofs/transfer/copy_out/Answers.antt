@@ -47,13 +47,13 @@ copy_bytes-requires-then-n-s c =
     let s = run in
     let d = run.run_of-n.ensures in
     let k = room (card s.args.state.now) s.args.memory.now _ d.others _ c.place_of-then.ensures in
-    (omega (arith, d.most, one.copy_bytes.auto.0), k)
+    (omega (arith, d.most, one.copy_bytes.auto.dst), k)
 
 pub shape_of-staging-then-n-s : goal.shape_of-staging-then-n-s
 shape_of-staging-then-n-s c =
     let two = c in
     let one = two in
-    two.copy_bytes-then-n-s.auto.0 ∙ one.copy_bytes.auto.0
+    two.copy_bytes-then-n-s.auto.dst ∙ one.copy_bytes.auto.dst
 
 pub returns-then-n-s : goal.returns-then-n-s
 returns-then-n-s c =
@@ -69,10 +69,10 @@ returns-then-n-s c =
     let st = s.args.staging.now in
     out_two k m s.args.s _ d.most st _ _ s.args.at
     (copied k m _ d.first _ at.place_of-from.ensures st _ s.args.at (omega (arith, d.most)) one.copy_bytes.ensures)
-    (copied k m _ d.others _ then.place_of-then.ensures _ _ _ (omega (arith, d.most, one.copy_bytes.auto.0)) two.copy_bytes-then-n-s.ensures)
+    (copied k m _ d.others _ then.place_of-then.ensures _ _ _ (omega (arith, d.most, one.copy_bytes.auto.dst)) two.copy_bytes-then-n-s.ensures)
 
 pub shape_of-staging-else-n-s : goal.shape_of-staging-else-n-s
-shape_of-staging-else-n-s c = c.copy_bytes.auto.0
+shape_of-staging-else-n-s c = c.copy_bytes.auto.dst
 
 pub returns-else-n-s : goal.returns-else-n-s
 returns-else-n-s c =

@@ -8,9 +8,9 @@ use Rattle.dma.proofs.transfer.inline_many.Goals as goal
 pub scatter-requires : goal.scatter-requires
 scatter-requires c =
     let s = c in
-    (s.requires.0, (s.requires.1.0, s.requires.1.1, omega (arith, c.copy_bytes.auto.0), omega arith))
+    record { ready = s.requires.ready; count_bound = (s.requires.nt_bound.0, s.requires.nt_bound.1, omega (arith, c.copy_bytes.auto.dst), omega arith) }
 
 pub returns : goal.returns
 returns c =
     let s = c in
-    inlined (card s.args.state.now) s.args.memory.now _ _ (take s.args.nt s.args.to) c.scatter.ensures _ s.args.bytes.now s.requires.1.2 c.copy_bytes.ensures
+    inlined (card s.args.state.now) s.args.memory.now _ _ (take s.args.nt s.args.to) c.scatter.ensures _ s.args.bytes.now s.requires.nt_bound.2 c.copy_bytes.ensures

@@ -7,37 +7,39 @@ use Rattle.tables.specs.Records.{no_sge}
 use Rattle.dma.proofs.MoveLaws.{Turn, turn, scattered, scatter_more}
 use Rattle.dma.proofs.transfer.scatter.Goals as goal
 
-step : (b : goal.In-loop-i)
-    → Turn (card b.args.state.now) b.args.sges b.args.count b.loop-i.i b.loop-i.at
-step b =
-    let s = b in
-    let l = b.loop-i in
-    let four : length s.args.sges ≡ 4 = s.well-formed.1.1.0.1.0.1 in
-    turn (card s.args.state.now) s.args.sges s.args.count l.i l.at l.invariant.0 (omega arith) (omega arith)
-
 pub loop-i-init : goal.loop-i-init
-loop-i-init c = (record { turns = omega arith; sum = omega arith; maps = c.requires.1.1 }, refl, refl)
+loop-i-init c = (record { turns = omega arith; sum = omega arith; maps = c.requires.count_bound.1 }, refl, refl)
 
 pub copy_in-requires : goal.copy_in-requires
 copy_in-requires c =
     let s = c in
-    let w = step c in (
-      record { accepted = s.requires.0.accepted; size = s.requires.0.size; whole = c.loop-i.invariant.1 ∙ s.requires.0.whole },
-      (w.maps, omega (arith, w.fits), omega (arith, w.fits)),
-    )
+    let w = (let step_is : Turn (card c.args.state.now) c.args.sges c.args.count c.loop-i.i c.loop-i.at = (let b = c in let s = b in
+    let l = b.loop-i in
+    let four : length s.args.sges ≡ 4 = s.well_formed.1.1.0.1.0.1 in
+    turn (card s.args.state.now) s.args.sges s.args.count l.i l.at l.invariant.0 (omega arith) (omega arith)) in step_is) in
+    record {
+      ready = record { accepted = s.requires.ready.accepted; size = s.requires.ready.size; whole = c.loop-i.invariant.1 ∙ s.requires.ready.whole };
+      s_value = (w.maps, omega (arith, w.fits), omega (arith, w.fits));
+    }
 
 pub overflow_add-at : goal.overflow_add-at
 overflow_add-at c =
-    let w = step c in
+    let w = (let step_is : Turn (card c.args.state.now) c.args.sges c.args.count c.loop-i.i c.loop-i.at = (let b = c in let s = b in
+    let l = b.loop-i in
+    let four : length s.args.sges ≡ 4 = s.well_formed.1.1.0.1.0.1 in
+    turn (card s.args.state.now) s.args.sges s.args.count l.i l.at l.invariant.0 (omega arith) (omega arith)) in step_is) in
     omega arith
 
 pub loop-i-preserved : goal.loop-i-preserved
 loop-i-preserved c =
     let s = c in
     let l = c.loop-i in
-    let w = step c in (
+    let w = (let step_is : Turn (card c.args.state.now) c.args.sges c.args.count c.loop-i.i c.loop-i.at = (let b = c in let s = b in
+    let l = b.loop-i in
+    let four : length s.args.sges ≡ 4 = s.well_formed.1.1.0.1.0.1 in
+    turn (card s.args.state.now) s.args.sges s.args.count l.i l.at l.invariant.0 (omega arith) (omega arith)) in step_is) in (
       w.next,
-      c.copy_in.auto.1.0 ∙ l.invariant.1,
+      c.copy_in.auto.memory ∙ l.invariant.1,
       scatter_more (card s.args.state.now) l.memory (get_or s.args.sges l.i no_sge) _ s.args.staging.now l.at
           (drop (l.i + 1) (take s.args.count s.args.sges)) _ (omega arith) c.copy_in.ensures (rw w.cons at l.invariant.2),
     )

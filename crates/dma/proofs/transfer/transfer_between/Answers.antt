@@ -11,20 +11,6 @@ use Rattle.dma.proofs.SgeLaws.{one_total}
 use Rattle.dma.proofs.MoveLaws.{whole_lies, room, between, backwards}
 use Rattle.dma.proofs.transfer.transfer_between.Goals as goal
 
-lie : (c : goal.Then-run_of-a) →
-    let a = c.args in
-    Lies (card a.state.now) (length a.memory.now) a.a × Lies (card a.state.now) (length a.memory.now) a.b
-lie c =
-    let a = c.args in
-    let t = c.if-run_of-a.true in
-    let first = c in
-    let second = c in
-    let f = eqb first.run_of.result a.a.length in
-    let g = eqb second.run_of-2.result a.b.length in (
-      whole_lies _ _ _ _ first.run_of.ensures (eqb-true _ _ (and_left f g t)),
-      whole_lies _ _ _ _ second.run_of-2.ensures (eqb-true _ _ (and_right f g t)),
-    )
-
 pub run_of-requires : goal.run_of-requires
 run_of-requires c =
     let s = c in
@@ -40,7 +26,16 @@ deliver_between-requires c =
     let s = c in
     let a = s.args in
     let m = s.requires.message in
-    let l = lie c in
+    let l = (let lie_is : let a = c.args in
+    Lies (card a.state.now) (length a.memory.now) a.a × Lies (card a.state.now) (length a.memory.now) a.b = (let a = c.args in
+    let t = c.if-run_of-a.true in
+    let first = c in
+    let second = c in
+    let f = eqb first.run_of.result a.a.length in
+    let g = eqb second.run_of-2.result a.b.length in (
+      whole_lies _ _ _ _ first.run_of.ensures (eqb-true _ _ (and_left f g t)),
+      whole_lies _ _ _ _ second.run_of-2.ensures (eqb-true _ _ (and_right f g t)),
+    )) in lie_is) in
     let x = room (card a.state.now) a.memory.now a.a l.0 _ c.place_of-x.ensures in
     let y = room (card a.state.now) a.memory.now a.b l.1 _ c.place_of-y.ensures in
     let f = one_total a.a in
@@ -51,7 +46,16 @@ pub returns-then-run_of-a : goal.returns-then-run_of-a
 returns-then-run_of-a c =
     let s = c in
     let a = s.args in
-    let l = lie c in
+    let l = (let lie_is : let a = c.args in
+    Lies (card a.state.now) (length a.memory.now) a.a × Lies (card a.state.now) (length a.memory.now) a.b = (let a = c.args in
+    let t = c.if-run_of-a.true in
+    let first = c in
+    let second = c in
+    let f = eqb first.run_of.result a.a.length in
+    let g = eqb second.run_of-2.result a.b.length in (
+      whole_lies _ _ _ _ first.run_of.ensures (eqb-true _ _ (and_left f g t)),
+      whole_lies _ _ _ _ second.run_of-2.ensures (eqb-true _ _ (and_right f g t)),
+    )) in lie_is) in
     between (card a.state.now) a.memory.now _ a.a a.b c.place_of-x.result c.place_of-y.result a.back l.0 l.1
     c.place_of-x.ensures c.place_of-y.ensures s.requires.message.total c.deliver_between.ensures
 
@@ -59,7 +63,7 @@ pub transfer_many-requires : goal.transfer_many-requires
 transfer_many-requires c =
     let s = c in
     let a = s.args in
-    (s.requires.ready, (omega arith, omega arith, backwards (card a.state.now) (a.a ∷ []) (a.b ∷ []) s.requires.message))
+    record { ready = s.requires.ready; nf_bound = (omega arith, omega arith, backwards (card a.state.now) (a.a ∷ []) (a.b ∷ []) s.requires.message) }
 
 pub returns-then-back : goal.returns-then-back
 returns-then-back c = rw c.if-back.true c.transfer_many.ensures

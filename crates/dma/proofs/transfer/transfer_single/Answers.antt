@@ -32,7 +32,7 @@ transfer_one-requires c =
 pub transfer_many-requires : goal.transfer_many-requires
 transfer_many-requires c =
     let s = c in
-    (s.requires.ready, (omega arith, omega arith, s.requires.message))
+    record { ready = s.requires.ready; nf_bound = (omega arith, omega arith, s.requires.message) }
 
 pub returns : goal.returns
 returns c = c.transfer_many.ensures

@@ -16,8 +16,8 @@ its k =
     let e = k in
     let b = e.before.before.before.before.before.before.before in
     record {
-      accepted = b.requires.0.accepted;
-      size = b.requires.0.size;
+      accepted = b.requires.ready.accepted;
+      size = b.requires.ready.size;
       below = e.before.before.before.if1.false;
       live = sym e.before.is_live.ensures ∙ not-false _ e.if2.false;
       row = k.load_qp-own.ensures;
@@ -65,7 +65,7 @@ pub run-requires : goal.run-requires
 run-requires c =
     let k = c in
     let b = k in
-    ((b.requires.0, its k, c.if-own-eq-ERROR.false), b.requires.1)
+    record { ready = (b.requires.ready, its k, c.if-own-eq-ERROR.false); bounded = b.requires.bounded }
 
 pub returns : goal.returns
 returns c =

@@ -16,7 +16,7 @@ finish-requires c =
     let h = head_of_lem l b.requires.0.accepted b.args.q b.requires.1 in
     let f = c.first_send-s.ensures in
     let inline = c.inline_of-inline.ensures in
-    ((b.requires.0, h.live, head_free l b.args.q h _ f.0 _ f.1 _ inline), head_bounded l b.args.q h _ f.0 _ f.1 _ inline)
+    record { ready = (b.requires.0, h.live, head_free l b.args.q h _ f.0 _ f.1 _ inline); bounded = head_bounded l b.args.q h _ f.0 _ f.1 _ inline }
 
 pub returns : goal.returns
 returns c =
