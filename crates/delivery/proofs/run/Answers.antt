@@ -16,60 +16,57 @@ use Rattle.delivery.proofs.SingleLaws.{one}
 use Rattle.delivery.proofs.EndLaws.{is_met, ran_on, stopped, runs_then}
 use Rattle.delivery.proofs.run.Goals as goal
 
-abbrev asked : (b : goal.Start) → Request
-asked b = request_by b.args.s b.args.sges b.args.inline.now
-
--- the two pairs that passed
-
-pairs : (k : goal.In-Pairs-2) → let a = k.args in Pairs k.in-Pairs.e ≡ holding a.state.now a.q a.s.opcode
-pairs k = sym k.in-Pairs.is ∙ k.meet.ensures
-
-both : (k : goal.In-Pairs-2) → let a = k.args in Met a.state.now k.in-Pairs.e a.s.opcode
-both k =
-    let b = k in
-    let a = b.args in
-    let l : List ℕ = a.state.now in
-    is_met l a.q a.s.opcode (sender_live l a.q a.s.opcode a.own b.requires.ready.1)
-    (runs_then l a.q a.own b.requires.ready.1 a.s b.requires.ready.2) _ (pairs k)
-
--- a write or a read of one entry, and its list
-
-is_one : (c : goal.Then-is_single) → is_single c.args.s ≡ true
-is_one c = sym c.is_single.ensures ∙ c.if-is_single.true
-
-list : (c : goal.Then-is_single) → let a = c.args in take a.s.count a.sges ≡ get_or a.sges 0 no_sge ∷ []
-list c =
-    let b = c in
-    let a = b.args in
-    let four : length a.sges ≡ 4 = b.well_formed.1.1.1.1.1.0.1.0.1 in
-    alone a.sges a.s.count (one a.s (is_one c)) (omega arith)
-
 pub meet-requires : goal.meet-requires
 meet-requires c = (c.requires.ready.1, c.requires.ready.2)
 
 pub carry_single-st-requires : goal.carry_single-st-requires
-carry_single-st-requires c = record { ready = c.requires.ready.0; s_value = (is_one c, both c) }
+carry_single-st-requires c =
+    let pairs : let a = c.args in Pairs c.in-Pairs.e ≡ holding a.state.now a.q a.s.opcode = sym c.in-Pairs.is ∙ c.meet.ensures in
+    let both : let a = c.args in Met a.state.now c.in-Pairs.e a.s.opcode = let b = c in
+    let a = b.args in
+    let l : List ℕ = a.state.now in
+    is_met l a.q a.s.opcode (sender_live l a.q a.s.opcode a.own b.requires.ready.1)
+    (runs_then l a.q a.own b.requires.ready.1 a.s b.requires.ready.2) _ pairs in
+    let is_one : is_single c.args.s ≡ true = sym c.is_single.ensures ∙ c.if-is_single.true in
+    record { ready = c.requires.ready.0; s_value = (is_one, both) }
 
 pub returns-then-is_single : goal.returns-then-is_single
 returns-then-is_single c =
+    let asked : Request = request_by c.args.s c.args.sges c.args.inline.now in
+    let pairs : let a = c.args in Pairs c.in-Pairs.e ≡ holding a.state.now a.q a.s.opcode = sym c.in-Pairs.is ∙ c.meet.ensures in
+    let is_one : is_single c.args.s ≡ true = sym c.is_single.ensures ∙ c.if-is_single.true in
+    let list : let a = c.args in take a.s.count a.sges ≡ get_or a.sges 0 no_sge ∷ [] = let b = c in
+    let a = b.args in
+    let four : length a.sges ≡ 4 = b.well_formed.1.1.1.1.1.0.1.0.1 in
+    alone a.sges a.s.count (one a.s is_one) (omega arith) in
     let k = c in
     let b = c in
     let a = b.args in
-    ran_on a.state.now a.q a.s.opcode (asked b) refl a.memory.now _ (pairs k) _ _ _
-    (c.carry_single-st.ensures a.sges a.inline.now (list c))
+    ran_on a.state.now a.q a.s.opcode asked refl a.memory.now _ pairs _ _ _
+    (c.carry_single-st.ensures a.sges a.inline.now list)
 
 pub carry_out-st-requires : goal.carry_out-st-requires
-carry_out-st-requires c = record { ready = c.requires.ready.0; bounded = (c.requires.bounded, both c) }
+carry_out-st-requires c =
+    let pairs : let a = c.args in Pairs c.in-Pairs.e ≡ holding a.state.now a.q a.s.opcode = sym c.in-Pairs.is ∙ c.meet.ensures in
+    let both : let a = c.args in Met a.state.now c.in-Pairs.e a.s.opcode = let b = c in
+    let a = b.args in
+    let l : List ℕ = a.state.now in
+    is_met l a.q a.s.opcode (sender_live l a.q a.s.opcode a.own b.requires.ready.1)
+    (runs_then l a.q a.own b.requires.ready.1 a.s b.requires.ready.2) _ pairs in
+    record { ready = c.requires.ready.0; bounded = (c.requires.bounded, both) }
 
 pub returns-else-is_single : goal.returns-else-is_single
 returns-else-is_single c =
+    let asked : Request = request_by c.args.s c.args.sges c.args.inline.now in
+    let pairs : let a = c.args in Pairs c.in-Pairs.e ≡ holding a.state.now a.q a.s.opcode = sym c.in-Pairs.is ∙ c.meet.ensures in
     let k = c in
     let b = c in
     let a = b.args in
-    ran_on a.state.now a.q a.s.opcode (asked b) refl a.memory.now _ (pairs k) _ _ _ c.carry_out-st.ensures
+    ran_on a.state.now a.q a.s.opcode asked refl a.memory.now _ pairs _ _ _ c.carry_out-st.ensures
 
 pub returns-in-Stopped : goal.returns-in-Stopped
 returns-in-Stopped c =
+    let asked : Request = request_by c.args.s c.args.sges c.args.inline.now in
     let b = c in
     let a = b.args in
-    stopped a.state.now a.q a.s.opcode (asked b) refl a.memory.now _ (sym c.in-Stopped.is ∙ c.meet.ensures)
+    stopped a.state.now a.q a.s.opcode asked refl a.memory.now _ (sym c.in-Stopped.is ∙ c.meet.ensures)

@@ -33,4 +33,4 @@ deliver_far-requires c =
       permitted = sym (own_judged l a.memory.now a.e a.s a.sges a.inline.now a.w a.total p.own_party.result p.own_party.ensures
           c.own_permitted.result c.own_permitted.ensures) ∙ c.if-not-own_permitted.false;
     } in
-    (b.requires.ready, (b.requires.count_bound.0, b.requires.count_bound.1, side))
+    record { ready = b.requires.ready; count_bound = (b.requires.count_bound.0, b.requires.count_bound.1, side) }

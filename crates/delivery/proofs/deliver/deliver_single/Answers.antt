@@ -13,34 +13,6 @@ use Rattle.delivery.proofs.StatusLaws.{too_long, own_refused, far_refused, all_m
 use Rattle.delivery.proofs.SingleLaws.{unfilled, list_is, single_sending, own_judged, far_judged}
 use Rattle.delivery.proofs.deliver.deliver_single.Goals as goal
 
-side : (c : goal.Else-not-range_permitted) →
-    let a = c.args in
-    OwnSide (card a.state.now) a.e a.s (a.a ∷ []) a.a.length
-side c =
-    let b = c in
-    let a = b.args in
-    record {
-      short = c.if-a-gt-MOST_MESSAGE.false;
-      permitted = sym (own_judged a.s b.requires.1 a.a a.state.now a.memory.now a.e _ c.own_party.ensures _
-          c.own_mask.ensures _ c.range_permitted.ensures) ∙ c.if-not-range_permitted.false;
-    }
-
--- no receive is filled
-
-fits : (b : goal.Start) → (not (fills b.args.s.opcode) || leb b.args.a.length (sge_total (receive_sges no_record))) ≡ true
-fits b = rw (unfilled b.args.s b.requires.1)
-
--- the judgement of the remote range
-
-range-is : (c : goal.After-range_permitted-2) →
-    let a = c.args in
-    c.range_permitted-2.result ≡ allows_all (card a.state.now) (party_in a.e.far) (far_mask a.s.opcode) (sge_bytes (far_list a.s no_record a.a.length))
-range-is c =
-    let b = c in
-    let a = b.args in
-    far_judged a.s b.requires.1 a.a a.state.now a.memory.now a.e _ c.far_party.ensures _ c.far_mask.ensures _
-    c.range_permitted-2.ensures
-
 pub returns-then-a-gt-MOST_MESSAGE : goal.returns-then-a-gt-MOST_MESSAGE
 returns-then-a-gt-MOST_MESSAGE c =
     let a = c.args in
@@ -56,28 +28,64 @@ returns-then-not-range_permitted c =
 
 pub returns-then-not-range_permitted-2 : goal.returns-then-not-range_permitted-2
 returns-then-not-range_permitted-2 c =
+    let side : let a = c.args in OwnSide (card a.state.now) a.e a.s (a.a ∷ []) a.a.length = let b = c in
+    let a = b.args in
+    record {
+      short = c.if-a-gt-MOST_MESSAGE.false;
+      permitted = sym (own_judged a.s b.requires.1 a.a a.state.now a.memory.now a.e _ c.own_party.ensures _
+          c.own_mask.ensures _ c.range_permitted.ensures) ∙ c.if-not-range_permitted.false;
+    } in
+    let fits : (not (fills c.args.s.opcode) || leb c.args.a.length (sge_total (receive_sges no_record))) ≡ true = rw (unfilled c.args.s c.requires.1) in
+    let range_is : let a = c.args in c.range_permitted-2.result ≡ allows_all (card a.state.now) (party_in a.e.far) (far_mask a.s.opcode) (sge_bytes (far_list a.s no_record a.a.length)) = let b = c in
+    let a = b.args in
+    far_judged a.s b.requires.1 a.a a.state.now a.memory.now a.e _ c.far_party.ensures _ c.far_mask.ensures _
+    c.range_permitted-2.ensures in
     let k = c in
     let b = k in
     let a = b.args in
-    far_refused a.state.now a.memory.now a.e a.s (a.a ∷ []) [] no_record a.a.length (side k) (fits b) _
-    (rw (unfilled a.s b.requires.1)) (sym (range-is c) ∙ c.if-not-range_permitted-2.true)
+    far_refused a.state.now a.memory.now a.e a.s (a.a ∷ []) [] no_record a.a.length side fits _
+    (rw (unfilled a.s b.requires.1)) (sym range_is ∙ c.if-not-range_permitted-2.true)
 
 pub move_single-requires : goal.move_single-requires
 move_single-requires c =
+    let side : let a = c.args in OwnSide (card a.state.now) a.e a.s (a.a ∷ []) a.a.length = let b = c in
+    let a = b.args in
+    record {
+      short = c.if-a-gt-MOST_MESSAGE.false;
+      permitted = sym (own_judged a.s b.requires.1 a.a a.state.now a.memory.now a.e _ c.own_party.ensures _
+          c.own_mask.ensures _ c.range_permitted.ensures) ∙ c.if-not-range_permitted.false;
+    } in
+    let fits : (not (fills c.args.s.opcode) || leb c.args.a.length (sge_total (receive_sges no_record))) ≡ true = rw (unfilled c.args.s c.requires.1) in
+    let range_is : let a = c.args in c.range_permitted-2.result ≡ allows_all (card a.state.now) (party_in a.e.far) (far_mask a.s.opcode) (sge_bytes (far_list a.s no_record a.a.length)) = let b = c in
+    let a = b.args in
+    far_judged a.s b.requires.1 a.a a.state.now a.memory.now a.e _ c.far_party.ensures _ c.far_mask.ensures _
+    c.range_permitted-2.ensures in
     let d = c in
     let k = d in
     let b = k in
     let a = b.args in
-    let y = carries a.state.now a.memory.now a.e a.s (a.a ∷ []) [] no_record a.a.length (side k) (fits b)
-    (sym (range-is d) ∙ c.if-not-range_permitted-2.false) _ refl (single_sending a.s b.requires.1 a.a) in
+    let y = carries a.state.now a.memory.now a.e a.s (a.a ∷ []) [] no_record a.a.length side fits
+    (sym range_is ∙ c.if-not-range_permitted-2.false) _ refl (single_sending a.s b.requires.1 a.a) in
     record { ready = b.requires; carries = rw (list_is a.s b.requires.1 a.a) at y }
 
 pub returns : goal.returns
 returns c =
+    let side : let a = c.args in OwnSide (card a.state.now) a.e a.s (a.a ∷ []) a.a.length = let b = c in
+    let a = b.args in
+    record {
+      short = c.if-a-gt-MOST_MESSAGE.false;
+      permitted = sym (own_judged a.s b.requires.1 a.a a.state.now a.memory.now a.e _ c.own_party.ensures _
+          c.own_mask.ensures _ c.range_permitted.ensures) ∙ c.if-not-range_permitted.false;
+    } in
+    let fits : (not (fills c.args.s.opcode) || leb c.args.a.length (sge_total (receive_sges no_record))) ≡ true = rw (unfilled c.args.s c.requires.1) in
+    let range_is : let a = c.args in c.range_permitted-2.result ≡ allows_all (card a.state.now) (party_in a.e.far) (far_mask a.s.opcode) (sge_bytes (far_list a.s no_record a.a.length)) = let b = c in
+    let a = b.args in
+    far_judged a.s b.requires.1 a.a a.state.now a.memory.now a.e _ c.far_party.ensures _ c.far_mask.ensures _
+    c.range_permitted-2.ensures in
     let d = c in
     let k = d in
     let b = k in
     let a = b.args in
-    all_moved a.state.now a.memory.now a.e a.s (a.a ∷ []) [] no_record a.a.length (side k) (fits b)
-    (sym (range-is d) ∙ c.if-not-range_permitted-2.false) _ refl _
+    all_moved a.state.now a.memory.now a.e a.s (a.a ∷ []) [] no_record a.a.length side fits
+    (sym range_is ∙ c.if-not-range_permitted-2.false) _ refl _
     (rw (list_is a.s b.requires.1 a.a) c.move_single.ensures)

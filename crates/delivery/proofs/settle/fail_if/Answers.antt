@@ -8,6 +8,5 @@ returns-then-not-b c = let e : c.args.b ≡ false = c.if-not-b.true in rw e
 
 pub returns : goal.returns
 returns c =
-    let e : c.args.b ≡ true = not-false _
-    c.if-not-b.false in
+    let e : c.args.b ≡ true = c.if-not-b.false in
     rw (e, c.store_qp.ensures, c.load_qp-p.ensures)

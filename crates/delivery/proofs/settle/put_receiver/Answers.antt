@@ -11,8 +11,7 @@ returns-then-not-is_consumed c =
 pub push_completion-requires : goal.push_completion-requires
 push_completion-requires c =
     let b = c in
-    let k = b.requires.rcq_lt_cq_count (sym c.is_consumed.ensures ∙ not-false _
-    c.if-not-is_consumed.false) in
+    let k = b.requires.rcq_lt_cq_count (sym c.is_consumed.ensures ∙ c.if-not-is_consumed.false) in
     (k.0, b.requires.d_lt_qp_count.2, k.1)
 
 pub returns : goal.returns
@@ -26,5 +25,4 @@ returns c =
       c.receiver_opcode-opcode.ensures,
     )
     (consumed a.state.now a.e a.s a.st a.n a.w
-    (sym c.is_consumed.ensures ∙ not-false _
-    c.if-not-is_consumed.false))
+    (sym c.is_consumed.ensures ∙ c.if-not-is_consumed.false))

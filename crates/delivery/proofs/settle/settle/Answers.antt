@@ -38,7 +38,7 @@ returns c =
     let d : ℕ = a.e.d in
     far.fail_if-2.ensures
     ∙ ap (λ (x : List ℕ). error_bytes (eqb a.st 7) x d)
-    (took.consume_if.ensures ∙ ap (λ (t : Bool). consume_bytes t own.fail_if.new.0 d) took.is_consumed.ensures
+    (took.consume_if.ensures ∙ ap (λ (t : Bool). consume_bytes t own.fail_if.new.state d) took.is_consumed.ensures
     ∙ ap (λ (x : List ℕ). consume_bytes (consumes a.s.opcode a.st) x d)
     (own.fail_if.ensures
     ∙ ap (λ (x : List ℕ). error_bytes (fails a.st) x a.e.q)

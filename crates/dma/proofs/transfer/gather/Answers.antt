@@ -13,29 +13,32 @@ loop-i-init c = (record { turns = omega arith; sum = omega arith; maps = c.requi
 
 pub copy_out-requires : goal.copy_out-requires
 copy_out-requires c =
-    let s = c in
-    let w = (let step_is : Turn (card c.args.state.now) c.args.sges c.args.count c.loop-i.i c.loop-i.at = (let b = c in let s = b in
-    let l = b.loop-i in
+    let step : Turn (card c.args.state.now) c.args.sges c.args.count c.loop-i.i c.loop-i.at = let s = c in
+    let l = c.loop-i in
     let four : length s.args.sges ≡ 4 = s.well_formed.1.1.0.1.0.1 in
-    turn (card s.args.state.now) s.args.sges s.args.count l.i l.at l.invariant.0 (omega arith) (omega arith)) in step_is) in
+    turn (card s.args.state.now) s.args.sges s.args.count l.i l.at l.invariant.0 (omega arith) (omega arith) in
+    let s = c in
+    let w = step in
     record { ready = s.requires.ready; s_value = (w.maps, omega (arith, w.fits), omega (arith, w.fits)) }
 
 pub overflow_add-at : goal.overflow_add-at
 overflow_add-at c =
-    let w = (let step_is : Turn (card c.args.state.now) c.args.sges c.args.count c.loop-i.i c.loop-i.at = (let b = c in let s = b in
-    let l = b.loop-i in
+    let step : Turn (card c.args.state.now) c.args.sges c.args.count c.loop-i.i c.loop-i.at = let s = c in
+    let l = c.loop-i in
     let four : length s.args.sges ≡ 4 = s.well_formed.1.1.0.1.0.1 in
-    turn (card s.args.state.now) s.args.sges s.args.count l.i l.at l.invariant.0 (omega arith) (omega arith)) in step_is) in
+    turn (card s.args.state.now) s.args.sges s.args.count l.i l.at l.invariant.0 (omega arith) (omega arith) in
+    let w = step in
     omega arith
 
 pub loop-i-preserved : goal.loop-i-preserved
 loop-i-preserved c =
+    let step : Turn (card c.args.state.now) c.args.sges c.args.count c.loop-i.i c.loop-i.at = let s = c in
+    let l = c.loop-i in
+    let four : length s.args.sges ≡ 4 = s.well_formed.1.1.0.1.0.1 in
+    turn (card s.args.state.now) s.args.sges s.args.count l.i l.at l.invariant.0 (omega arith) (omega arith) in
     let s = c in
     let l = c.loop-i in
-    let w = (let step_is : Turn (card c.args.state.now) c.args.sges c.args.count c.loop-i.i c.loop-i.at = (let b = c in let s = b in
-    let l = b.loop-i in
-    let four : length s.args.sges ≡ 4 = s.well_formed.1.1.0.1.0.1 in
-    turn (card s.args.state.now) s.args.sges s.args.count l.i l.at l.invariant.0 (omega arith) (omega arith)) in step_is) in (
+    let w = step in (
       w.next,
       c.copy_out.auto.staging ∙ l.invariant.1,
       gather_more (card s.args.state.now) s.args.memory.now (get_or s.args.sges l.i no_sge) l.staging _ l.at

@@ -12,11 +12,12 @@ loop-i-init c = (record { turns = omega arith; sum = omega arith; maps = c.requi
 
 pub copy_in-requires : goal.copy_in-requires
 copy_in-requires c =
-    let s = c in
-    let w = (let step_is : Turn (card c.args.state.now) c.args.sges c.args.count c.loop-i.i c.loop-i.at = (let b = c in let s = b in
-    let l = b.loop-i in
+    let step : Turn (card c.args.state.now) c.args.sges c.args.count c.loop-i.i c.loop-i.at = let s = c in
+    let l = c.loop-i in
     let four : length s.args.sges ≡ 4 = s.well_formed.1.1.0.1.0.1 in
-    turn (card s.args.state.now) s.args.sges s.args.count l.i l.at l.invariant.0 (omega arith) (omega arith)) in step_is) in
+    turn (card s.args.state.now) s.args.sges s.args.count l.i l.at l.invariant.0 (omega arith) (omega arith) in
+    let s = c in
+    let w = step in 
     record {
       ready = record { accepted = s.requires.ready.accepted; size = s.requires.ready.size; whole = c.loop-i.invariant.1 ∙ s.requires.ready.whole };
       s_value = (w.maps, omega (arith, w.fits), omega (arith, w.fits));
@@ -24,20 +25,22 @@ copy_in-requires c =
 
 pub overflow_add-at : goal.overflow_add-at
 overflow_add-at c =
-    let w = (let step_is : Turn (card c.args.state.now) c.args.sges c.args.count c.loop-i.i c.loop-i.at = (let b = c in let s = b in
-    let l = b.loop-i in
+    let step : Turn (card c.args.state.now) c.args.sges c.args.count c.loop-i.i c.loop-i.at = let s = c in
+    let l = c.loop-i in
     let four : length s.args.sges ≡ 4 = s.well_formed.1.1.0.1.0.1 in
-    turn (card s.args.state.now) s.args.sges s.args.count l.i l.at l.invariant.0 (omega arith) (omega arith)) in step_is) in
+    turn (card s.args.state.now) s.args.sges s.args.count l.i l.at l.invariant.0 (omega arith) (omega arith) in
+    let w = step in
     omega arith
 
 pub loop-i-preserved : goal.loop-i-preserved
 loop-i-preserved c =
+    let step : Turn (card c.args.state.now) c.args.sges c.args.count c.loop-i.i c.loop-i.at = let s = c in
+    let l = c.loop-i in
+    let four : length s.args.sges ≡ 4 = s.well_formed.1.1.0.1.0.1 in
+    turn (card s.args.state.now) s.args.sges s.args.count l.i l.at l.invariant.0 (omega arith) (omega arith) in
     let s = c in
     let l = c.loop-i in
-    let w = (let step_is : Turn (card c.args.state.now) c.args.sges c.args.count c.loop-i.i c.loop-i.at = (let b = c in let s = b in
-    let l = b.loop-i in
-    let four : length s.args.sges ≡ 4 = s.well_formed.1.1.0.1.0.1 in
-    turn (card s.args.state.now) s.args.sges s.args.count l.i l.at l.invariant.0 (omega arith) (omega arith)) in step_is) in (
+    let w = step in (
       w.next,
       c.copy_in.auto.memory ∙ l.invariant.1,
       scatter_more (card s.args.state.now) l.memory (get_or s.args.sges l.i no_sge) _ s.args.staging.now l.at

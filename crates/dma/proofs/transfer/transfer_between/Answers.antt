@@ -23,11 +23,7 @@ run_of-requires-2 c =
 
 pub deliver_between-requires : goal.deliver_between-requires
 deliver_between-requires c =
-    let s = c in
-    let a = s.args in
-    let m = s.requires.message in
-    let l = (let lie_is : let a = c.args in
-    Lies (card a.state.now) (length a.memory.now) a.a × Lies (card a.state.now) (length a.memory.now) a.b = (let a = c.args in
+    let lie : let a = c.args in Lies (card a.state.now) (length a.memory.now) a.a × Lies (card a.state.now) (length a.memory.now) a.b = let a = c.args in
     let t = c.if-run_of-a.true in
     let first = c in
     let second = c in
@@ -35,7 +31,11 @@ deliver_between-requires c =
     let g = eqb second.run_of-2.result a.b.length in (
       whole_lies _ _ _ _ first.run_of.ensures (eqb-true _ _ (and_left f g t)),
       whole_lies _ _ _ _ second.run_of-2.ensures (eqb-true _ _ (and_right f g t)),
-    )) in lie_is) in
+    ) in
+    let s = c in
+    let a = s.args in
+    let m = s.requires.message in
+    let l = lie in
     let x = room (card a.state.now) a.memory.now a.a l.0 _ c.place_of-x.ensures in
     let y = room (card a.state.now) a.memory.now a.b l.1 _ c.place_of-y.ensures in
     let f = one_total a.a in
@@ -44,10 +44,7 @@ deliver_between-requires c =
 
 pub returns-then-run_of-a : goal.returns-then-run_of-a
 returns-then-run_of-a c =
-    let s = c in
-    let a = s.args in
-    let l = (let lie_is : let a = c.args in
-    Lies (card a.state.now) (length a.memory.now) a.a × Lies (card a.state.now) (length a.memory.now) a.b = (let a = c.args in
+    let lie : let a = c.args in Lies (card a.state.now) (length a.memory.now) a.a × Lies (card a.state.now) (length a.memory.now) a.b = let a = c.args in
     let t = c.if-run_of-a.true in
     let first = c in
     let second = c in
@@ -55,7 +52,10 @@ returns-then-run_of-a c =
     let g = eqb second.run_of-2.result a.b.length in (
       whole_lies _ _ _ _ first.run_of.ensures (eqb-true _ _ (and_left f g t)),
       whole_lies _ _ _ _ second.run_of-2.ensures (eqb-true _ _ (and_right f g t)),
-    )) in lie_is) in
+    ) in
+    let s = c in
+    let a = s.args in
+    let l = lie in
     between (card a.state.now) a.memory.now _ a.a a.b c.place_of-x.result c.place_of-y.result a.back l.0 l.1
     c.place_of-x.ensures c.place_of-y.ensures s.requires.message.total c.deliver_between.ensures
 

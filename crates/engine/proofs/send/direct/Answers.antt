@@ -6,36 +6,31 @@ use Rattle.delivery.specs.Run.{request_by}
 use Rattle.engine.proofs.DirectLaws.{no_pair, not_live, not_ready, sends, has_queue, run_on}
 use Rattle.engine.proofs.send.direct.Goals as goal
 
-abbrev asked : (b : goal.Start) → Request
-asked b = request_by b.args.s b.args.sges b.args.inline.now
+pub returns-then-q-ge-QP_COUNT : goal.returns-then-q-ge-QP_COUNT
+returns-then-q-ge-QP_COUNT c =
+    let asked : Request = request_by c.args.s c.args.sges c.args.inline.now in
+    let b = c in
+    no_pair b.args.state.now b.args.qpn asked b.args.memory.now c.if-q-ge-QP_COUNT.true
 
--- the row that was loaded is that of a live queue pair
+pub returns-then-not-is_live : goal.returns-then-not-is_live
+returns-then-not-is_live c =
+    let asked : Request = request_by c.args.s c.args.sges c.args.inline.now in
+    let b = c in
+    not_live b.args.state.now b.args.qpn asked b.args.memory.now c.if-q-ge-QP_COUNT.false
+    (sym c.is_live.ensures ∙ c.if-not-is_live.true)
 
-its : (k : goal.After-load_qp-own) → let a = k.args in Sender a.state.now a.qpn k.load_qp-own.result
-its k =
-    let e = k in
+pub direct_error-requires : goal.direct_error-requires
+direct_error-requires c =
+    let its : let a = c.args in Sender a.state.now a.qpn c.load_qp-own.result = let e = c in
     let b = e.before.before.before.before.before.before.before in
     record {
       accepted = b.requires.ready.accepted;
       size = b.requires.ready.size;
       below = e.before.before.before.if1.false;
       live = sym e.before.is_live.ensures ∙ not-false _ e.if2.false;
-      row = k.load_qp-own.ensures;
-    }
-
-pub returns-then-q-ge-QP_COUNT : goal.returns-then-q-ge-QP_COUNT
-returns-then-q-ge-QP_COUNT c =
-    let b = c in
-    no_pair b.args.state.now b.args.qpn (asked b) b.args.memory.now c.if-q-ge-QP_COUNT.true
-
-pub returns-then-not-is_live : goal.returns-then-not-is_live
-returns-then-not-is_live c =
-    let b = c in
-    not_live b.args.state.now b.args.qpn (asked b) b.args.memory.now c.if-q-ge-QP_COUNT.false
-    (sym c.is_live.ensures ∙ c.if-not-is_live.true)
-
-pub direct_error-requires : goal.direct_error-requires
-direct_error-requires c = (its c, c.if-own-eq-ERROR.true)
+      row = c.load_qp-own.ensures;
+    } in
+    (its, c.if-own-eq-ERROR.true)
 
 pub returns-then-own-eq-ERROR : goal.returns-then-own-eq-ERROR
 returns-then-own-eq-ERROR c =
@@ -44,35 +39,84 @@ returns-then-own-eq-ERROR c =
 
 pub returns-then-own-ne-RTS : goal.returns-then-own-ne-RTS
 returns-then-own-ne-RTS c =
+    let asked : Request = request_by c.args.s c.args.sges c.args.inline.now in
+    let its : let a = c.args in Sender a.state.now a.qpn c.load_qp-own.result = let e = c in
+    let b = e.before.before.before.before.before.before.before in
+    record {
+      accepted = b.requires.ready.accepted;
+      size = b.requires.ready.size;
+      below = e.before.before.before.if1.false;
+      live = sym e.before.is_live.ensures ∙ not-false _ e.if2.false;
+      row = c.load_qp-own.ensures;
+    } in
     let k = c in
     let b = k in
-    let y = its k in
-    not_ready b.args.state.now b.args.qpn (asked b) b.args.memory.now y.below y.live _ y.row c.if-own-eq-ERROR.false c.if-own-ne-RTS.true
+    let y = its in
+    not_ready b.args.state.now b.args.qpn asked b.args.memory.now y.below y.live _ y.row c.if-own-eq-ERROR.false c.if-own-ne-RTS.true
 
 pub is_queued-requires : goal.is_queued-requires
-is_queued-requires c = let y = its c in (y.below, y.size)
+is_queued-requires c =
+    let its : let a = c.args in Sender a.state.now a.qpn c.load_qp-own.result = let e = c in
+    let b = e.before.before.before.before.before.before.before in
+    record {
+      accepted = b.requires.ready.accepted;
+      size = b.requires.ready.size;
+      below = e.before.before.before.if1.false;
+      live = sym e.before.is_live.ensures ∙ not-false _ e.if2.false;
+      row = c.load_qp-own.ensures;
+    } in
+    let y = its in (y.below, y.size)
 
 pub returns-then-is_queued : goal.returns-then-is_queued
 returns-then-is_queued c =
+    let asked : Request = request_by c.args.s c.args.sges c.args.inline.now in
+    let its : let a = c.args in Sender a.state.now a.qpn c.load_qp-own.result = let e = c in
+    let b = e.before.before.before.before.before.before.before in
+    record {
+      accepted = b.requires.ready.accepted;
+      size = b.requires.ready.size;
+      below = e.before.before.before.if1.false;
+      live = sym e.before.is_live.ensures ∙ not-false _ e.if2.false;
+      row = c.load_qp-own.ensures;
+    } in
     let k = c in
     let b = k in
-    let y = its k in
-    has_queue b.args.state.now b.args.qpn (asked b) b.args.memory.now y.below y.live _ y.row
-    (sends b.args.state.now b.args.qpn (asked b) b.args.memory.now y.below y.live _ y.row c.if-own-ne-RTS.false) _
+    let y = its in
+    has_queue b.args.state.now b.args.qpn asked b.args.memory.now y.below y.live _ y.row
+    (sends b.args.state.now b.args.qpn asked b.args.memory.now y.below y.live _ y.row c.if-own-ne-RTS.false) _
     c.is_queued.ensures c.if-is_queued.true
 
 pub run-requires : goal.run-requires
 run-requires c =
+    let its : let a = c.args in Sender a.state.now a.qpn c.load_qp-own.result = let e = c in
+    let b = e.before.before.before.before.before.before.before in
+    record {
+      accepted = b.requires.ready.accepted;
+      size = b.requires.ready.size;
+      below = e.before.before.before.if1.false;
+      live = sym e.before.is_live.ensures ∙ not-false _ e.if2.false;
+      row = c.load_qp-own.ensures;
+    } in
     let k = c in
     let b = k in
-    record { ready = (b.requires.ready, its k, c.if-own-eq-ERROR.false); bounded = b.requires.bounded }
+    record { ready = (b.requires.ready, its, c.if-own-eq-ERROR.false); bounded = b.requires.bounded }
 
 pub returns : goal.returns
 returns c =
+    let asked : Request = request_by c.args.s c.args.sges c.args.inline.now in
+    let its : let a = c.args in Sender a.state.now a.qpn c.load_qp-own.result = let e = c in
+    let b = e.before.before.before.before.before.before.before in
+    record {
+      accepted = b.requires.ready.accepted;
+      size = b.requires.ready.size;
+      below = e.before.before.before.if1.false;
+      live = sym e.before.is_live.ensures ∙ not-false _ e.if2.false;
+      row = c.load_qp-own.ensures;
+    } in
     let k = c in
     let b = k in
     let e = c in
-    let y = its k in
-    run_on b.args.state.now b.args.qpn (asked b) b.args.memory.now y.below y.live _ y.row
-    (sends b.args.state.now b.args.qpn (asked b) b.args.memory.now y.below y.live _ y.row c.if-own-ne-RTS.false) _
+    let y = its in
+    run_on b.args.state.now b.args.qpn asked b.args.memory.now y.below y.live _ y.row
+    (sends b.args.state.now b.args.qpn asked b.args.memory.now y.below y.live _ y.row c.if-own-ne-RTS.false) _
     e.is_queued.ensures e.if-is_queued.false _ _ _ c.run.ensures
