@@ -21,13 +21,11 @@ returns-then-not-is_live c =
 
 pub direct_error-requires : goal.direct_error-requires
 direct_error-requires c =
-    let its : let a = c.args in Sender a.state.now a.qpn c.load_qp-own.result = let e = c in
-    let b = e.before.before.before.before.before.before.before in
-    record {
-      accepted = b.requires.ready.accepted;
-      size = b.requires.ready.size;
-      below = e.before.before.before.if1.false;
-      live = sym e.before.is_live.ensures ∙ not-false _ e.if2.false;
+    let its : let a = c.args in Sender a.state.now a.qpn c.load_qp-own.result = record {
+      accepted = c.requires.ready.accepted;
+      size = c.requires.ready.size;
+      below = c.if-q-ge-QP_COUNT.false;
+      live = sym c.is_live.ensures ∙ c.if-not-is_live.false;
       row = c.load_qp-own.ensures;
     } in
     (its, c.if-own-eq-ERROR.true)
@@ -40,13 +38,11 @@ returns-then-own-eq-ERROR c =
 pub returns-then-own-ne-RTS : goal.returns-then-own-ne-RTS
 returns-then-own-ne-RTS c =
     let asked : Request = request_by c.args.s c.args.sges c.args.inline.now in
-    let its : let a = c.args in Sender a.state.now a.qpn c.load_qp-own.result = let e = c in
-    let b = e.before.before.before.before.before.before.before in
-    record {
-      accepted = b.requires.ready.accepted;
-      size = b.requires.ready.size;
-      below = e.before.before.before.if1.false;
-      live = sym e.before.is_live.ensures ∙ not-false _ e.if2.false;
+    let its : let a = c.args in Sender a.state.now a.qpn c.load_qp-own.result = record {
+      accepted = c.requires.ready.accepted;
+      size = c.requires.ready.size;
+      below = c.if-q-ge-QP_COUNT.false;
+      live = sym c.is_live.ensures ∙ c.if-not-is_live.false;
       row = c.load_qp-own.ensures;
     } in
     let k = c in
@@ -56,13 +52,11 @@ returns-then-own-ne-RTS c =
 
 pub is_queued-requires : goal.is_queued-requires
 is_queued-requires c =
-    let its : let a = c.args in Sender a.state.now a.qpn c.load_qp-own.result = let e = c in
-    let b = e.before.before.before.before.before.before.before in
-    record {
-      accepted = b.requires.ready.accepted;
-      size = b.requires.ready.size;
-      below = e.before.before.before.if1.false;
-      live = sym e.before.is_live.ensures ∙ not-false _ e.if2.false;
+    let its : let a = c.args in Sender a.state.now a.qpn c.load_qp-own.result = record {
+      accepted = c.requires.ready.accepted;
+      size = c.requires.ready.size;
+      below = c.if-q-ge-QP_COUNT.false;
+      live = sym c.is_live.ensures ∙ c.if-not-is_live.false;
       row = c.load_qp-own.ensures;
     } in
     let y = its in (y.below, y.size)
@@ -70,13 +64,11 @@ is_queued-requires c =
 pub returns-then-is_queued : goal.returns-then-is_queued
 returns-then-is_queued c =
     let asked : Request = request_by c.args.s c.args.sges c.args.inline.now in
-    let its : let a = c.args in Sender a.state.now a.qpn c.load_qp-own.result = let e = c in
-    let b = e.before.before.before.before.before.before.before in
-    record {
-      accepted = b.requires.ready.accepted;
-      size = b.requires.ready.size;
-      below = e.before.before.before.if1.false;
-      live = sym e.before.is_live.ensures ∙ not-false _ e.if2.false;
+    let its : let a = c.args in Sender a.state.now a.qpn c.load_qp-own.result = record {
+      accepted = c.requires.ready.accepted;
+      size = c.requires.ready.size;
+      below = c.if-q-ge-QP_COUNT.false;
+      live = sym c.is_live.ensures ∙ c.if-not-is_live.false;
       row = c.load_qp-own.ensures;
     } in
     let k = c in
@@ -88,13 +80,11 @@ returns-then-is_queued c =
 
 pub run-requires : goal.run-requires
 run-requires c =
-    let its : let a = c.args in Sender a.state.now a.qpn c.load_qp-own.result = let e = c in
-    let b = e.before.before.before.before.before.before.before in
-    record {
-      accepted = b.requires.ready.accepted;
-      size = b.requires.ready.size;
-      below = e.before.before.before.if1.false;
-      live = sym e.before.is_live.ensures ∙ not-false _ e.if2.false;
+    let its : let a = c.args in Sender a.state.now a.qpn c.load_qp-own.result = record {
+      accepted = c.requires.ready.accepted;
+      size = c.requires.ready.size;
+      below = c.if-q-ge-QP_COUNT.false;
+      live = sym c.is_live.ensures ∙ c.if-not-is_live.false;
       row = c.load_qp-own.ensures;
     } in
     let k = c in
@@ -104,13 +94,11 @@ run-requires c =
 pub returns : goal.returns
 returns c =
     let asked : Request = request_by c.args.s c.args.sges c.args.inline.now in
-    let its : let a = c.args in Sender a.state.now a.qpn c.load_qp-own.result = let e = c in
-    let b = e.before.before.before.before.before.before.before in
-    record {
-      accepted = b.requires.ready.accepted;
-      size = b.requires.ready.size;
-      below = e.before.before.before.if1.false;
-      live = sym e.before.is_live.ensures ∙ not-false _ e.if2.false;
+    let its : let a = c.args in Sender a.state.now a.qpn c.load_qp-own.result = record {
+      accepted = c.requires.ready.accepted;
+      size = c.requires.ready.size;
+      below = c.if-q-ge-QP_COUNT.false;
+      live = sym c.is_live.ensures ∙ c.if-not-is_live.false;
       row = c.load_qp-own.ensures;
     } in
     let k = c in

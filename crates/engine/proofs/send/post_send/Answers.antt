@@ -58,11 +58,12 @@ direct-requires c =
     let m : List ℕ = a.memory.now in
     let x : List ℕ = a.sent.now in
     let y : accepts l ≡ true = sym t.accepted.ensures ∙ r.if-not-accepted.false in
-    let v : length m ≡ (card l).memory = r.if-memory-load_memory.false ∙ r.load_memory.ensures ∙ sym (memory_is l) in (
-      record { accepted = y; size = (accepted l y).sized; whole = v ∙ memory_is l },
-      rw c.inline_bytes-inline.ensures
-          (bounded x _ (posted x _ (sym c.in-Record.is ∙ r.read_send.ensures))),
-    )
+    let v : length m ≡ (card l).memory = r.if-memory-load_memory.false ∙ r.load_memory.ensures ∙ sym (memory_is l) in
+    record {
+      ready = record { accepted = y; size = (accepted l y).sized; whole = v ∙ memory_is l };
+      bounded = rw c.inline_bytes-inline.ensures
+          (bounded x _ (posted x _ (sym c.in-Record.is ∙ r.read_send.ensures)));
+    }
 
 pub returns-in-Record : goal.returns-in-Record
 returns-in-Record c =
