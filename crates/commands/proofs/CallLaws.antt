@@ -1,7 +1,7 @@
 -- Any control command: which command its bytes are, the tests before its own, and what the call owes. Assumes nothing.
 use mathlib.Core.Path.{◌≡◌, refl, sym, ◌∙◌}
 use mathlib.Core.Logic.{◌⊎◌, inl, inr}
-use mathlib.Core.Bool.{Bool, true, false, cond, not, ◌&&◌, false≢true}
+use mathlib.Core.Bool.{Bool, true, false, cond, ◌&&◌, false≢true}
 use mathlib.Core.List.{List, [], ◌++◌}
 use mathlib.Core.Option.{Option, none, some, some-ne-none}
 use Prim.Native.Nat.{ℕ, ◌+◌, ◌≤◌, ◌<◌}
@@ -9,7 +9,7 @@ use lib.Dec.{eqb, leb}
 use lib.ListN.{length}
 use native.Mathlib.Omega.{arith}
 use borrow.Author.Tests.{lt-ltb, le-ltb, le-leb, leb-true, ltb-false, ne_eqb, not-false}
-use Rattle.wire.specs.Checks.{Check, ◌if◌, refusal}
+use Rattle.wire.specs.Checks.{Check, refusal}
 use Rattle.wire.specs.Codec.{decode}
 use Rattle.wire.proofs.CheckLaws.{passed}
 use Rattle.wire.specs.Le.{le_at}

@@ -21,7 +21,7 @@ use Rattle.tables.specs.Card.{cq_live, receive_of}
 use Rattle.tables.specs.Records.{request_in}
 use Rattle.tables.specs.State.{PairRows, card, pair_at, qp_of, live_qp, dest_of, receives_at, queued_at, posted, queued_in}
 use Rattle.tables.specs.Layout.{qp_flag_t, qp_t, waiting_t, send_head_t, flag_codec, pair_codec, waiting_codec}
-use Rattle.tables.specs.Limits.{qp_count, most_waiting, most_queued, most_access}
+use Rattle.tables.specs.Limits.{qp_count, most_waiting, most_access}
 use Rattle.tables.specs.Commands.{Command}
 use Rattle.tables.proofs.KindLaws.{PairsOnly, only_then, pair_card}
 use Rattle.tables.proofs.ObjectLaws.{pd_below, cq_below, qp_below, qp_flag, qp_row}

@@ -1,6 +1,6 @@
 -- The bytes that a request leaves which nothing held: they are accepted, and mean the rules' card. Assumes nothing.
 use mathlib.Core.Path.{◌≡◌, refl, ap, ◌∙◌}
-use mathlib.Core.Bool.{Bool, true, false, not, ◌&&◌}
+use mathlib.Core.Bool.{Bool, true, false, ◌&&◌}
 use mathlib.Core.List.{List, [], ◌∷◌}
 use Prim.Native.Nat.{ℕ, ◌+◌, ◌*◌, ◌^◌, ◌<◌}
 use lib.Dec.{eqb}
@@ -8,7 +8,7 @@ use Rattle.wire.specs.Checks.{Passed}
 use Rattle.wire.specs.Codec.{Fit}
 use Rattle.wire.proofs.ScanLaws.{and_left}
 use Rattle.wire.specs.Table.{row_at}
-use Rattle.validate.proofs.AcceptedLaws.{Accepted, accepted}
+use Rattle.validate.proofs.AcceptedLaws.{Accepted}
 use Rattle.tables.specs.Card.{Card, Qp, with_cq, with_qp, receive_of}
 use Rattle.tables.specs.State.{card}
 use Rattle.tables.specs.Layout.{receive_t, waiting_t}

@@ -2,27 +2,26 @@
 use mathlib.Core.Path.{◌≡◌, refl, sym, ap, ap₂, subst, ◌∙◌}
 use mathlib.Core.Logic.{◌≢◌}
 use mathlib.Core.Bool.{Bool, true, false, cond, not, ◌&&◌, ◌||◌, false≢true, true≢false}
-use mathlib.Core.List.{List, [], ◌∷◌}
+use mathlib.Core.List.{List}
 use mathlib.Core.Option.{Option, none, some}
 use Prim.Native.Nat.{ℕ, ◌+◌, ◌%◌, ◌^◌, ◌<◌, ◌≤◌}
 use native.Mathlib.Nat.{mod-lt}
 use native.Mathlib.Omega.{arith}
 use lib.Dec.{eqb, ltb, leb}
 use lib.ListN.{length, get_or, drop, length-take}
-use borrow.Author.Tests.{eqb-true, eqb-false, eq-eqb, ne_eqb, le-leb, lt-leb, ltb-false, leb-true, not-false, not-true}
+use borrow.Author.Tests.{eqb-true, eq-eqb, ne_eqb, le-leb, lt-leb, ltb-false, leb-true, not-true}
 use Rattle.wire.specs.Checks.{refusal, only}
 use Rattle.wire.specs.Codec.{Fit}
 use Rattle.wire.specs.Slots.{upd}
 use Rattle.wire.specs.Scan.{lowest, all}
-use Rattle.wire.specs.Table.{row_at, put_row}
+use Rattle.wire.specs.Table.{row_at}
 use Rattle.wire.proofs.CheckLaws.{passed}
 use Rattle.wire.proofs.ScanLaws.{and_left, and_right, and_off, or_left, or_right, lowest_passes}
-use Rattle.wire.proofs.SlotLaws.{split, same}
-use Rattle.tables.specs.Card.{Card, Qp, with_qp, with_turn, with_queue, tail}
+use Rattle.tables.specs.Card.{Card, with_qp, with_turn, with_queue, tail}
 use Rattle.tables.specs.Layout.{state_size, qp_flag_t, send_head_t, turn_t}
 use Rattle.tables.specs.Limits.{qp_count, most_queued, most_sges, most_inline}
 use Rattle.tables.specs.Queue.{oldest_send, unqueue_bytes}
-use Rattle.tables.specs.Records.{Request, QueuedSend, send_codec, sent_in, request_in, request_with, send_sge, inline_in, is_inline, flag_bits, send_bad}
+use Rattle.tables.specs.Records.{Request, send_codec, sent_in, request_in, request_with, send_sge, inline_in, is_inline, flag_bits, send_bad}
 use Rattle.tables.specs.State.{card, is_live}
 use Rattle.wire.specs.Rows.{rows}
 use Rattle.tables.specs.declared.SendRecord.{SendRecord}
@@ -31,25 +30,24 @@ use Rattle.tables.proofs.KindLaws.{turn_card}
 use Rattle.tables.proofs.ObjectLaws.{qp_live, qp_below, qp_flag}
 use Rattle.tables.proofs.QueuedLaws as queued
 use Rattle.validate.specs.Accept.{accepts}
-use Rattle.validate.proofs.AcceptedLaws.{Accepted, accepted, accepting, turn_below}
+use Rattle.validate.proofs.AcceptedLaws.{Accepted, accepted}
 use Rattle.validate.proofs.KeptLaws.{turn_accepted}
 use Rattle.validate.proofs.SendLaws.{queue_first, queue_count, oldest_sound, unqueue_accepted}
 use Rattle.rules.specs.Answer.{answered, code_of}
-use Rattle.rules.specs.declared.Answer.{Answer}
 use Rattle.rules.specs.declared.Answer.TheVariants.{Done, Refused}
 use Rattle.rules.specs.Bytes.{send_bytes, head_gone_bytes, turn_bytes, effect_bytes}
 use Rattle.rules.specs.Call.{Call}
 use Rattle.rules.specs.Calls.{checks, memory_checks, owed_checks, owed, settled, status_of, value_of, effect, memory_after, buffer_after}
 use Rattle.rules.specs.Contract.{OwesAll}
 use Rattle.rules.specs.Lists.{is_empty, is_some}
-use Rattle.rules.specs.Send.{is_in_error, hold_checks, ready_checks, send_status, send_effect}
+use Rattle.rules.specs.Send.{hold_checks, ready_checks, send_status, send_effect}
 use Rattle.rules.specs.Touch.{no_request}
-use Rattle.rules.specs.Turn.{seat, passed_over, served_by, after, head_of, runnable, served, turn_checks, head_gone, turn_effect}
+use Rattle.rules.specs.Turn.{seat, passed_over, after, head_of, runnable, served, turn_checks, head_gone, turn_effect}
 use Rattle.rules.proofs.Answers.{first_with, answered_code, status_small}
 use Rattle.rules.proofs.Exported.{refused_owes, done_all}
 use Rattle.rules.proofs.Sent.{sent_live, sent_queue}
 use Rattle.rules.proofs.Tests.{empty_is}
-use Rattle.delivery.specs.Meet.{bare, is_free}
+use Rattle.delivery.specs.Meet.{is_free}
 use Rattle.delivery.specs.Run.{Bounded, Carried, request_by}
 use Rattle.delivery.proofs.CardLaws.{Stands}
 use Rattle.delivery.proofs.StandLaws.{stands}

@@ -18,7 +18,7 @@ use Rattle.tables.specs.Limits.{mr_count, qp_count, most_address, most_message}
 use Rattle.tables.specs.Card.{Card, Mr, Qp, Receive, fresh, with_cq}
 use Rattle.tables.specs.State.{pages_needed}
 use Rattle.tables.proofs.AckLaws.{need_least}
-use Rattle.tables.specs.Commands.{Command, command_of, ack_least, ack_fields, encode_ack, numbers_of, ack_need}
+use Rattle.tables.specs.Commands.{Command, command_of, ack_least, encode_ack, numbers_of, ack_need}
 use Rattle.tables.specs.Records.{send_checks}
 use Rattle.tables.specs.declared.Registration.{Registration}
 use Rattle.rules.specs.Lists.{All, is_some, is_empty, names, or_else, maybe}
@@ -47,7 +47,6 @@ use Rattle.judge.proofs.Keys
 use Rattle.judge.proofs.Keys.{Inside, Keys}
 use Rattle.judge.proofs.Pairs
 use Rattle.judge.proofs.Pairs.{Good, Pair, Said, said, said_by}
-use Rattle.wire.specs.Codec.{put_fields}
 
 -- the tables agree with what a log says. The parameters are functions, so that where a call changes none of them the old agreement is the new one.
 pub record Agreed (n t : ℕ) (mr : ℕ → Mr) (qp : ℕ → Qp) (st : ℕ → Option Standing) (en hd : ℕ → Bool) (D : Type 0) (sd : ℕ → Said) : Type 0 where

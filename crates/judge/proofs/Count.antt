@@ -9,12 +9,11 @@ use lib.Dec.{eqb, leb}
 use lib.ListN.{length, length-append}
 use borrow.Author.Tests.{eqb-true, ltb-false}
 use Rattle.wire.specs.Checks.{Passed}
-use Rattle.wire.proofs.ScanLaws.{and_left}
 use Rattle.wire.proofs.SlotLaws.{split, same}
 use Rattle.wire.specs.Slots.{upd}
 use Rattle.tables.specs.Card.{Card, Cq, Qp, Receive, free_cq, tail, with_cq, with_queue}
 use Rattle.tables.proofs.AckLaws.{need_least}
-use Rattle.tables.specs.Commands.{Command, command_of, ack_least, ack_fields, encode_ack, numbers_of, ack_need}
+use Rattle.tables.specs.Commands.{Command, command_of, ack_least, encode_ack, numbers_of, ack_need}
 use Rattle.validate.specs.Search.{free_cqn, free_qpn}
 use Rattle.tables.specs.declared.Completion.{Completion}
 use Rattle.rules.specs.Lists.{is_empty, when, maybe}
@@ -37,7 +36,6 @@ use Rattle.judge.proofs.Acks.{ack_back}
 use Rattle.judge.proofs.Pairs.{error_waiting}
 use Rattle.judge.proofs.Agree.{Going, sendable, turning, finds_receive}
 use Rattle.judge.proofs.Run.{of_owed, of_refused, fresh_card}
-use Rattle.wire.specs.Codec.{put_fields}
 
 -- ---- completions put
 

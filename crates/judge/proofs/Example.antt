@@ -4,7 +4,7 @@ use mathlib.Core.Path.{◌≡◌, refl}
 use mathlib.Core.Bool.{Bool, true, false, not}
 use mathlib.Core.List.{List, [], ◌∷◌, ◌++◌}
 use Prim.Native.Nat.{ℕ, ◌+◌, ◌*◌, ◌^◌}
-use lib.ListN.{replicate, take, drop, length}
+use lib.ListN.{replicate, take, drop}
 use Rattle.wire.specs.Codec.{fields_at, put_fields, encode}
 use Rattle.wire.specs.Le.{le_at, put_le}
 use Rattle.wire.specs.Rows.{rows, rows_from}

@@ -2,7 +2,7 @@
 -- turn that serves another. Assumes nothing.
 use mathlib.Core.Path.{◌≡◌, refl, sym, ap, ◌∙◌}
 use mathlib.Core.Logic.{◌≢◌}
-use mathlib.Core.Bool.{Bool, true, false, cond, ◌&&◌, ◌||◌, false≢true, true≢false}
+use mathlib.Core.Bool.{Bool, true, false, cond, ◌&&◌, ◌||◌, true≢false}
 use mathlib.Core.List.{List, [], ◌∷◌}
 use mathlib.Core.Option.{Option, none, some}
 use Prim.Native.Nat.{ℕ, zero, suc, ◌+◌, ◌-◌, ◌%◌, ◌≤◌, ◌<◌}
@@ -17,8 +17,6 @@ use Rattle.wire.proofs.ScanLaws.{lowest_least}
 use Rattle.tables.specs.Card.{Card, Receive, with_cq}
 use Rattle.tables.specs.Commands.{Command, command_of}
 use Rattle.tables.specs.Limits.{qp_count}
-use Rattle.rules.specs.declared.Answer.{Answer}
-use Rattle.rules.specs.declared.Answer.TheVariants.{Done, Held, Refused}
 use Rattle.rules.specs.Answer.{answered, is_done}
 use Rattle.rules.specs.Call.{Call, OnPair, given}
 use Rattle.rules.specs.Calls.{checks, memory_checks, effect, value_of, settled, owed, Result}
@@ -27,13 +25,13 @@ use Rattle.rules.specs.Lists.{All, is_some, maybe}
 use Rattle.rules.specs.Queues.{flushes_at_once, join_puts, joined, received, flushed, polled}
 use Rattle.rules.specs.Send.{put_all, send_effect}
 use Rattle.rules.specs.Touch.{receive_in}
-use Rattle.rules.specs.Turn.{seat, passed_over, served_by, after, runnable, served, turn_checks, enqueued, head_gone, turn_effect}
+use Rattle.rules.specs.Turn.{seat, passed_over, after, runnable, served, turn_checks, enqueued, head_gone, turn_effect}
 use Rattle.judge.specs.Log.{Log, begins}
-use Rattle.judge.specs.Demand3.{Seen, heard, Linked, AfterReset, state_after}
+use Rattle.judge.specs.Demand3.{Seen, Linked, AfterReset, state_after}
 use Rattle.judge.specs.Fair.{NoneTwice, before, is_among, FairTo, served_in, serves, more, servings, GoesOn, AtServing, Runnable, Fair}
 use Rattle.judge.specs.Whole.{Met}
 use Rattle.judge.proofs.Agree.{Agree}
-use Rattle.judge.proofs.Run.{of_owed, of_refused, still_agrees, agrees_after, begun}
+use Rattle.judge.proofs.Run.{of_owed, of_refused, agrees_after, begun}
 
 -- q is visited as number d from t on
 record Sits (t d q : ℕ) : Type 0 where

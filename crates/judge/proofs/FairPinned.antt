@@ -1,16 +1,15 @@
 -- Fairness on servings that are written down, 02, M-108: which calls are servings, and lists that fairness to queue pair 1 must not allow. Assumes nothing.
 use mathlib.Core.Path.{◌≡◌, refl}
-use mathlib.Core.Bool.{true, false, false≢true}
-use mathlib.Core.List.{List, [], ◌∷◌}
+use mathlib.Core.Bool.{false≢true}
+use mathlib.Core.List.{[], ◌∷◌}
 use Prim.Native.Nat.{ℕ}
 use native.Mathlib.Omega.{arith}
-use lib.ListN.{length, take}
 use Rattle.rules.specs.declared.Answer.{Answer}
 use Rattle.rules.specs.declared.Answer.TheVariants.{Done, Refused}
-use Rattle.rules.specs.Call.{Call, given}
+use Rattle.rules.specs.Call.{Call}
 use Rattle.rules.specs.Lists.{All}
 use Rattle.judge.specs.Demand3.{Seen}
-use Rattle.judge.specs.Fair.{before, is_among, NoneTwice, FairTo, serves, servings}
+use Rattle.judge.specs.Fair.{before, is_among, NoneTwice, FairTo, servings}
 
 -- ---- which calls are servings
 

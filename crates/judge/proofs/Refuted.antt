@@ -1,7 +1,7 @@
 -- Lists of calls that demand 3 must not allow: each is the calls of Example.antt, with the outcomes of the rules, and one call more, whose
 -- outcome is wrong. Assumes nothing.
-use mathlib.Core.Path.{◌≡◌, refl, sym, ap, ◌∙◌}
-use mathlib.Core.Bool.{Bool, true, false, true≢false, false≢true}
+use mathlib.Core.Path.{◌≡◌, refl, sym, ap}
+use mathlib.Core.Bool.{false, true≢false}
 use mathlib.Core.List.{List, [], ◌∷◌, ◌++◌, map}
 use mathlib.Core.Option.{none, some}
 use mathlib.Core.Logic.{◌≢◌}
@@ -17,9 +17,7 @@ use Rattle.wire.specs.Scan.{lowest, lowest_from, any_below, all}
 use Rattle.tables.specs.Card.{Card, fresh, receive_of}
 use Rattle.tables.specs.Commands.{command_of, data_size, number_codec, register_codec, create_qp_codec, modify_qp_codec, ack_need}
 use Rattle.tables.specs.Records.{send_codec, sge_codec, receive_codec, receive_sges, send_sge, inline_bytes, inline_length}
-use Rattle.rules.specs.declared.Answer.{Answer}
 use Rattle.rules.specs.declared.Answer.TheVariants.{Done}
-use Rattle.rules.specs.Lists.{stored}
 use Rattle.rules.specs.Touch.{receive_in, range, sge_bytes, sge_total, total, own_bytes, far_bytes, byte_in, byte_of}
 use Rattle.tables.specs.Records.{request_of}
 use Rattle.rules.specs.Control.{command_checks, command_ack, command_effect}

@@ -19,7 +19,7 @@ use Rattle.rules.specs.declared.Answer.{Answer}
 use Rattle.rules.specs.declared.Cause.{Cause}
 use Rattle.tables.specs.Records.{Request, request_of}
 use Rattle.tables.specs.Records.{receive_checks}
-use Rattle.rules.specs.Queues.{flushes_at_once, join_checks, join_status}
+use Rattle.rules.specs.Queues.{join_checks, join_status}
 use Rattle.rules.proofs.Tests.{passed_after}
 use Rattle.rules.specs.Turn.{served, head_of, head_gone, turn_effect}
 use Rattle.rules.specs.Send.{send_status, send_effect, send_memory}

@@ -1,32 +1,29 @@
 -- Runs of send queues and turns, 02, M-108, computed from the bytes of their calls: each call's answer, the memory after it, and the judge's verdict
 -- on the work request that it finds in the log. Assumes nothing.
 use mathlib.Core.Path.{◌≡◌, refl}
-use mathlib.Core.Bool.{Bool, true, false, not}
-use mathlib.Core.List.{List, [], ◌∷◌, ◌++◌}
-use Prim.Native.Nat.{ℕ, ◌+◌, ◌*◌, ◌^◌}
-use lib.ListN.{replicate, take, drop, length}
-use Rattle.wire.specs.Codec.{fields_at, put_fields, encode}
+use mathlib.Core.Bool.{true, false}
+use mathlib.Core.List.{[], ◌∷◌, ◌++◌}
+use Prim.Native.Nat.{ℕ}
+use lib.ListN.{drop}
+use Rattle.wire.specs.Codec.{fields_at, put_fields}
 use Rattle.wire.specs.Le.{le_at, put_le}
 use Rattle.wire.specs.Rows.{rows, rows_from}
 use Rattle.wire.specs.Scan.{lowest, lowest_from, any_below, all}
-use Rattle.tables.specs.Card.{Card, fresh, receive_of}
+use Rattle.tables.specs.Card.{fresh, receive_of}
 use Rattle.tables.specs.Commands.{command_of, data_size, number_codec, register_codec, create_qp_codec, modify_qp_codec, ack_need}
 use Rattle.tables.specs.Records.{send_codec, sge_codec, receive_codec, send_checks, receive_checks, receive_sges, send_sge, inline_bytes, inline_length, completion_codec}
-use Rattle.rules.specs.declared.Answer.{Answer}
-use Rattle.rules.specs.declared.Cause.TheVariants.{Peer, Place}
-use Rattle.rules.specs.declared.Answer.TheVariants.{Done, Held}
-use Rattle.rules.specs.Lists.{maybe, stored}
+use Rattle.rules.specs.declared.Answer.TheVariants.{Done}
+use Rattle.rules.specs.Lists.{stored}
 use Rattle.rules.specs.Touch.{receive_in, range, sge_bytes, sge_total, total, own_bytes, far_bytes, byte_in, byte_of, message, delivered}
 use Rattle.tables.specs.Records.{request_of}
 use Rattle.rules.specs.Permit.{permits, permits_all, place, lookup, covers}
 use Rattle.rules.specs.Control.{command_checks, command_ack, command_effect}
 use Rattle.rules.specs.Send.{pair_checks, ready_checks, place_checks, hold_checks, queue_checks, delivery_checks, run_status, send_status, send_puts, put_all, send_qps, send_effect, send_memory}
 use Rattle.rules.specs.Queues.{join_checks, join_status, join_puts, joined, received, flush_checks, flushed, poll_checks, polled}
-use Rattle.rules.specs.Call.{Call, given}
+use Rattle.rules.specs.Call.{Call}
 use Rattle.rules.specs.Calls.{value_of, memory_checks, checks, reset_checks, control_checks, buffer_checks, status_of, effect, memory_after, buffer_after, step}
-use Rattle.judge.specs.Log.{enqueued_on, turns_on, queued, Log, fed, ack_data, told}
-use Rattle.judge.specs.Demand3.{work_in, posted_on}
-use Rattle.judge.specs.Judge.{flushes_at_once, judge, near_passes, far_passes, near, far, passes, filled, waiting, standing, told_of_both, domain, peer, accepted, consumed, errored, rights}
+use Rattle.judge.specs.Log.{enqueued_on, turns_on, queued, fed, ack_data, told}
+use Rattle.judge.specs.Judge.{judge, near_passes, far_passes, near, far, passes, filled, waiting, standing, told_of_both, domain, peer, accepted, consumed, errored, rights}
 use Rattle.rules.specs.Turn.{passed_over, runnable, served, enqueue_checks, enqueued, turn_checks, head_gone, turn_effect}
 use Rattle.rules.specs.declared.Answer.TheVariants.{Refused}
 use Rattle.judge.proofs.Example.{mem, modified, record_of, posted, waited, setup, run}

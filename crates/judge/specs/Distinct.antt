@@ -1,5 +1,5 @@
 -- Document 02, M-109: "along demand 3's log no key is handed out twice". Assumes nothing.
-use Rattle.std.specs.Prelude.{◌≡◌, Bool, false, ◌||◌, List, [], ◌∷◌, ℕ, eqb}
+use Rattle.std.specs.Prelude.{◌≡◌, Bool, false, ◌||◌, [], ◌∷◌, ℕ, eqb}
 use Rattle.judge.specs.Log.{Log, Note, KeyNote}
 
 -- a registration of the log handed the key out

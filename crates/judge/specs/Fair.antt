@@ -6,7 +6,7 @@ use Rattle.tables.specs.Card.{Card}
 use Rattle.tables.specs.Limits.{qp_count}
 use Rattle.rules.specs.declared.Answer.{Answer}
 use Rattle.rules.specs.declared.Answer.TheVariants.{Done, Held, Refused}
-use Rattle.rules.specs.Call.{Call, OnPair, given}
+use Rattle.rules.specs.Call.{OnPair, given}
 use Rattle.rules.specs.Answer.{is_done}
 use Rattle.rules.specs.Lists.{All, is_some}
 use Rattle.rules.specs.Turn.{runnable}

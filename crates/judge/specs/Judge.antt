@@ -6,7 +6,7 @@ use Rattle.wire.specs.Scan.{all}
 use Rattle.tables.specs.Limits.{most_message}
 use Rattle.tables.specs.Card.{Receive, no_receive}
 use Rattle.tables.specs.declared.Registration.{Registration}
-use Rattle.rules.specs.Lists.{names, is_empty, when, stored}
+use Rattle.rules.specs.Lists.{names, is_empty, stored}
 use Rattle.rules.specs.Touch.{Byte, total, sge_total, own_bytes, far_bytes, byte_of}
 use Rattle.tables.specs.Records.{Request}
 use Rattle.judge.specs.Log.{Log, Note, KeyNote, PairNote, told}

@@ -1,16 +1,15 @@
 -- The cases of a flush. Assumes nothing.
 use mathlib.Core.Path.{◌≡◌, refl, sym, ap, ◌∙◌}
 use mathlib.Core.Bool.{true, false, cond, not}
-use mathlib.Core.List.{List, [], ◌∷◌}
+use mathlib.Core.List.{List, []}
 use mathlib.Core.Option.{none, some}
 use Prim.Native.Nat.{ℕ, ◌+◌, ◌*◌, ◌^◌, ◌<◌}
-use lib.ListN.{length}
 use lib.Dec.{eqb}
 use Rattle.wire.specs.Checks.{refusal}
 use Rattle.wire.specs.Codec.{Fit}
 use Rattle.wire.specs.Slots.{upd}
 use Rattle.wire.specs.Table.{row_at}
-use Rattle.tables.specs.Card.{Card, Receive, with_cq, with_qp, with_waiting, tail, receive_of}
+use Rattle.tables.specs.Card.{Card, Receive, with_qp, with_waiting, tail, receive_of}
 use Rattle.tables.specs.Layout.{waiting_t, receive_t}
 use Rattle.tables.specs.Limits.{most_waiting}
 use Rattle.tables.specs.Queue.{take_bytes}

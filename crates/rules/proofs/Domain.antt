@@ -4,7 +4,7 @@ use mathlib.Core.Logic.{◌⊎◌, inl, inr}
 use mathlib.Core.Bool.{Bool, true, false, cond, not, ◌&&◌, ◌||◌, true≢false, false≢true}
 use mathlib.Core.List.{List, [], ◌∷◌, ◌++◌, map}
 use mathlib.Core.Option.{Option, none, some, some-ne-none}
-use Prim.Native.Nat.{ℕ, ◌+◌, ◌-◌, ◌*◌, ◌/◌, ◌≤◌, ◌<◌}
+use Prim.Native.Nat.{ℕ, ◌+◌, ◌*◌, ◌/◌, ◌≤◌}
 use native.Mathlib.Omega.{arith}
 use lib.Dec.{eqb, ltb, leb}
 use lib.ListN.{length, get_or}
@@ -14,7 +14,7 @@ use Rattle.wire.specs.Scan.{all}
 use Rattle.wire.proofs.CheckLaws.{passed}
 use Rattle.wire.proofs.ScanLaws.{and_left, and_right, and_off, leb_same}
 use Rattle.validate.specs.Accept.{accepts}
-use Rattle.tables.specs.Card.{Card, Cq, Mr, Qp, Receive}
+use Rattle.tables.specs.Card.{Card, Cq, Mr, Qp}
 use Rattle.tables.specs.Limits.{qp_count, most_message}
 use Rattle.tables.specs.Records.{send_checks}
 use Rattle.tables.specs.State.{card}
@@ -23,15 +23,14 @@ use Rattle.rules.specs.declared.Party.{Party}
 use Rattle.rules.specs.declared.Answer.TheVariants.{Done}
 use Rattle.rules.specs.Answer.{code_of}
 use Rattle.rules.specs.Call.{Call}
-use Rattle.rules.specs.Calls.{checks, memory_checks, status_of, value_of, effect, memory_after, settled, owed, owed_checks}
-use Rattle.rules.specs.Contract.{Exports}
-use Rattle.rules.specs.Domain.{owns_pair, owns_region, pair_seen, region_seen, Covers, free_places, Agree, Same, OwnAlone}
+use Rattle.rules.specs.Calls.{checks, memory_checks, status_of, value_of, effect, memory_after, owed_checks}
+use Rattle.rules.specs.Domain.{owns_pair, owns_region, free_places, Agree, Same, OwnAlone}
 use Rattle.rules.specs.Lists.{is_empty, or_else, stored}
-use Rattle.rules.specs.Permit.{Use, granted, opens, covers, found, key_of, lookup, party_of, permits, permits_all, place, place_in}
-use Rattle.rules.specs.Send.{Put, put_all, peer_of, oldest, taken_by, ready, room, has_places, is_in_error, pair_checks, queue_checks, ready_checks, place_checks, hold_checks, delivery_checks, own_use, far_use, status_by, run_status, send_status, consumes, sender_put, receiver_put, send_puts, send_effect, send_memory}
-use Rattle.rules.specs.Touch.{Byte, takes, fills, reads, total, sge_total, own_bytes, far_bytes, byte_of, source_bytes, target_bytes, message, delivered}
+use Rattle.rules.specs.Permit.{Use, granted, opens, covers, found, key_of, lookup, party_of, permits, permits_all, place}
+use Rattle.rules.specs.Send.{Put, put_all, peer_of, oldest, taken_by, ready, room, has_places, is_in_error, pair_checks, queue_checks, ready_checks, place_checks, hold_checks, delivery_checks, own_use, far_use, status_by, run_status, send_status, send_puts, send_effect, send_memory}
+use Rattle.rules.specs.Touch.{Byte, takes, fills, reads, total, sge_total, own_bytes, far_bytes, target_bytes, message, delivered}
 use Rattle.tables.specs.Records.{Request, request_of}
-use Rattle.rules.proofs.Tests.{passed_after, first_of, refusal_append}
+use Rattle.rules.proofs.Tests.{passed_after, refusal_append}
 
 -- ---- what two views of one number show
 

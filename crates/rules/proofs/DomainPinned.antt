@@ -9,14 +9,14 @@ use lib.Dec.{eqb, ltb}
 use lib.ListN.{length}
 use Rattle.wire.specs.Checks.{refusal}
 use Rattle.wire.specs.Scan.{all}
-use Rattle.tables.specs.Card.{Card, Cq, Mr, Qp, free_mr, free_qp, fresh, with_cq, with_mr, with_qp, with_turn}
+use Rattle.tables.specs.Card.{Card, Mr, Qp, free_mr, free_qp, fresh, with_cq, with_mr, with_qp, with_turn}
 use Rattle.tables.specs.Records.{Request}
 use Rattle.tables.specs.declared.Completion.{Completion}
 use Rattle.tables.specs.declared.Sge.{Sge}
-use Rattle.rules.specs.Domain.{pair_seen, region_seen, free_places}
+use Rattle.rules.specs.Domain.{pair_seen, free_places}
 use Rattle.rules.specs.Lists.{stored}
 use Rattle.rules.specs.Permit.{permits, permits_all, place, lookup, covers}
-use Rattle.rules.specs.Send.{pair_checks, queue_checks, ready_checks, place_checks, hold_checks, delivery_checks, send_status, run_status, send_puts, send_memory}
+use Rattle.rules.specs.Send.{pair_checks, queue_checks, ready_checks, hold_checks, delivery_checks, send_status, run_status, send_puts, send_memory}
 use Rattle.rules.specs.Touch.{range, sge_bytes, sge_total, total, own_bytes, far_bytes, byte_in, byte_of, message, delivered}
 
 -- ---- the cards

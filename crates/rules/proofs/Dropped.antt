@@ -3,7 +3,7 @@ use mathlib.Core.Path.{◌≡◌, refl, sym, ap, ◌∙◌}
 use mathlib.Core.Bool.{Bool, true, false, not, ◌&&◌, true≢false}
 use mathlib.Core.List.{List, [], ◌∷◌}
 use mathlib.Core.Option.{Option, none, some}
-use Prim.Native.Nat.{ℕ, zero, suc, ◌+◌, ◌*◌, ◌/◌, ◌%◌, ◌≤◌, ◌<◌}
+use Prim.Native.Nat.{ℕ, zero, suc, ◌/◌, ◌%◌, ◌≤◌, ◌<◌}
 use native.Mathlib.Omega.{arith}
 use lib.Dec.{eqb, leb}
 use lib.ListN.{length, get_or}
@@ -31,7 +31,7 @@ use Rattle.rules.specs.Send.{delivery_checks, queue_checks, ready, peer_of, take
 use Rattle.rules.proofs.Answers.{answered_not_done}
 use Rattle.rules.proofs.Tests.{passed_after}
 use Rattle.rules.proofs.Variants.{slot_free, new_small, slot}
-use Rattle.rules.specs.Dropped.{Fails, Denied, LostBy, Lost, Reaches, far_key, StaleFails, DroppedRegion, HeldStays, KeysDropped, HandedOut, Spent, DropSpends, OldKeysGone, DropRetires, StaysRetired, LargestKey, OldKeyStale, NewKeyStands}
+use Rattle.rules.specs.Dropped.{Fails, Denied, LostBy, Lost, Reaches, far_key, StaleFails, DroppedRegion, HeldStays, KeysDropped, Spent, DropSpends, OldKeysGone, DropRetires, StaysRetired, LargestKey, OldKeyStale, NewKeyStands}
 
 and_false : (b : Bool) → (b && false) ≡ false
 and_false true = refl

@@ -3,7 +3,7 @@
 use mathlib.Core.Path.{◌≡◌, refl}
 use mathlib.Core.Bool.{Bool, true, false}
 use mathlib.Core.List.{List, [], ◌∷◌, map}
-use mathlib.Core.Option.{Option, none, some}
+use mathlib.Core.Option.{none, some}
 use Prim.Native.Nat.{ℕ}
 use Rattle.wire.specs.Checks.{refusal}
 use Rattle.wire.specs.Scan.{lowest, lowest_from, any_below, all}
@@ -13,11 +13,10 @@ use Rattle.tables.specs.Card.{Card, fresh, with_qp, with_waiting}
 use Rattle.tables.specs.Commands.{Command}
 use Rattle.tables.specs.declared.Sge.{Sge}
 use Rattle.rules.specs.Touch.{range, sge_bytes, sge_total, total, own_bytes, far_bytes}
-use Rattle.tables.specs.Records.{Request}
-use Rattle.rules.specs.Permit.{Use, opens, permits_all, permits, lookup, covers}
+use Rattle.rules.specs.Permit.{opens, permits_all, permits, lookup, covers}
 use Rattle.rules.specs.Control.{command_checks, command_effect}
 use Rattle.rules.specs.Send.{run_status, send_status}
-use Rattle.rules.specs.Marks.{platform, after, obeyed, flagged, region, uses}
+use Rattle.rules.specs.Marks.{after, obeyed, flagged, region, uses}
 
 -- the flags 0 to 7 that open each use: "local uses only at the region"
 pub opened : map (λ u. map (opens u) (0 ∷ 1 ∷ 2 ∷ 3 ∷ 4 ∷ 5 ∷ 6 ∷ 7 ∷ [])) uses

@@ -1,12 +1,11 @@
 -- P1 to P11 hold. Assumes nothing.
 use mathlib.Core.Path.{◌≡◌, refl, sym, ap, ap₂, fun_ext, ◌∙◌}
-use mathlib.Core.Bool.{true, false, cond, not}
+use mathlib.Core.Bool.{true, false, cond}
 use mathlib.Core.List.{List, [], ◌∷◌, ◌++◌}
 use mathlib.Core.Option.{none, some}
 use Prim.Native.Nat.{ℕ, zero, suc, ◌+◌, ◌-◌, ◌≤◌, ◌<◌}
 use native.Mathlib.Decide.{dec_le}
 use native.Mathlib.Omega.{arith}
-use lib.ListN.{drop}
 use lib.Dec.{eqb, ltb}
 use borrow.Author.Tests.{lt-leb, lt-ltb, le-ltb, eqb-false, ne_eqb}
 use Rattle.wire.specs.Checks.{refusal}
@@ -23,7 +22,7 @@ use Rattle.rules.specs.Lists.{All}
 use Rattle.rules.specs.Touch.{range, byte_in, byte_of}
 use Rattle.rules.specs.Permit.{key_of, permits, permits_all, place, lookup, covers}
 use Rattle.rules.specs.Control.{command_checks, command_ack, command_effect}
-use Rattle.rules.specs.Marks.{obeyed, after, region, platform, renewed, registrations, rounds, nearly_used, keys_of, next, Verdict, ask, Question, table, Marks}
+use Rattle.rules.specs.Marks.{obeyed, after, region, platform, renewed, registrations, rounds, nearly_used, next, Verdict, ask, Question, table, Marks}
 
 -- ---- P9: cards that differ from the platform in their regions alone
 

@@ -4,7 +4,7 @@ use mathlib.Core.Path.{◌≡◌, refl}
 use mathlib.Core.List.{List, [], ◌∷◌, ◌++◌}
 use mathlib.Core.Option.{some, none}
 use Prim.Native.Nat.{ℕ, ◌+◌, ◌*◌, ◌^◌}
-use lib.ListN.{replicate, length}
+use lib.ListN.{replicate}
 use Rattle.wire.specs.Codec.{Codec, decode, encode, fields_at, put_fields}
 use Rattle.wire.specs.Le.{le_at, put_le}
 use Rattle.wire.specs.Rows.{rows, rows_from}

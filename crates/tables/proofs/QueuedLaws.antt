@@ -3,7 +3,7 @@ use mathlib.Core.Path.{◌≡◌, refl, sym, ap, ◌∙◌}
 use mathlib.Core.Bool.{Bool, true, false, cond, not, ◌&&◌, ◌||◌}
 use mathlib.Core.List.{List, [], ◌∷◌, ◌++◌, map, map-append}
 use mathlib.Core.Option.{Option, none, some}
-use Prim.Native.Nat.{ℕ, ◌+◌, ◌*◌, ◌-◌, ◌%◌, ◌<◌, ◌≤◌}
+use Prim.Native.Nat.{ℕ, ◌+◌, ◌*◌, ◌%◌, ◌<◌, ◌≤◌}
 use native.Mathlib.Nat.{mod-lt}
 use native.Mathlib.Omega.{arith}
 use lib.Dec.{eqb, ltb}
@@ -13,7 +13,7 @@ use borrow.Author.Tests.{eq-eqb, eqb-true, le-leb, le-ltb, ltb-false, not-false}
 use Rattle.wire.specs.Checks.{refusal, only}
 use Rattle.wire.specs.Codec.{Fit, Fits, decode, fields_at}
 use Rattle.wire.specs.Parts.{part_at}
-use Rattle.wire.specs.Ring.{ring_place, ring_list}
+use Rattle.wire.specs.Ring.{ring_place}
 use Rattle.wire.specs.Rows.{rows}
 use Rattle.wire.specs.Slots.{upd}
 use Rattle.wire.specs.Table.{row_at}
@@ -27,11 +27,10 @@ use Rattle.tables.specs.Card.{with_qp, with_queue, tail}
 use Rattle.tables.specs.Layout.{state_size, qp_flag_t, send_head_t, record_p, waiting_codec, kind_codec}
 use Rattle.tables.specs.Limits.{qp_count, most_queued, most_sges, most_inline, record_size}
 use Rattle.tables.specs.Queue.{grown, shrunk_sends, place_bytes, queue_bytes, unqueue_bytes, oldest_send}
-use Rattle.tables.specs.Records.{Request, QueuedSend, sge_codec, sge_at, no_sge, send_codec, send_size, send_bad, flag_bits, send_checks, send_sge, is_signaled, is_inline, inline_length, kind_of, sent_in, request_in, request_of, request_with, with_kind}
+use Rattle.tables.specs.Records.{Request, QueuedSend, sge_codec, no_sge, send_codec, send_size, send_bad, flag_bits, send_checks, send_sge, is_signaled, is_inline, inline_length, kind_of, sent_in, request_in, request_of, request_with, with_kind}
 use Rattle.tables.specs.State.{PairRows, card, pair_at, queued_at, queued_in, no_queued, qp_of}
 use Rattle.tables.specs.declared.SendKind.{SendKind}
 use Rattle.tables.specs.declared.SendRecord.{SendRecord}
-use Rattle.tables.specs.declared.Sge.{Sge}
 use Rattle.tables.specs.declared.WaitingHead.{WaitingHead}
 use Rattle.tables.proofs.KindLaws.{PairsOnly, only_then, pair_card}
 use Rattle.tables.proofs.ObjectLaws.{qp_row, queued_at_lem}

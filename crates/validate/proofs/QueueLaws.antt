@@ -1,5 +1,5 @@
 -- What one completion more and one fewer in a completion queue mean: the card, and that the state stays accepted. Assumes nothing.
-use Rattle.std.proofs.Common.{◌≡◌, ℕ, ◌+◌, ◌-◌, ◌*◌, ◌<◌, ◌≤◌, true, ◌&&◌, List, [], ◌∷◌, ◌++◌, length, get_or, set, sym, ap, ◌∙◌, inl, mod-lt, arith, eq-eqb}
+use Rattle.std.proofs.Common.{◌≡◌, ℕ, ◌+◌, ◌*◌, ◌<◌, ◌≤◌, true, ◌&&◌, List, [], ◌∷◌, ◌++◌, length, get_or, set, sym, ap, ◌∙◌, inl, mod-lt, arith, eq-eqb}
 use Rattle.wire.specs.Codec.{Fit, Fits}
 use Rattle.wire.specs.Ring.{ring_place}
 use Rattle.wire.specs.Scan.{all}

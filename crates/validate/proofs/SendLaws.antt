@@ -1,5 +1,5 @@
 -- What one queued send more and one fewer on a queue pair mean: the card, and that the state stays accepted. Assumes nothing.
-use Rattle.std.proofs.Common.{◌≡◌, ℕ, ◌+◌, ◌-◌, ◌*◌, ◌<◌, ◌≤◌, true, not, List, [], ◌∷◌, ◌++◌, set, sym, ap, ◌∙◌, mod-lt, arith}
+use Rattle.std.proofs.Common.{◌≡◌, ℕ, ◌+◌, ◌<◌, ◌≤◌, true, not, List, [], ◌∷◌, ◌++◌, set, sym, ap, ◌∙◌, mod-lt, arith}
 use mathlib.Core.Option.{none}
 use Rattle.wire.specs.Checks.{refusal}
 use Rattle.wire.specs.Codec.{decode}
@@ -13,12 +13,12 @@ use Rattle.tables.specs.Layout.{qp_flag_t, qp_t, send_head_t}
 use Rattle.tables.specs.Limits.{qp_count, most_queued}
 use Rattle.tables.specs.Queue.{grown, shrunk_sends, queue_bytes, unqueue_bytes, oldest_send}
 use Rattle.tables.specs.Records.{QueuedSend, send_codec, send_checks, request_of, request_in}
-use Rattle.tables.specs.State.{PairRows, card, pair_at, queued_at, queued_in, no_queued}
+use Rattle.tables.specs.State.{card, pair_at, queued_at, queued_in, no_queued}
 use Rattle.tables.specs.declared.WaitingHead.{WaitingHead}
 use Rattle.tables.proofs.ObjectLaws.{queued_at_lem}
 use Rattle.tables.proofs.QueuedLaws as queued
 use Rattle.validate.specs.Accept.{may_queue, queued_ok, sends_ok, qp_sound}
-use Rattle.validate.proofs.AcceptedLaws.{Accepted, Paired, pairing, Sending, sending, sends_some, sends_sound}
+use Rattle.validate.proofs.AcceptedLaws.{Accepted, pairing, Sending, sending, sends_some, sends_sound}
 use Rattle.validate.proofs.KeptLaws.{pair_accepted}
 use Rattle.validate.proofs.WaitingLaws.{pair_sound}
 

@@ -1,5 +1,5 @@
 -- What one receive more and one fewer waiting on a queue pair mean: the card, and that the state stays accepted. Assumes nothing.
-use Rattle.std.proofs.Common.{◌≡◌, ℕ, ◌+◌, ◌-◌, ◌*◌, ◌<◌, ◌≤◌, true, List, [], ◌∷◌, ◌++◌, map, length, get_or, set, ap, ◌∙◌, mod-lt, arith, eq-eqb}
+use Rattle.std.proofs.Common.{◌≡◌, ℕ, ◌+◌, ◌*◌, ◌<◌, ◌≤◌, true, List, [], ◌∷◌, ◌++◌, map, length, get_or, set, ap, ◌∙◌, mod-lt, arith, eq-eqb}
 use mathlib.Core.List.{map-append}
 use Rattle.wire.specs.Codec.{Fit, Fits}
 use Rattle.wire.specs.Ring.{ring_place}

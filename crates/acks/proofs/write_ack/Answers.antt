@@ -1,10 +1,7 @@
 use lib.ListN.{length}
 use Prim.Native.Nat.{◌≤◌}
 use mathlib.Core.Path.{sym, ap, ◌∙◌}
-use mathlib.Core.List.{List}
-use Prim.Native.Nat.{ℕ}
 use Rattle.wire.specs.Codec.{put_fields}
-use Rattle.wire.specs.Le.{put_le}
 use Rattle.tables.specs.Commands.{encode_ack}
 use Rattle.tables.specs.declared.Ack.{Ack}
 use borrow.Author.Rules.{rules}

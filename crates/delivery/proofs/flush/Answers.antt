@@ -1,5 +1,4 @@
 use mathlib.Core.Path.{sym, ◌∙◌}
-use borrow.Author.Tests.{not-true, not-false}
 use Rattle.delivery.proofs.MeetLaws.{sender_queue, error_passes}
 use Rattle.delivery.proofs.EndLaws.{flush_held, flush_needs, flush_done}
 use borrow.Author.Rules.{rules}

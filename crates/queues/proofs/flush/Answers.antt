@@ -1,5 +1,4 @@
 use mathlib.Core.Path.{sym, ◌∙◌}
-use borrow.Author.Tests.{not-true, not-false}
 use Rattle.validate.proofs.AcceptedLaws.{accepted}
 use Rattle.queues.proofs.FlushLaws.{flush_15, flush_dead}
 use Rattle.queues.proofs.flush.Goals as goal

@@ -1,5 +1,4 @@
 use mathlib.Core.Path.{sym, ◌∙◌}
-use borrow.Author.Tests.{not-true, not-false}
 use Rattle.queues.proofs.FlushLaws.{flush_state, flush_none, flush_held, flush_done}
 use Rattle.queues.proofs.flush_live.Goals as goal
 

@@ -1,5 +1,4 @@
 use mathlib.Core.Path.{sym, ◌∙◌}
-use borrow.Author.Tests.{not-true, not-false}
 use Rattle.queues.proofs.ReceiveLaws.{receive_held, receive_flushed}
 use Rattle.queues.proofs.flush_new.Goals as goal
 

@@ -1,5 +1,4 @@
 use mathlib.Core.Path.{sym, ◌∙◌}
-use borrow.Author.Tests.{not-true, not-false}
 use Rattle.validate.proofs.AcceptedLaws.{accepted}
 use Rattle.queues.proofs.PollLaws.{poll_15, poll_short, poll_dead}
 use Rattle.queues.proofs.poll.Goals as goal

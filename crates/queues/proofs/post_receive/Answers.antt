@@ -1,5 +1,4 @@
 use mathlib.Core.Path.{sym, ◌∙◌}
-use borrow.Author.Tests.{not-true, not-false}
 use Rattle.queues.proofs.ReceiveLaws.{receive_15, receive_bad}
 use Rattle.queues.proofs.post_receive.Goals as goal
 

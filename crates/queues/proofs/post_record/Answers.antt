@@ -1,5 +1,4 @@
 use mathlib.Core.Path.{sym, ◌∙◌}
-use borrow.Author.Tests.{not-true, not-false}
 use Rattle.validate.proofs.AcceptedLaws.{accepted}
 use Rattle.queues.proofs.ReceiveLaws.{receive_dead}
 use Rattle.queues.proofs.post_record.Goals as goal

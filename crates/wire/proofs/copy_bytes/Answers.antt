@@ -1,6 +1,5 @@
 use mathlib.Core.Path.{◌≡◌, refl, ◌∙◌}
 use native.Mathlib.Omega.{arith}
-use Prim.Native.Nat.{◌-◌, ◌≤◌}
 use lib.ListN.{drop, length-set}
 use lib.Seq.{paste-zero}
 use Rattle.wire.proofs.CopyLaws.{copy_more}

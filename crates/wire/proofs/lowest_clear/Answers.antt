@@ -1,7 +1,7 @@
 use borrow.Author.Rules.{rules}
 use mathlib.Core.Path.{◌≡◌, sym, ap, ◌∙◌}
 use native.Mathlib.Omega.{arith}
-use Prim.Native.Nat.{ℕ, ◌≤◌, ◌-◌, ◌+◌, ◌*◌}
+use Prim.Native.Nat.{ℕ, ◌≤◌, ◌+◌, ◌*◌}
 use Rattle.wire.proofs.FlagLaws.{flags_most, all_set, some_clear, word_found, word_past}
 use Rattle.wire.proofs.ScanLaws.{lowest_start, lowest_none}
 use Rattle.wire.proofs.lowest_clear.Goals as goal

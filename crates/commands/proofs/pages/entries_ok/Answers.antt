@@ -1,7 +1,5 @@
 use borrow.Author.Rules.{rules}
-use Prim.Native.Nat.{◌≤◌, ◌-◌}
-use mathlib.Core.Path.{◌≡◌, refl, sym, ◌∙◌}
-use borrow.Author.Tests.{not-true, not-false}
+use mathlib.Core.Path.{refl, sym, ◌∙◌}
 use Rattle.rules.specs.Pages.{entry_ok}
 use Rattle.commands.proofs.PagesLaws.{left_fails, left_passes, left_done}
 use Rattle.commands.proofs.pages.entries_ok.Goals as goal

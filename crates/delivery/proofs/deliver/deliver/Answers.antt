@@ -1,6 +1,5 @@
 use native.Mathlib.Omega.{arith}
 use mathlib.Core.Path.{sym, ◌∙◌}
-use borrow.Author.Tests.{not-true, not-false}
 use Rattle.tables.specs.State.{card}
 use Rattle.delivery.specs.Deliver.{OwnSide}
 use Rattle.delivery.proofs.StatusLaws.{too_long, own_judged, own_refused}

@@ -1,5 +1,4 @@
 use mathlib.Core.Path.{sym, ◌∙◌}
-use borrow.Author.Tests.{not-true, not-false}
 use Rattle.delivery.proofs.StatusLaws.{count_most, far_entries, far_judged, too_much, far_refused, all_moved, carries}
 use Rattle.delivery.proofs.deliver.deliver_far.Goals as goal
 

@@ -3,7 +3,6 @@ use mathlib.Core.Path.{◌≡◌, refl, sym, ◌∙◌}
 use mathlib.Core.Bool.{true, not, ◌||◌}
 use mathlib.Core.List.{[], ◌∷◌}
 use lib.Dec.{leb}
-use borrow.Author.Tests.{not-true, not-false}
 use Rattle.tables.specs.Records.{receive_sges}
 use Rattle.tables.specs.State.{card, no_record}
 use Rattle.rules.specs.Touch.{fills, sge_bytes, sge_total}

@@ -1,7 +1,6 @@
 use mathlib.Core.Path.{◌≡◌, sym, ◌∙◌}
 use mathlib.Core.Bool.{true, false}
 use Rattle.rules.specs.Touch.{fills}
-use borrow.Author.Tests.{not-true, not-false}
 use Rattle.delivery.proofs.deliver.fits_receive.Goals as goal
 
 pub returns-then-not-fills_receive : goal.returns-then-not-fills_receive

@@ -26,12 +26,15 @@ transfer-requires c =
     let a = b.args in
     let k = b.requires.carries in
     let e : is_inline a.s ≡ false = sym c.is_inline.ensures ∙ c.if-is_inline.false
-    in record { ready = b.requires.ready.0; nf_bound = (
+    in record {
+      ready = b.requires.ready.0;
+      nf_bound = (
         b.requires.ready.1,
         b.requires.ready.2 e,
         back (card a.state.now) a.s a.inline.now (take a.s.count a.sges)
             (take a.count a.far) k e,
-      ) }
+      );
+    }
 
 pub returns-then-s-eq-READ : goal.returns-then-s-eq-READ
 returns-then-s-eq-READ c =
@@ -48,12 +51,15 @@ transfer-requires-2 c =
     let a = b.args in
     let k = b.requires.carries in
     let e : is_inline a.s ≡ false = sym c.is_inline.ensures ∙ c.if-is_inline.false
-    in record { ready = b.requires.ready.0; nf_bound = (
+    in record {
+      ready = b.requires.ready.0;
+      nf_bound = (
         b.requires.ready.2 e,
         b.requires.ready.1,
         there (card a.state.now) a.s a.inline.now (take a.s.count a.sges)
             (take a.count a.far) k e,
-      ) }
+      );
+    }
 
 pub returns : goal.returns
 returns c =

@@ -2,7 +2,6 @@ use mathlib.Core.Path.{◌≡◌, sym, ap, ◌∙◌}
 use mathlib.Core.Bool.{true, false}
 use Prim.Native.Nat.{◌+◌}
 use lib.Dec.{eqb, leb}
-use borrow.Author.Tests.{not-true, not-false}
 use Rattle.wire.specs.Table.{row_at}
 use Rattle.tables.specs.Layout.{cq_t}
 use Rattle.tables.specs.declared.QueueHead.{QueueHead}

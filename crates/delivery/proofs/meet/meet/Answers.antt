@@ -1,5 +1,4 @@
 use mathlib.Core.Path.{sym, ◌∙◌}
-use borrow.Author.Tests.{not-true, not-false}
 use Rattle.delivery.proofs.MeetLaws.{no_peer, peer_silent, queues_below, peer_met}
 use Rattle.delivery.proofs.meet.meet.Goals as goal
 

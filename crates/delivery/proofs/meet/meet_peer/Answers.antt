@@ -1,5 +1,4 @@
 use Rattle.delivery.proofs.MeetLaws.{none_waits, no_place_lem, ends_meet}
-use borrow.Author.Tests.{not-true, not-false}
 use Rattle.delivery.proofs.meet.meet_peer.Goals as goal
 
 pub returns-then-takes_receive-h : goal.returns-then-takes_receive-h

@@ -1,6 +1,5 @@
 use mathlib.Core.Path.{sym, ap, ◌∙◌}
 use Rattle.delivery.specs.Meet.{is_pairs}
-use borrow.Author.Tests.{not-true, not-false}
 use Rattle.delivery.proofs.MeetLaws.{no_peer, peer_silent, queues_below, peer_met, free_is}
 use Rattle.delivery.proofs.meet.peer_free.Goals as goal
 

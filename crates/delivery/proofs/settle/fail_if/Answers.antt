@@ -1,6 +1,5 @@
 use mathlib.Core.Path.{◌≡◌}
 use mathlib.Core.Bool.{true, false}
-use borrow.Author.Tests.{not-true, not-false}
 use Rattle.delivery.proofs.settle.fail_if.Goals as goal
 
 pub returns-then-not-b : goal.returns-then-not-b

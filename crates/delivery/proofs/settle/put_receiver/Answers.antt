@@ -1,6 +1,5 @@
 use mathlib.Core.Path.{sym, ◌∙◌}
 use Rattle.delivery.proofs.SettleLaws.{not_consumed, consumed}
-use borrow.Author.Tests.{not-true, not-false}
 use Rattle.delivery.proofs.settle.put_receiver.Goals as goal
 
 pub returns-then-not-is_consumed : goal.returns-then-not-is_consumed

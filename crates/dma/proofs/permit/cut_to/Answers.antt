@@ -1,8 +1,7 @@
 use mathlib.Core.Path.{◌≡◌}
 use native.Mathlib.Omega.{arith}
-use mathlib.Core.List.{◌++◌}
 use lib.ListN.{length, get_or, take, drop, length-set}
-use Prim.Native.Nat.{◌+◌, ◌-◌, ◌≤◌, min}
+use Prim.Native.Nat.{◌+◌, ◌-◌, min}
 use Rattle.tables.specs.Records.{no_sge}
 use Rattle.dma.proofs.SgeLaws.{left_cons, cut_more, cut_done}
 use Rattle.rules.specs.Touch.{cut}

@@ -1,5 +1,4 @@
 use mathlib.Core.Path.{sym, ◌∙◌}
-use Prim.Native.Nat.{◌-◌}
 use Rattle.tables.specs.State.{card}
 use Rattle.dma.specs.Grants.{allows}
 use Rattle.dma.proofs.RangeLaws.{empty_range, range_none, range_found}

@@ -1,8 +1,6 @@
 use mathlib.Core.Path.{◌≡◌, sym, ◌∙◌}
 use native.Mathlib.Omega.{arith}
 use lib.ListN.{length}
-use Prim.Native.Nat.{◌-◌, ◌≤◌}
-use borrow.Author.Tests.{not-true, not-false}
 use Rattle.tables.specs.State.{card}
 use Rattle.dma.specs.Grants.{allows}
 use Rattle.dma.proofs.SgeLaws.{left_tests, none_tests}

@@ -1,4 +1,4 @@
-use mathlib.Core.Path.{◌≡◌, ◌∙◌}
+use mathlib.Core.Path.{◌≡◌}
 use lib.ListN.{take, drop}
 use Prim.Native.Nat.{◌-◌, ◌≤◌}
 use Rattle.tables.specs.State.{card}

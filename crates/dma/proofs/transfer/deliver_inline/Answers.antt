@@ -2,7 +2,7 @@ use mathlib.Core.Path.{ap, ◌∙◌}
 use native.Mathlib.Omega.{arith}
 use mathlib.Core.List.{List}
 use lib.ListN.{length, drop}
-use Prim.Native.Nat.{ℕ, ◌-◌}
+use Prim.Native.Nat.{ℕ}
 use lib.Seq.{paste}
 use Rattle.dma.proofs.MoveLaws.{through}
 use Rattle.dma.proofs.transfer.deliver_inline.Goals as goal

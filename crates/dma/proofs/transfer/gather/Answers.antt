@@ -1,9 +1,8 @@
 use mathlib.Core.Path.{◌≡◌, refl, ◌∙◌}
 use native.Mathlib.Omega.{arith}
 use lib.ListN.{length, get_or, take, drop}
-use Prim.Native.Nat.{◌+◌, ◌-◌}
+use Prim.Native.Nat.{◌+◌}
 use Rattle.tables.specs.State.{card}
-use mathlib.Core.List.{◌++◌}
 use Rattle.tables.specs.Records.{no_sge}
 use Rattle.dma.proofs.MoveLaws.{Turn, turn, gathered, gather_more}
 use Rattle.dma.proofs.transfer.gather.Goals as goal

@@ -1,10 +1,10 @@
-use mathlib.Core.Path.{◌≡◌, ◌∙◌}
+use mathlib.Core.Path.{◌≡◌}
 use lib.ListN.{length, take, drop}
-use Prim.Native.Nat.{◌+◌, ◌-◌}
+use Prim.Native.Nat.{◌-◌}
 use Rattle.tables.specs.State.{card}
 use mathlib.Core.List.{◌++◌}
 use Rattle.dma.specs.Moves.{places, read_bytes}
-use Rattle.dma.proofs.MoveLaws.{Left, turn}
+use Rattle.dma.proofs.MoveLaws.{Left}
 use Rattle.dma.proofs.transfer.gather.Given as goal
 
 abbrev pub invariant-loop-i : goal.invariant-loop-i

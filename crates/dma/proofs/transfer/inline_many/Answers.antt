@@ -1,6 +1,5 @@
 use native.Mathlib.Omega.{arith}
 use lib.ListN.{take}
-use Prim.Native.Nat.{◌-◌}
 use Rattle.tables.specs.State.{card}
 use Rattle.dma.proofs.MoveLaws.{inlined}
 use Rattle.dma.proofs.transfer.inline_many.Goals as goal

@@ -1,7 +1,7 @@
 use mathlib.Core.Path.{◌≡◌, refl, ◌∙◌}
 use native.Mathlib.Omega.{arith}
 use lib.ListN.{length, get_or, take, drop}
-use Prim.Native.Nat.{◌+◌, ◌-◌}
+use Prim.Native.Nat.{◌+◌}
 use Rattle.tables.specs.State.{card}
 use Rattle.tables.specs.Records.{no_sge}
 use Rattle.dma.proofs.MoveLaws.{Turn, turn, scattered, scatter_more}
@@ -17,7 +17,7 @@ copy_in-requires c =
     let four : length s.args.sges ≡ 4 = s.well_formed.1.1.0.1.0.1 in
     turn (card s.args.state.now) s.args.sges s.args.count l.i l.at l.invariant.0 (omega arith) (omega arith) in
     let s = c in
-    let w = step in 
+    let w = step in
     record {
       ready = record { accepted = s.requires.ready.accepted; size = s.requires.ready.size; whole = c.loop-i.invariant.1 ∙ s.requires.ready.whole };
       s_value = (w.maps, omega (arith, w.fits), omega (arith, w.fits));

@@ -1,10 +1,10 @@
-use mathlib.Core.Path.{◌≡◌, ◌∙◌}
+use mathlib.Core.Path.{◌≡◌}
 use lib.ListN.{length, take, drop}
-use Prim.Native.Nat.{◌+◌, ◌-◌}
+use Prim.Native.Nat.{◌-◌}
 use Rattle.tables.specs.State.{card}
 use Rattle.rules.specs.Lists.{stored}
 use Rattle.dma.specs.Moves.{places}
-use Rattle.dma.proofs.MoveLaws.{Left, turn}
+use Rattle.dma.proofs.MoveLaws.{Left}
 use Rattle.dma.proofs.transfer.scatter.Given as goal
 
 abbrev pub invariant-loop-i : goal.invariant-loop-i

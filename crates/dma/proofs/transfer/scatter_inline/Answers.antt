@@ -2,7 +2,6 @@ use mathlib.Core.Path.{◌≡◌}
 use mathlib.Core.List.{[], ◌∷◌}
 use native.Mathlib.Omega.{arith}
 use lib.ListN.{length, get_or}
-use Prim.Native.Nat.{◌-◌}
 use Rattle.tables.specs.Records.{no_sge}
 use Rattle.rules.specs.Touch.{sge_total}
 use Rattle.dma.proofs.SgeLaws.{alone, one_total}

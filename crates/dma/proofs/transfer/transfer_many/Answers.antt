@@ -1,6 +1,5 @@
 use native.Mathlib.Omega.{arith}
 use lib.ListN.{take}
-use Prim.Native.Nat.{◌-◌}
 use Rattle.tables.specs.State.{card}
 use Rattle.dma.proofs.MoveLaws.{transferred}
 use Rattle.dma.proofs.transfer.transfer_many.Goals as goal

@@ -23,11 +23,14 @@ transfer_one-requires c =
     let first = c in
     let second = c in
     let f = eqb first.run_of.result s.args.from.length in
-    let g = eqb second.run_of-2.result s.args.to.length in record { ready = s.requires.ready; message = (
+    let g = eqb second.run_of-2.result s.args.to.length in record {
+      ready = s.requires.ready;
+      message = (
         s.requires.message,
         whole_lies _ _ _ _ first.run_of.ensures (eqb-true _ _ (and_left f g t)),
         whole_lies _ _ _ _ second.run_of-2.ensures (eqb-true _ _ (and_right f g t)),
-      ) }
+      );
+    }
 
 pub transfer_many-requires : goal.transfer_many-requires
 transfer_many-requires c =

@@ -1,5 +1,4 @@
 use mathlib.Core.Path.{sym, ◌∙◌}
-use borrow.Author.Tests.{not-true, not-false}
 use Rattle.tables.specs.Records.{Request}
 use Rattle.delivery.specs.Meet.{Sender}
 use Rattle.delivery.specs.Run.{request_by}

@@ -2,7 +2,7 @@
 use mathlib.Core.Path.{◌≡◌, sym, ap, ◌∙◌}
 use mathlib.Core.Logic.{◌≢◌}
 use mathlib.Core.Bool.{true}
-use borrow.Author.Tests.{eqb-true, not-true, not-false}
+use borrow.Author.Tests.{eqb-true}
 use Rattle.wire.specs.Table.{row_at}
 use Rattle.tables.specs.Layout.{qp_flag_t, send_head_t}
 use Rattle.tables.specs.State.{is_live}

@@ -1,5 +1,5 @@
-use mathlib.Core.Path.{◌≡◌, ◌∙◌}
-use Prim.Native.Nat.{ℕ, ◌+◌, ◌-◌, ◌≤◌}
+use mathlib.Core.Path.{◌≡◌}
+use Prim.Native.Nat.{◌-◌, ◌≤◌}
 use Rattle.wire.specs.Scan.{lowest_from}
 use Rattle.tables.specs.State.{card}
 use Rattle.rules.specs.Turn.{seat, passed_over, runnable}

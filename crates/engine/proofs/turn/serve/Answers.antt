@@ -1,5 +1,5 @@
 -- After the head ran it still stands at the head of its queue (TurnLaws.waits-then), and leaves it.
-use mathlib.Core.Path.{◌≡◌, ap, ◌∙◌}
+use mathlib.Core.Path.{ap, ◌∙◌}
 use mathlib.Core.List.{List}
 use Prim.Native.Nat.{ℕ}
 use native.Mathlib.Omega.{arith}

@@ -3,7 +3,6 @@ use mathlib.Core.Bool.{true}
 use mathlib.Core.List.{List}
 use Prim.Native.Nat.{ℕ}
 use lib.ListN.{length}
-use borrow.Author.Tests.{not-true, not-false}
 use Rattle.tables.specs.State.{card}
 use Rattle.tables.proofs.ObjectLaws.{memory_is}
 use Rattle.validate.specs.Accept.{accepts}

@@ -1,5 +1,4 @@
 use mathlib.Core.Path.{sym, ◌∙◌}
-use borrow.Author.Tests.{not-true, not-false}
 use Rattle.tables.proofs.QueuedLaws.{least, most}
 use Rattle.queues.proofs.EnqueueLaws.{enqueue_state, enqueue_full, enqueue_done}
 use Rattle.queues.proofs.LiveLaws.{pair_ok_lem, pair_below, queue_room}

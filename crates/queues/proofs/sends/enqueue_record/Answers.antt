@@ -1,5 +1,4 @@
 use mathlib.Core.Path.{sym, ◌∙◌}
-use borrow.Author.Tests.{not-true, not-false}
 use Rattle.validate.proofs.AcceptedLaws.{accepted}
 use Rattle.queues.proofs.EnqueueLaws.{enqueue_dead}
 use Rattle.queues.proofs.sends.enqueue_record.Goals as goal

@@ -1,5 +1,5 @@
 -- The numbers of the copied record, those of the column from there.
-use mathlib.Core.Path.{ap, ◌∙◌}
+use mathlib.Core.Path.{ap}
 use native.Mathlib.Omega.{arith}
 use Rattle.tables.specs.declared.WaitingHead.{WaitingHead}
 use Rattle.tables.proofs.sends.first_send.Goals as goal

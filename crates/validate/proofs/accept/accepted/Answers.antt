@@ -1,6 +1,5 @@
 -- Each way out: the tests before it passed, and then one fails or the last one decides.
 use Rattle.std.proofs.Common.{length, sym, ◌∙◌, rules, eq-eqb, ne_eqb}
-use borrow.Author.Tests.{not-true, not-false}
 use Rattle.tables.specs.Layout.{state_size}
 use Rattle.validate.specs.Accept.{accepts}
 use Rattle.validate.proofs.accept.accepted.Goals as goal

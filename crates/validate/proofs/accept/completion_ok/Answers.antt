@@ -1,5 +1,5 @@
 use Rattle.std.proofs.Common.{sym, ◌∙◌, le-leb}
-use borrow.Author.Tests.{lt-leb, not-true, not-false}
+use borrow.Author.Tests.{lt-leb}
 use Rattle.tables.specs.Limits.{most_message}
 use Rattle.validate.proofs.accept.completion_ok.Goals as goal
 

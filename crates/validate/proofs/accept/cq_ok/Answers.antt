@@ -2,7 +2,6 @@ use Rattle.tables.specs.State.{queue_at}
 use Rattle.std.proofs.Common.{◌≡◌, true, sym, ◌∙◌, rules}
 use Rattle.validate.specs.Accept.{queue_ok}
 use Rattle.validate.proofs.TestLaws.{head_first, cq_off, cq_flag, cq_rest}
-use borrow.Author.Tests.{not-true, not-false}
 use Rattle.wire.specs.Table.{row_at}
 use Rattle.tables.specs.Layout.{cq_flag_t}
 use Rattle.validate.proofs.accept.cq_ok.Goals as goal

@@ -1,6 +1,5 @@
-use Rattle.std.proofs.Common.{◌≡◌, ℕ, ◌-◌, ◌≤◌, Bool, true, false, sym, ◌∙◌, arith, rules}
+use Rattle.std.proofs.Common.{◌≡◌, ℕ, Bool, true, false, sym, ◌∙◌, arith, rules}
 use Rattle.wire.proofs.ScanLaws.{all_none, all_more, all_fails}
-use borrow.Author.Tests.{not-true, not-false}
 use Rattle.validate.specs.Accept.{cq_ok}
 use Rattle.tables.specs.Limits.{cq_count}
 use Rattle.validate.proofs.accept.cqs_ok.Goals as goal

@@ -1,6 +1,5 @@
 use Rattle.tables.specs.declared.Completion.{Completion}
-use Rattle.std.proofs.Common.{◌≡◌, ◌+◌, ◌<◌, true, false, List, get_or, sym, refl, ap, ◌∙◌, mod-lt, arith, rules}
-use borrow.Author.Tests.{not-true, not-false}
+use Rattle.std.proofs.Common.{◌≡◌, ◌+◌, true, false, List, get_or, sym, refl, ap, ◌∙◌, mod-lt, arith, rules}
 use Rattle.wire.proofs.RingLaws.{ring_passed, ring_fails, ring_goes}
 use Rattle.tables.specs.Limits.{most_places}
 use Rattle.validate.specs.Accept.{completion_ok}

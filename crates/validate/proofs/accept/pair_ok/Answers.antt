@@ -1,6 +1,6 @@
 use lib.Bits.{bit_and}
 use Rattle.std.proofs.Common.{sym, ◌∙◌, eq-eqb, ne_eqb, le-leb}
-use borrow.Author.Tests.{lt-leb, not-true, not-false}
+use borrow.Author.Tests.{lt-leb}
 use Rattle.tables.specs.Limits.{qp_count}
 use Rattle.validate.proofs.accept.pair_ok.Goals as goal
 

@@ -1,4 +1,4 @@
-use Rattle.std.proofs.Common.{◌≡◌, ℕ, ◌-◌, ◌≤◌, true, ◌∙◌}
+use Rattle.std.proofs.Common.{◌≡◌, ◌-◌, ◌≤◌, true}
 use Rattle.wire.specs.Scan.{all_below}
 use Rattle.validate.specs.Accept.{pd_ok}
 use Rattle.tables.specs.Limits.{pd_count}

@@ -1,4 +1,3 @@
-use borrow.Author.Tests.{not-true, not-false}
 use Rattle.std.proofs.Common.{◌≡◌, sym, ap, ◌∙◌, rules}
 use Rattle.wire.specs.Table.{row_at}
 use Rattle.tables.specs.Layout.{qp_flag_t}

@@ -1,6 +1,5 @@
-use Rattle.std.proofs.Common.{◌≡◌, ℕ, ◌-◌, ◌≤◌, Bool, true, false, sym, ◌∙◌, arith, rules}
+use Rattle.std.proofs.Common.{◌≡◌, ℕ, Bool, true, false, sym, ◌∙◌, arith, rules}
 use Rattle.wire.proofs.ScanLaws.{all_none, all_more, all_fails}
-use borrow.Author.Tests.{not-true, not-false}
 use Rattle.validate.specs.Accept.{qp_ok}
 use Rattle.tables.specs.Limits.{qp_count}
 use Rattle.validate.proofs.accept.qps_ok.Goals as goal

@@ -1,5 +1,5 @@
 use Rattle.tables.specs.declared.ReceiveRecord.{ReceiveRecord}
-use Rattle.std.proofs.Common.{◌≡◌, ◌+◌, ◌<◌, true, false, List, get_or, sym, refl, ap, ◌∙◌, mod-lt, arith, rules, le-leb}
+use Rattle.std.proofs.Common.{◌≡◌, ◌+◌, true, false, List, get_or, sym, refl, ap, ◌∙◌, mod-lt, arith, rules, le-leb}
 use borrow.Author.Tests.{lt-leb}
 use Rattle.wire.proofs.RingLaws.{ring_passed, ring_fails, ring_goes}
 use Rattle.tables.specs.Limits.{most_waiting}

@@ -1,4 +1,4 @@
-use Rattle.std.proofs.Common.{◌≡◌, ℕ, ◌+◌, ◌-◌, ◌*◌, ◌/◌, ◌≤◌, true, arith, rules}
+use Rattle.std.proofs.Common.{◌≡◌, ◌*◌, arith, rules}
 use Rattle.wire.proofs.ScanLaws.{all_none}
 use Rattle.tables.specs.Limits.{mr_count}
 use Rattle.validate.proofs.SearchLaws.{eight_found, eight_past, none_vacant}

@@ -1,4 +1,4 @@
-use Rattle.std.proofs.Common.{◌≡◌, ◌∙◌, rules}
+use Rattle.std.proofs.Common.{rules}
 use Rattle.validate.proofs.SearchLaws.{slot_vacant}
 use Rattle.validate.proofs.find.is_vacant.Goals as goal
 

@@ -1,4 +1,4 @@
-use Rattle.std.proofs.Common.{◌≡◌, ◌-◌, ◌<◌, ◌≤◌, sym, arith, rules}
+use Rattle.std.proofs.Common.{◌≡◌, ◌<◌, sym, arith, rules}
 use Rattle.wire.proofs.ScanLaws.{any_none, any_more}
 use Rattle.tables.specs.Limits.{mr_count}
 use Rattle.validate.proofs.SearchLaws.{mr_names_lem}

@@ -1,4 +1,4 @@
-use Rattle.std.proofs.Common.{◌≡◌, ◌-◌, ◌<◌, ◌≤◌}
+use Rattle.std.proofs.Common.{◌≡◌, ◌-◌, ◌≤◌}
 use Rattle.tables.specs.State.{card}
 use Rattle.wire.specs.Scan.{any_below}
 use Rattle.tables.specs.Limits.{qp_count}

@@ -1,4 +1,4 @@
-use Rattle.std.proofs.Common.{◌≡◌, ℕ, ◌+◌, ◌-◌, ◌*◌, ◌≤◌, Bool, true, false, sym, ◌∙◌, arith, rules}
+use Rattle.std.proofs.Common.{◌≡◌, ℕ, ◌+◌, ◌*◌, ◌≤◌, Bool, true, false, sym, ◌∙◌, arith, rules}
 use Rattle.wire.proofs.FlagLaws.{flags_most}
 use Rattle.wire.proofs.ScanLaws.{lowest_here, lowest_later, lowest_none}
 use Rattle.tables.specs.State.{card}

@@ -1,4 +1,4 @@
-use Rattle.std.proofs.Common.{◌≡◌, ℕ, ◌+◌, ◌-◌, ◌*◌, ◌≤◌, ◌∙◌}
+use Rattle.std.proofs.Common.{◌≡◌, ◌+◌, ◌-◌, ◌*◌, ◌≤◌}
 use Rattle.wire.specs.Scan.{lowest, lowest_from}
 use Rattle.tables.specs.State.{card}
 use Rattle.validate.specs.Search.{vacant}

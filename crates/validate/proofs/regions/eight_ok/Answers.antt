@@ -1,5 +1,4 @@
-use Rattle.std.proofs.Common.{◌≡◌, ℕ, ◌+◌, ◌-◌, ◌*◌, ◌≤◌, Bool, true, false, sym, ◌∙◌, arith, rules}
-use borrow.Author.Tests.{not-true, not-false}
+use Rattle.std.proofs.Common.{◌≡◌, ℕ, ◌+◌, ◌*◌, Bool, true, false, sym, ◌∙◌, arith, rules}
 use Rattle.wire.proofs.ScanLaws.{all_none, all_more, all_fails}
 use Rattle.validate.specs.Accept.{mr_ok}
 use Rattle.validate.proofs.regions.eight_ok.Goals as goal

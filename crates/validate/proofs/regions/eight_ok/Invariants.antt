@@ -1,4 +1,4 @@
-use Rattle.std.proofs.Common.{◌≡◌, ℕ, ◌+◌, ◌-◌, ◌*◌, ◌≤◌, true, ◌∙◌}
+use Rattle.std.proofs.Common.{◌≡◌, ◌+◌, ◌-◌, ◌*◌, ◌≤◌, true}
 use Rattle.wire.specs.Scan.{all_below}
 use Rattle.validate.specs.Accept.{mr_ok}
 use Rattle.validate.proofs.regions.eight_ok.Given as goal

@@ -1,5 +1,5 @@
 use Rattle.std.proofs.Common.{sym, ◌∙◌, le-leb}
-use borrow.Author.Tests.{lt-leb, not-true, not-false}
+use borrow.Author.Tests.{lt-leb}
 use Rattle.validate.proofs.regions.fields_ok.Goals as goal
 
 pub returns-then-not-access_ok : goal.returns-then-not-access_ok

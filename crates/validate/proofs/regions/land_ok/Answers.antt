@@ -1,4 +1,4 @@
-use Rattle.std.proofs.Common.{◌≡◌, sym, ◌∙◌}
+use Rattle.std.proofs.Common.{sym, ◌∙◌}
 use Rattle.validate.proofs.TestLaws.{land_flat, land_wrong, land_paged}
 use Rattle.validate.proofs.regions.land_ok.Goals as goal
 

@@ -1,4 +1,3 @@
-use borrow.Author.Tests.{not-true, not-false}
 use Rattle.std.proofs.Common.{◌≡◌, true, false, sym, ◌∙◌}
 use Rattle.wire.specs.Table.{row_at}
 use Rattle.tables.specs.Layout.{mr_flag_t, mr_t}

@@ -1,7 +1,6 @@
-use Rattle.std.proofs.Common.{◌≡◌, ◌+◌, ◌-◌, ◌*◌, ◌/◌, ◌≤◌, true, false, sym, ◌∙◌, ⊎_elim, arith, rules}
+use Rattle.std.proofs.Common.{◌≡◌, ◌+◌, ◌*◌, false, sym, ◌∙◌, arith, rules}
 use Rattle.wire.specs.Scan.{all_below}
 use Rattle.wire.proofs.ScanLaws.{all_none, block_fails}
-use borrow.Author.Tests.{not-true, not-false}
 use Rattle.validate.specs.Accept.{mr_ok}
 use Rattle.tables.specs.Limits.{mr_count}
 use Rattle.validate.proofs.TestLaws.{eight_free, eight_tested}
@@ -25,7 +24,7 @@ loop-g-preserved c =
       search rules,
       c.past_free-g.ensures.2
           (elim c.if-get64-ne0.branch [
-            then-get64-ne0+else-not-eight_ok w ↦ eight_tested a.state.now h.g h.invariant.1 (sym w.eight_ok.ensures ∙ w.if-not-eight_ok.false)
+            | then-get64-ne0+else-not-eight_ok w ↦ eight_tested a.state.now h.g h.invariant.1 (sym w.eight_ok.ensures ∙ w.if-not-eight_ok.false)
             | else-get64-ne0 w ↦ eight_free a.state.now h.g h.invariant.1 (sym c.get64.ensures ∙ w.if-get64-ne0.false)
           ]),
     )

@@ -1,4 +1,4 @@
-use Rattle.std.proofs.Common.{◌≡◌, ◌+◌, ◌-◌, ◌*◌, ◌/◌, ◌≤◌, true, ◌∙◌}
+use Rattle.std.proofs.Common.{◌≡◌, ◌-◌, ◌*◌, ◌/◌, ◌≤◌, true}
 use Rattle.wire.specs.Scan.{all_below}
 use Rattle.validate.specs.Accept.{mr_ok}
 use Rattle.tables.specs.Limits.{mr_count}

@@ -1,4 +1,4 @@
-use Rattle.std.proofs.Common.{◌≡◌, ℕ, ◌-◌, ◌*◌, ◌/◌, ◌≤◌, Bool, true, false, get_or, sym, refl, ap, ◌∙◌, arith, rules, le-ltb, lt-ltb}
+use Rattle.std.proofs.Common.{◌≡◌, ℕ, ◌*◌, Bool, true, false, get_or, sym, refl, ap, ◌∙◌, arith, rules, le-ltb, lt-ltb}
 use Rattle.wire.proofs.ScanLaws.{all_none, all_more, all_fails}
 use Rattle.tables.specs.Limits.{page_size}
 use Rattle.tables.specs.State.{pages_at}

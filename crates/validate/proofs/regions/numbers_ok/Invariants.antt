@@ -1,4 +1,4 @@
-use Rattle.std.proofs.Common.{◌≡◌, ℕ, ◌-◌, ◌*◌, ◌/◌, ◌≤◌, true, get_or, ◌∙◌}
+use Rattle.std.proofs.Common.{◌≡◌, ◌-◌, ◌*◌, ◌/◌, ◌≤◌, true, get_or}
 use Rattle.wire.specs.Scan.{all_below}
 use Rattle.tables.specs.Limits.{page_size}
 use Rattle.tables.specs.State.{pages_at}

@@ -1,5 +1,4 @@
-use Rattle.std.proofs.Common.{◌≡◌, ◌+◌, ◌≤◌, true, sym, ◌∙◌, leb-true}
-use borrow.Author.Tests.{not-true, not-false}
+use Rattle.std.proofs.Common.{◌+◌, ◌≤◌, sym, ◌∙◌, leb-true}
 use Rattle.validate.proofs.TestLaws.{need_most, paged_start, paged_long, paged_rest}
 use Rattle.validate.proofs.regions.paged_ok.Goals as goal
 

@@ -1,5 +1,5 @@
 -- Invariant: while none was bad, every place up to k passes.
-use Rattle.std.proofs.Common.{◌≡◌, ℕ, ◌+◌, ◌-◌, ◌*◌, ◌≤◌, Bool, not, [], sym, ap, ◌∙◌, arith, rules}
+use Rattle.std.proofs.Common.{◌≡◌, ℕ, ◌+◌, ◌*◌, Bool, not, [], sym, ap, ◌∙◌, arith, rules}
 use borrow.Author.Tests.{not-true}
 use Rattle.wire.proofs.ScanLaws.{all_none, all_more, or_left, or_right}
 use Rattle.tables.specs.Limits.{most_queued}

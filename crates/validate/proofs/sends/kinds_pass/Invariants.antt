@@ -1,4 +1,4 @@
-use Rattle.std.proofs.Common.{◌≡◌, ℕ, ◌+◌, ◌-◌, ◌*◌, ◌≤◌, true, false, [], ◌∙◌}
+use Rattle.std.proofs.Common.{◌≡◌, ◌+◌, ◌-◌, ◌*◌, ◌≤◌, true, false}
 use Rattle.wire.specs.Scan.{all_below}
 use Rattle.tables.specs.Limits.{most_queued}
 use Rattle.tables.specs.State.{place_at}

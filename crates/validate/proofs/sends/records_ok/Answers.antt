@@ -1,5 +1,5 @@
 -- Invariant: what is left of the ring passes exactly where all of it does.
-use Rattle.std.proofs.Common.{◌≡◌, ◌+◌, ◌*◌, ◌<◌, true, false, not, List, [], get_or, sym, refl, ap, ◌∙◌, mod-lt, arith, rules}
+use Rattle.std.proofs.Common.{◌≡◌, ◌+◌, true, false, not, List, [], get_or, sym, refl, ap, ◌∙◌, mod-lt, arith, rules}
 use Rattle.wire.proofs.RingLaws.{ring_passed, ring_fails, ring_goes}
 use Rattle.tables.specs.Limits.{most_queued}
 use Rattle.tables.specs.Records.{QueuedSend, send_bad, sent_in}

@@ -1,4 +1,4 @@
-use Rattle.std.proofs.Common.{◌≡◌, ◌+◌, ◌*◌, ◌<◌, [], ◌∙◌}
+use Rattle.std.proofs.Common.{◌≡◌, ◌<◌}
 use Rattle.wire.specs.Scan.{all}
 use Rattle.wire.specs.Ring.{ring_list}
 use Rattle.tables.specs.Limits.{most_queued}

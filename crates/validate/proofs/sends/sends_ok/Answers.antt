@@ -1,6 +1,5 @@
 -- Each way out is one law of TestLaws.
-use Rattle.std.proofs.Common.{◌≡◌, ◌<◌, ◌≤◌, true, false, sym, ap, ◌∙◌, rules}
-use borrow.Author.Tests.{not-true, not-false}
+use Rattle.std.proofs.Common.{◌≡◌, ◌<◌, ◌≤◌, true, false, sym, ap, ◌∙◌}
 use Rattle.wire.specs.Table.{row_at}
 use Rattle.tables.specs.Layout.{send_head_t, qp_t}
 use Rattle.tables.specs.Limits.{most_queued}

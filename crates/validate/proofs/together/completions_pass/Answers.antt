@@ -1,4 +1,4 @@
-use Rattle.std.proofs.Common.{◌≡◌, ℕ, ◌+◌, ◌-◌, ◌*◌, ◌<◌, ◌≤◌, Bool, true, ◌&&◌, ltb, leb, ap, arith, rules, ltb-true, leb-true}
+use Rattle.std.proofs.Common.{◌≡◌, ◌+◌, ◌*◌, ◌<◌, Bool, true, ◌&&◌, ltb, leb, ap, arith, rules, ltb-true, leb-true}
 use Rattle.wire.specs.Table.{row_at}
 use Rattle.wire.proofs.ScanLaws.{all_each, and_left, and_right}
 use Rattle.tables.specs.Layout.{entry_t}

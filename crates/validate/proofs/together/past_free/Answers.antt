@@ -1,4 +1,4 @@
-use Rattle.std.proofs.Common.{◌≡◌, ◌+◌, ◌-◌, ◌*◌, ◌≤◌, arith, rules}
+use Rattle.std.proofs.Common.{◌≡◌, ◌+◌, ◌*◌, arith, rules}
 use Rattle.validate.proofs.TestLaws.{more_free}
 use Rattle.validate.proofs.together.past_free.Goals as goal
 

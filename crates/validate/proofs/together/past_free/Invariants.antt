@@ -1,4 +1,4 @@
-use Rattle.std.proofs.Common.{◌≡◌, ◌+◌, ◌-◌, ◌*◌, ◌≤◌}
+use Rattle.std.proofs.Common.{◌-◌, ◌*◌, ◌≤◌}
 use Rattle.wire.specs.Scan.{all_below}
 use Rattle.validate.specs.Accept.{mr_ok}
 use Rattle.validate.specs.Together.{Enough}

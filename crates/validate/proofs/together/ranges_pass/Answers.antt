@@ -1,8 +1,7 @@
-use Rattle.std.proofs.Common.{◌≡◌, ℕ, ◌+◌, ◌-◌, ◌*◌, ◌≤◌, Bool, true, false, sym, ◌∙◌, arith, rules}
+use Rattle.std.proofs.Common.{◌≡◌, ℕ, ◌+◌, ◌*◌, Bool, true, false, sym, ◌∙◌, arith, rules}
 use Rattle.wire.specs.Table.{row_at}
 use Rattle.wire.proofs.ScanLaws.{all_none, all_more, all_fails}
 use Rattle.tables.specs.Layout.{mr_t}
-use borrow.Author.Tests.{not-true, not-false}
 use Rattle.validate.specs.Together.{range_ok}
 use Rattle.validate.proofs.together.ranges_pass.Goals as goal
 

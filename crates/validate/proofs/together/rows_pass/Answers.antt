@@ -1,5 +1,4 @@
 use Rattle.std.proofs.Common.{ℕ, ◌+◌, ◌*◌, sym, ◌∙◌}
-use borrow.Author.Tests.{not-false}
 use Rattle.wire.specs.Table.{row_at}
 use Rattle.tables.specs.Layout.{mr_t}
 use Rattle.tables.specs.declared.Region.{Region}

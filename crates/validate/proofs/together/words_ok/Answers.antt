@@ -1,5 +1,4 @@
 use Rattle.std.proofs.Common.{sym, ◌∙◌}
-use borrow.Author.Tests.{not-true, not-false}
 use Rattle.validate.proofs.together.words_ok.Goals as goal
 
 pub returns-then-not-remote_ok : goal.returns-then-not-remote_ok

@@ -1,4 +1,4 @@
-use Rattle.std.proofs.Common.{◌≡◌, ℕ, ◌+◌, ◌-◌, ◌*◌, ◌<◌, ◌≤◌, sym, ◌∙◌, arith, rules}
+use Rattle.std.proofs.Common.{◌≡◌, ℕ, ◌+◌, ◌*◌, ◌<◌, sym, ◌∙◌, arith, rules}
 use Rattle.wire.specs.Table.{row_at}
 use Rattle.wire.proofs.ScanLaws.{all_each}
 use Rattle.tables.specs.Layout.{mr_t}
