@@ -8,5 +8,5 @@ ack_written-n-requires c = done_two c.control-answer.ensures
 pub returns : goal.returns
 returns c =
     let l = c.args.state.now in
-    answers c.control-answer.ensures c.ack_written-n.result (c.ack_written-n.ensures.0 (card l)) c.put_answer.ensures.0
-    c.put_answer.ensures.1
+    answers c.control-answer.ensures c.ack_written-n.result (c.ack_written-n.ensures.value (card l)) c.put_answer.ensures.value
+    c.put_answer.ensures.out_after

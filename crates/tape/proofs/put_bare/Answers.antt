@@ -4,4 +4,4 @@ use Rattle.tape.proofs.put_bare.Goals as goal
 
 pub returns : goal.returns
 unfolding answer_record
-returns c = (refl, c.put_head.ensures)
+returns c = record { value = refl; out_after = c.put_head.ensures }

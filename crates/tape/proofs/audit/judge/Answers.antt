@@ -9,14 +9,14 @@ use Rattle.tape.proofs.ReplyLaws.{answered_within, leaves_length}
 use Rattle.tape.proofs.FoundLaws.{found_answered, found_fault, found_end, found_more}
 use Rattle.tape.proofs.audit.judge.Goals as goal
 
-room : (c : goal.After-reply) → length c.reply.new.1.1.1.1.0 ≡ 135
+room : (c : goal.After-out-in-Answered-1) → length c.reply.new.out ≡ 135
 room c =
     let a = c.args in
     leaves_length (step_of a.calls.now a.ended) a.state.now a.memory.now a.calls.now c.reply.ensures refl
 
 -- the answer fits it
 
-within : (c : goal.In-Answered-2) → c.in-Answered.written ≤ 135
+within : (c : goal.In-Answered) → c.in-Answered.written ≤ 135
 within c =
     let a = c.args in
     (answered_within a.calls.now a.ended a.state.now a.memory.now

@@ -17,4 +17,4 @@ pub returns : goal.returns
 returns c =
     let b = c.loop-i in
     let e : b.i ≡ c.args.to - c.args.from = omega arith in
-    (refl, rw e at b.invariant.4.front)
+    record { value = refl; window_after = rw e at b.invariant.4.front }

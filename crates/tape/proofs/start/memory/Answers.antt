@@ -4,4 +4,4 @@ use lib.ListN.{length-replicate}
 use Rattle.tape.proofs.start.memory.Goals as goal
 
 pub returns : goal.returns
-returns c = (sym (length-replicate {A = ℕ} 1048576 0), refl)
+returns c = record { value = sym (length-replicate {A = ℕ} 1048576 0); value_2 = refl }

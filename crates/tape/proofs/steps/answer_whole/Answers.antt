@@ -10,8 +10,8 @@ returns c =
     let a = c.args in
     let e : 6 + a.length - 6 ≡ a.length = omega arith in
     record {
-      says = ap (Reply.Answered (6 + a.length)) (rw e at r.0.count);
-      state = rw e at r.0.state;
-      memory = rw e at r.1;
-      bytes = rw e at r.0.bytes;
+      says = ap (Reply.Answered (6 + a.length)) (rw e at r.answers.count);
+      state = rw e at r.answers.state;
+      memory = rw e at r.memory_after;
+      bytes = rw e at r.answers.bytes;
     }
