@@ -1,3 +1,4 @@
+use borrow.Author.Rules.{rules}
 use native.Mathlib.Omega.{arith}
 use Rattle.tape.proofs.WrittenLaws.{ack_device, ack_port, ack_keys, ack_bare, ack_number}
 use Rattle.tape.proofs.ack_size.Goals as goal
@@ -16,4 +17,4 @@ returns-in-2 c = record { value = λ d. ack_number d c.args.command.now c.get8.r
 
 pub returns-in_default : goal.returns-in_default
 returns-in_default c =
-    record { value = λ d. ack_bare d c.args.command.now c.get8.result c.get8.ensures ? ? ? ?; upper_bound = omega arith }
+    record { value = λ d. ack_bare d c.args.command.now c.get8.result c.get8.ensures (search rules) (search rules) (search rules) (search rules); upper_bound = omega arith }

@@ -1,3 +1,4 @@
+use borrow.Author.Rules.{rules}
 use Rattle.tape.proofs.WrittenLaws.{call_control, call_send, call_receive, call_poll, call_flush}
 use Rattle.tape.proofs.answer_record.Goals as goal
 
@@ -28,5 +29,5 @@ returns-in-4 c =
 pub returns-in_default : goal.returns-in_default
 returns-in_default c =
     let a = c.args in
-    let e = call_flush a.kind a.number a.body.now a.memory.now ? ? ? ? in
+    let e = call_flush a.kind a.number a.body.now a.memory.now (search rules) (search rules) (search rules) (search rules) in
     record { answers = rw e c.answer_flush.ensures; memory_after = rw e }

@@ -1,5 +1,6 @@
 use mathlib.Core.Path.{sym, ◌∙◌}
 use native.Mathlib.Omega.{arith}
+use lib.ListN.{get_or}
 use Rattle.tape.proofs.LengthLaws.{digit_most, value_start, value_other, value_long, value_more, value_end}
 use borrow.Author.Rules.{rules}
 use Rattle.tape.proofs.start.memory_length.Goals as goal
@@ -17,13 +18,13 @@ returns-then-not-is_digit c =
     }
 
 pub overflow_sub-value : goal.overflow_sub-value
-overflow_sub-value c = let d = digit_most _ (sym c.is_digit.ensures ∙ c.if-not-is_digit.false) in omega arith
+overflow_sub-value c = let d = digit_most (get_or c.args.text.now c.loop-i.i 0) (sym c.is_digit.ensures ∙ c.if-not-is_digit.false) in omega arith
 
 pub overflow_cast-value : goal.overflow_cast-value
-overflow_cast-value c = let d = digit_most _ (sym c.is_digit.ensures ∙ c.if-not-is_digit.false) in omega arith
+overflow_cast-value c = let d = digit_most (get_or c.args.text.now c.loop-i.i 0) (sym c.is_digit.ensures ∙ c.if-not-is_digit.false) in omega arith
 
 pub overflow_add-value : goal.overflow_add-value
-overflow_add-value c = let d = digit_most _ (sym c.is_digit.ensures ∙ c.if-not-is_digit.false) in omega arith
+overflow_add-value c = let d = digit_most (get_or c.args.text.now c.loop-i.i 0) (sym c.is_digit.ensures ∙ c.if-not-is_digit.false) in omega arith
 
 pub returns-then-value-gt-MOST_LENGTH : goal.returns-then-value-gt-MOST_LENGTH
 returns-then-value-gt-MOST_LENGTH c =
