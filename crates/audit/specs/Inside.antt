@@ -48,9 +48,9 @@ with_answers d p = cond d.failed (Next.Done Report.Nothing) (Next.On (on_answers
 abbrev pub Follows : Files → (f : Found) → (p : Position) → (x y : List ℕ) → (r : Next) → (x' y' : List ℕ)
     → Type 0
 Follows files Found.Calls p x y r x' y' =
-    (d : Read) × (r ≡ with_calls d p) × Room p.calls x × Reads files.calls p.calls x d x' × (y' ≡ y)
+    (d : Read) × (r ≡ with_calls d p) × Room p.calls x × Reads files.calls.number p.calls x d x' × (y' ≡ y)
 Follows files Found.Answers p x y r x' y' =
-    (d : Read) × (r ≡ with_answers d p) × Room p.answers y × Reads files.answers p.answers y d y' × (x' ≡ x)
+    (d : Read) × (r ≡ with_answers d p) × Room p.answers y × Reads files.answers.number p.answers y d y' × (x' ≡ x)
 Follows files (Found.Same u w) p x y r x' y' = (r ≡ Next.On (passed p u w)) × (x' ≡ x) × (y' ≡ y)
 Follows files Found.Agrees p x y r x' y' = r ≡ Next.Done Report.Agrees
 Follows files (Found.Differs k) p x y r x' y' = r ≡ Next.Done (Report.Differs (p.number + k))

@@ -9,19 +9,21 @@ ghost use Rattle.tape.specs.Inside.{Finds, Starts};
 ghost use Rattle.audit.specs.Report.{Reports, Reported};
 ghost use Rattle.audit.specs.Inside.{shown, Used, passed, with_calls, with_answers, Stands, Goes, Wide, Round};
 
-use libc::STDOUT_FILENO;
+use std::fs::File;
+use std::rt;
+use std::rt::Env;
 use tape::Found;
-use tape::input::{Held, Read};
+use tape::input::{Held, Read, Source};
 
 // The files of the two tapes.
 #[derive(Drop)]
 struct Files {
-    calls: i32,
-    answers: i32,
+    calls: Source,
+    answers: Source,
 }
 
 // The bytes held of each tape, and the number of the record due.
-#[derive(Drop)]
+#[derive(Clone, Copy)]
 struct Position {
     calls: Held,
     answers: Held,
@@ -29,7 +31,7 @@ struct Position {
 }
 
 // What the program prints.
-#[derive(Drop)]
+#[derive(Clone, Copy)]
 enum Report {
     Agrees,
     Differs(u64),
@@ -37,7 +39,7 @@ enum Report {
 }
 
 // Where the audit stands after a round, or its report.
-#[derive(Drop)]
+#[derive(Clone, Copy)]
 enum Next {
     On(Position),
     Done(Report),
@@ -139,12 +141,12 @@ fn round(
     memory: &mut [u8],
     calls: &mut [u8],
     answers: &mut [u8],
-    files: Files,
+    files: &Files,
     position: Position,
 ) -> Next
     requires { Stands position calls.old answers.old × Wide calls.old answers.old
         × (position.number ≤ 18446744073709551614) }
-    ensures round { Round files
+    ensures round { Round files.now
         state.old memory.old calls.old answers.old position result
         state.new memory.new calls.new answers.new }
     ensures goes { Goes result position.number calls.new answers.new }
@@ -153,8 +155,8 @@ fn round(
     let a = position.answers;
     let number = position.number;
     match find(state, memory, calls, answers, position) {
-        Found::Calls => with_calls(tape::input::more(files.calls, calls, c), position),
-        Found::Answers => with_answers(tape::input::more(files.answers, answers, a), position),
+        Found::Calls => with_calls(tape::input::more(&files.calls, calls, c), position),
+        Found::Answers => with_answers(tape::input::more(&files.answers, answers, a), position),
         Found::Same {
             calls: used,
             answers: seen,
@@ -171,12 +173,12 @@ fn run(
     memory: &mut [u8],
     calls: &mut [u8],
     answers: &mut [u8],
-    files: Files,
+    files: &Files,
 ) -> Report
     requires wide { Wide calls.old answers.old }
     requires state_value { (state.old ≡ reset_bytes (ListN·length memory.old))
         × (memory.old ≡ zeros (ListN·length memory.old)) }
-    ensures { Reports files.calls files.answers (ListN·length memory.old) result }
+    ensures { Reports files.now.calls.number files.now.answers.number (ListN·length memory.old) result }
 {
     let none = Held {
         from: 0,
@@ -200,12 +202,12 @@ fn run(
 }
 
 // Audits over the first bytes of the memory, to which the card is reset.
-fn audit(state: &mut [u8], memory: &mut [u8], length: usize, files: Files) -> Report
+fn audit(state: &mut [u8], memory: &mut [u8], length: usize, files: &Files) -> Report
     requires { Starts 3 length state.old memory.old }
-    ensures { Reports files.calls files.answers length result }
+    ensures { Reports files.now.calls.number files.now.answers.number length result }
 {
-    let mut calls = io::large_buffer();
-    let mut answers = io::large_buffer();
+    let mut calls = [0u8; 65536];
+    let mut answers = [0u8; 65536];
     run(
         state,
         &mut memory[..length],
@@ -216,38 +218,37 @@ fn audit(state: &mut [u8], memory: &mut [u8], length: usize, files: Files) -> Re
 }
 
 // The report by the command line. A file that can't be opened can't be read either.
-fn reported() -> Report
+fn reported<R: Env + rt::Files<File = File>>(rt: &R) -> Report
     ensures { Reported result }
 {
-    let calls = tape::input::open(1);
-    let answers = tape::input::open(2);
+    let calls = tape::input::open(rt, 1);
+    let answers = tape::input::open(rt, 2);
     let mut state = [0u8; tape::STATE];
     let mut memory = tape::start::memory();
-    let length = tape::start::length_asked(3);
+    let length = tape::start::length_asked(rt, 3);
     if tape::start::start(&mut state, length) {
         return audit(
             &mut state,
             &mut memory,
             length as usize,
-            Files { calls, answers },
+            &Files { calls, answers },
         );
     }
     Report::Nothing
 }
 
-fn print(report: Report) {
+fn print(rt: &impl Print, report: Report) {
     match report {
         Report::Agrees => {
-            io::write_all(STDOUT_FILENO, b"agrees\n");
+            let _ = println!(rt; "agrees");
         }
         Report::Differs(number) => {
-            io::print_decimal(STDOUT_FILENO, number);
-            io::write_all(STDOUT_FILENO, b"\n");
+            let _ = println!(rt; "{number}");
         }
         Report::Nothing => {}
     }
 }
 
-fn main() {
-    print(reported());
+fn main(rt: HostRuntime) {
+    print(&rt, reported(&rt));
 }

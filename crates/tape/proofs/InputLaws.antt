@@ -8,10 +8,6 @@ use native.Mathlib.Omega.{arith}
 use lib.ListN.{length, take, drop, get_or, set, length-set, length-drop}
 use lib.Dec.{eqb}
 use lib.IntN.{ℤ, pos, negsuc}
-use lib.Signed.{lt_z}
-use borrow.Author.Tests.{le-ltb}
-use Rattle.io.specs.Counts.{clamp_len}
-use Rattle.libc.specs.Io.{Moved as Io-as-Moved}
 use Rattle.tape.specs.declared.input.Held.{Held}
 use Rattle.tape.specs.declared.input.Read.{Read}
 use Rattle.tape.specs.System.{Event, Happened, Unreadable}
@@ -49,24 +45,13 @@ moved_more from w₀ i w h m =
 
 -- ---- a read
 
--- as many bytes as it answered, or none where it failed
-counts : (answer : ℤ) (n most room : ℕ) → Io-as-Moved most answer → most ≤ room → n ≡ clamp_len answer room → n ≡ bytes_by answer
-counts (pos k) n most room m le e = omega arith
-counts (negsuc k) n most room m le e = e
+-- one that answered with so many bytes
+pub gives_read : (file : ℤ) (buffer : List ℕ) (n : ℕ) → Happened (Event.read file (pos n) buffer) → Gives file buffer n false
+gives_read file buffer n h = record { answer = pos n; happened = h; bytes = refl; failure = refl }
 
-below_zero : (answer : ℤ) → lt_z answer (pos 0) ≡ is_failure answer
-below_zero (pos k) = le-ltb k 0 (omega arith)
-below_zero (negsuc k) = refl
-
--- `back` is the answer, read back from its bits
-pub gives_by : (file answer : ℤ) {back : ℤ} → back ≡ answer → (buffer : List ℕ) (n most room : ℕ) → Happened (Event.read file answer buffer) → Io-as-Moved most answer
-    → most ≤ room → n ≡ clamp_len back room → {failed : Bool} → lt_z back (pos 0) ≡ failed → Gives file buffer n failed
-gives_by file answer same buffer n most room happened moved le e flag = record {
-  answer = answer;
-  happened = happened;
-  bytes = counts answer n most room moved le (e ∙ ap (λ (z : ℤ). clamp_len z room) same);
-  failure = sym flag ∙ ap (λ (z : ℤ). lt_z z (pos 0)) same ∙ below_zero answer;
-}
+-- one that failed
+pub gives_error : (file : ℤ) (buffer : List ℕ) → Happened (Event.read file (negsuc 0) buffer) → Gives file buffer 0 true
+gives_error file buffer h = record { answer = negsuc 0; happened = h; bytes = refl; failure = refl }
 
 module _ {file : ℤ} {buffer : List ℕ} {n : ℕ} {failed : Bool} (g : Gives file buffer n failed) where
   pub gives_bytes : failed ≡ false → Happened (Event.read file (pos n) buffer)

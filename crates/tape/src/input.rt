@@ -1,10 +1,29 @@
 // An input that is read piece by piece into a window.
-ghost use Rattle.std.specs.Prelude.{◌≡◌, ◌+◌, ◌-◌, ◌≤◌, length, take, drop};
+ghost use Rattle.std.specs.Prelude.{◌≡◌, ◌+◌, ◌-◌, ◌≤◌, pos, length, take, drop};
 ghost use Rattle.tape.specs.System.{Opens};
 ghost use Rattle.tape.specs.Inside.{Gives, Reads};
 
-// The bytes of a window that are held of an input, and whether a read has found its end.
+use std::fs::File;
+use std::io;
+use std::os::fd::AsRawFd;
+use std::rt::{Env, Files, Stdin};
+
+// What is read, and its descriptor, by which the contracts name it: a negative number where a file could not be opened.
 #[derive(Drop)]
+pub struct Source {
+    pub number: i32,
+    stream: Stream,
+}
+
+#[derive(Drop)]
+enum Stream {
+    Named(File),
+    Standard(Stdin),
+    Missing,
+}
+
+// The bytes of a window that are held of an input, and whether a read has found its end.
+#[derive(Clone, Copy)]
 pub struct Held {
     pub from: usize,
     pub to: usize,
@@ -12,27 +31,56 @@ pub struct Held {
 }
 
 // What is held after a read, and whether it failed. One that fails gives nothing.
-#[derive(Drop)]
+#[derive(Clone, Copy)]
 pub struct Read {
     pub held: Held,
     pub failed: bool,
 }
 
 // The bytes that one read gave.
-#[derive(Drop)]
+#[derive(Clone, Copy)]
 struct Piece {
     count: usize,
     failed: bool,
 }
 
-// Opens the file that word i of the command line names, for reading; a negative number, of which no read succeeds, where that
-// can't be done.
-pub fn open(i: usize) -> i32
-    ensures { Opens i result }
+// Opens the file that word i of the command line names, for reading; a source with a negative number, of which no read
+// succeeds, where that can't be done. The library opens no name that is not UTF-8.
+pub fn open<R: Env + Files<File = File>>(rt: &R, i: usize) -> Source
+    ensures { Opens i result.number }
 {
-    let mut name = io::buffer();
-    let n = os::arg(i, &mut name);
-    os::open_read(&name[..n])
+    let mut name = [0u8; 4096];
+    let n = match rt.arg(i, &mut name) {
+        Ok(n) => n,
+        Err(_) => 0,
+    };
+    let Ok(path) = str::from_utf8(&name[..n]) else {
+        return missing();
+    };
+    match File::open(rt, path) {
+        Ok(file) => Source {
+            number: file.as_raw_fd(),
+            stream: Stream::Named(file),
+        },
+        Err(_) => missing(),
+    }
+}
+
+fn missing() -> Source {
+    Source {
+        number: -1,
+        stream: Stream::Missing,
+    }
+}
+
+// Standard input.
+pub fn standard(stdin: Stdin) -> Source
+    ensures { result.number ≡ pos 0 }
+{
+    Source {
+        number: 0,
+        stream: Stream::Standard(stdin),
+    }
 }
 
 // No bytes of a window that has none of those asked for.
@@ -64,30 +112,47 @@ fn keep(window: &mut [u8], from: usize, to: usize) -> usize
     n
 }
 
-// One read behind the first `kept` bytes of the window.
-fn read_behind(fd: i32, window: &mut [u8], kept: usize) -> Piece
-    requires { kept ≤ length window.old }
-    ensures count_in_bounds { kept + result.count ≤ length window.new }
-    ensures window_unchanged { take kept window.new ≡ take kept window.old }
-    ensures gives { Gives fd (drop kept window.new) result.count result.failed }
+// One read of the source.
+fn read_once(source: &Source, buffer: &mut [u8]) -> Piece
+    ensures count_in_bounds { result.count ≤ length buffer.new }
+    ensures gives { Gives source.now.number buffer.new result.count result.failed }
 {
-    let got = libc::read(fd, &mut window[kept..]);
-    let count = io::count(got, &window[kept..]);
-    if got < 0 {
-        return Piece {
+    let got = match &source.stream {
+        Stream::Named(file) => {
+            let mut file: &File = file;
+            io::Read::read(&mut file, buffer)
+        }
+        Stream::Standard(stdin) => {
+            let mut stdin: &Stdin = stdin;
+            io::Read::read(&mut stdin, buffer)
+        }
+        Stream::Missing => Err(io::Error::from(io::ErrorKind::NotFound)),
+    };
+    match got {
+        Ok(count) => Piece {
             count,
+            failed: false,
+        },
+        Err(_) => Piece {
+            count: 0,
             failed: true,
-        };
-    }
-    Piece {
-        count,
-        failed: false,
+        },
     }
 }
 
+// One read behind the first `kept` bytes of the window.
+fn read_behind(source: &Source, window: &mut [u8], kept: usize) -> Piece
+    requires { kept ≤ length window.old }
+    ensures count_in_bounds { kept + result.count ≤ length window.new }
+    ensures window_unchanged { take kept window.new ≡ take kept window.old }
+    ensures gives { Gives source.now.number (drop kept window.new) result.count result.failed }
+{
+    read_once(source, &mut window[kept..])
+}
+
 // One read behind the bytes held, which move to the window's start. A read that gives nothing, or fails, is the input's end.
-pub fn more(fd: i32, window: &mut [u8], held: Held) -> Read
-    ensures { Reads fd held window.old result window.new }
+pub fn more(source: &Source, window: &mut [u8], held: Held) -> Read
+    ensures { Reads source.now.number held window.old result window.new }
 {
     let from = held.from;
     let to = held.to;
@@ -98,7 +163,7 @@ pub fn more(fd: i32, window: &mut [u8], held: Held) -> Read
         return none();
     }
     let kept = keep(window, from, to);
-    let piece = read_behind(fd, window, kept);
+    let piece = read_behind(source, window, kept);
     let n = piece.count;
     Read {
         held: Held {

@@ -2,9 +2,12 @@
 ghost use Rattle.std.specs.Prelude.{◌≡◌, cond, ◌≤◌, length};
 ghost use Rattle.tables.specs.Reset.{zeros, reset_bytes};
 ghost use Rattle.tape.specs.Length.{most_length, is_digit, length_of, Asks};
+ghost use Rattle.tape.specs.System.{Event, Happened};
 ghost use Rattle.tape.specs.Inside.{resets};
 
 use rules::Answer;
+use std::env::FillError;
+use std::rt::Env;
 
 // The longest memory that a program takes.
 const MOST_LENGTH: u64 = 1048576;
@@ -49,13 +52,26 @@ pub fn memory_length(text: &[u8]) -> u64
     value
 }
 
+// How many words the program was started with, its own name among them.
+fn words(rt: &impl Env) -> usize
+    ensures { Happened (Event.words result) }
+{
+    let mut byte = [0u8; 1];
+    for i in 0..usize::MAX {
+        if let Err(FillError::NotPresent) = rt.arg(i, &mut byte) {
+            return i;
+        }
+    }
+    usize::MAX
+}
+
 // The memory's length that word i, the last, asks for, 4,096 where there is none; 0 where it asks for none that the programs
 // take.
-pub fn length_asked(i: usize) -> u64
+pub fn length_asked(rt: &impl Env, i: usize) -> u64
     ensures asks { Asks i result }
     ensures upper_bound { result ≤ most_length }
 {
-    let count = os::arg_count();
+    let count = words(rt);
     if count <= i {
         return 4096;
     }
@@ -63,7 +79,10 @@ pub fn length_asked(i: usize) -> u64
         return 0;
     }
     let mut text = [0u8; 8];
-    let n = os::arg(i, &mut text);
+    let n = match rt.arg(i, &mut text) {
+        Ok(n) => n,
+        Err(_) => 0,
+    };
     memory_length(&text[..n])
 }
 
