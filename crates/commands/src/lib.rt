@@ -18,7 +18,7 @@ pub enum Outcome {
 
 // The kinds of objects.
 #[derive(Clone, Copy)]
-pub enum Kind {
+enum Kind {
     Pd,
     Cq,
     Mr,
