@@ -63,7 +63,7 @@ module _ (l m x y : List ℕ) (p : Position) (stands : Stands p x y) {f : Found}
       o,
     )
 
-    pub does_calls : Wide x y → f ≡ Found.Calls → (d : Read) {x' : List ℕ} → Reads files.calls p.calls x d x'
+    pub does_calls : Wide x y → f ≡ Found.Calls → (d : Read) {x' : List ℕ} → Reads files.calls.number p.calls x d x'
         → {r : Next} → r ≡ with_calls d p → Does r x' y
     does_calls wide e d {x'} reads {r} s =
         let few : length (held_in p.calls x) < 646 = (wants e).0 in
@@ -71,7 +71,7 @@ module _ (l m x y : List ℕ) (p : Position) (stands : Stands p x y) {f : Found}
         (does e (with_calls d p) x' y (d, refl, omega arith, reads, refl)
         (goes_read d.failed (on_calls p d.held) p.number x' y (reads.lies, stands.1) (omega arith)))
 
-    pub does_answers : Wide x y → f ≡ Found.Answers → (d : Read) {y' : List ℕ} → Reads files.answers p.answers y d y'
+    pub does_answers : Wide x y → f ≡ Found.Answers → (d : Read) {y' : List ℕ} → Reads files.answers.number p.answers y d y'
         → {r : Next} → r ≡ with_answers d p → Does r x y'
     does_answers wide e d {y'} reads {r} s =
         let few : length (held_in p.answers y) < 135 = (wants e).0 in

@@ -183,8 +183,8 @@ module _ (l m x y : List ℕ) (p : Position) where
 pub record Stand (files : Files) (memory : ℕ) (l m x y : List ℕ) (p : Position) (rounds : ℕ) : Type 0 where
   calls_passed : List ℕ
   answers_passed : List ℕ
-  calls : Side files.calls calls_passed p.calls x
-  answers : Side files.answers answers_passed p.answers y
+  calls : Side files.calls.number calls_passed p.calls x
+  answers : Side files.answers.number answers_passed p.answers y
   keeps : (c a : List ℕ) → Continues c (held_in p.calls x) p.calls.ended → Continues a (held_in p.answers y) p.answers.ended
       → verdict memory (calls_passed ++ c) (answers_passed ++ a) ≡ against p.number (played l m c) a
   spent : 18446744073709551615
@@ -228,7 +228,7 @@ module _ {files : Files} {memory : ℕ} {l m x y : List ℕ} {p : Position} {rou
   -- ---- a round more
 
   module _ (q : Position) (l' m' : List ℕ) (sl : l' ≡ (shown l m x y p).state) (sm : m' ≡ (shown l m x y p).memory) (k : ℕ) (fewer : rounds ≤ k + 1) where
-    read_calls : (shown l m x y p).found ≡ Found.Calls → (d : Read) {x' : List ℕ} → Room p.calls x → Reads files.calls p.calls x d x'
+    read_calls : (shown l m x y p).found ≡ Found.Calls → (d : Read) {x' : List ℕ} → Room p.calls x → Reads files.calls.number p.calls x d x'
         → d.failed ≡ false → Stand files memory l' m' x' y (on_calls p d.held) k
     read_calls e d {x'} room r good =
         let still : p.calls.ended ≡ false = (within l m x y p Found.Calls e).1 in
@@ -255,7 +255,7 @@ module _ {files : Files} {memory : ℕ} {l m x y : List ℕ} {p : Position} {rou
               omega arith;
         }
 
-    read_answers : (shown l m x y p).found ≡ Found.Answers → (d : Read) {y' : List ℕ} → Room p.answers y → Reads files.answers p.answers y d y'
+    read_answers : (shown l m x y p).found ≡ Found.Answers → (d : Read) {y' : List ℕ} → Room p.answers y → Reads files.answers.number p.answers y d y'
         → d.failed ≡ false → Stand files memory l' m' x y' (on_answers p d.held) k
     read_answers e d {y'} room r good =
         let still : p.answers.ended ≡ false = (within l m x y p Found.Answers e).1 in
@@ -339,7 +339,7 @@ module _ {files : Files} {memory : ℕ} {l m x y : List ℕ} {p : Position} {rou
 
   -- ---- the last
 
-  abbrev tapes : Tapes files.calls files.answers
+  abbrev tapes : Tapes files.calls.number files.answers.number
   tapes = record {
     call_bytes = s.calls_passed ++ held_calls;
     ended_calls = p.calls.ended;
@@ -359,27 +359,27 @@ module _ {files : Files} {memory : ℕ} {l m x y : List ℕ} {p : Position} {rou
       ∙ says (calls l m x y p b b') (answers l m x y p b b')
 
   done_by : (v : Report) (x' y' : List ℕ) (f : Found) → (shown l m x y p).found ≡ f → Follows files f p x y (Next.Done v) x' y'
-      → Reports files.calls files.answers memory v
+      → Reports files.calls.number files.answers.number memory v
   done_by v x' y' Found.Calls e w =
       let o = read_done w.0.failed (on_calls p w.0.held) w.1 in
-      subst (Reports files.calls files.answers memory) (sym o.1) (Silent.no_calls (gives_failure (w.3.gives s.calls.lies) o.0))
+      subst (Reports files.calls.number files.answers.number memory) (sym o.1) (Silent.no_calls (gives_failure (w.3.gives s.calls.lies) o.0))
   done_by v x' y' Found.Answers e w =
       let o = read_done w.0.failed (on_answers p w.0.held) w.1 in
-      subst (Reports files.calls files.answers memory) (sym o.1) (Silent.no_answers (gives_failure (w.3.gives s.answers.lies) o.0))
+      subst (Reports files.calls.number files.answers.number memory) (sym o.1) (Silent.no_answers (gives_failure (w.3.gives s.answers.lies) o.0))
   done_by v x' y' (Found.Same u n) e w =
       absurd (let t : Next.Done v ≡ Next.On (passed p u n) = w.0 in let z : ◌≡◌ {A = ℕ} 0 1 = cc in omega arith)
   done_by v x' y' Found.Agrees e w =
       let z : v ≡ Report.Agrees = cc in
-      subst (Reports files.calls files.answers memory) (sym z) (tapes, verdict_on_lem Found.Agrees e (λ i j. refl))
+      subst (Reports files.calls.number files.answers.number memory) (sym z) (tapes, verdict_on_lem Found.Agrees e (λ i j. refl))
   done_by v x' y' (Found.Differs n) e w =
       let z : v ≡ Report.Differs (p.number + n) = cc in
-      subst (Reports files.calls files.answers memory) (sym z) (tapes, verdict_on_lem (Found.Differs n) e (λ i j. refl))
+      subst (Reports files.calls.number files.answers.number memory) (sym z) (tapes, verdict_on_lem (Found.Differs n) e (λ i j. refl))
 
-  pub stand_done : {v : Report} {l' m' x' y' : List ℕ} → Round files l m x y p (Next.Done v) l' m' x' y' → Reports files.calls files.answers memory v
+  pub stand_done : {v : Report} {l' m' x' y' : List ℕ} → Round files l m x y p (Next.Done v) l' m' x' y' → Reports files.calls.number files.answers.number memory v
   stand_done {v} {l'} {m'} {x'} {y'} r = done_by v x' y' (shown l m x y p).found refl r.follows
 
   -- all rounds are used up
-  pub stand_out : rounds ≡ 0 → Silent files.calls files.answers memory
+  pub stand_out : rounds ≡ 0 → Silent files.calls.number files.answers.number memory
   stand_out z =
       let c : length (s.calls_passed ++ held_calls) ≡ length s.calls_passed + length held_calls = length-append s.calls_passed held_calls in
       let a : length (s.answers_passed ++ held_answers) ≡ length s.answers_passed + length held_answers = length-append s.answers_passed held_answers in

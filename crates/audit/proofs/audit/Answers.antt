@@ -16,16 +16,17 @@ slice_bounds-run-end-2 c = simp length-take (omega arith)
 pub run-requires : goal.run-requires
 run-requires c =
     let e = c in
-    let same = length-take-le e.args.length e.args.memory.now e.requires.fits in (
-      (search rules, search rules),
-      (
+    let same = length-take-le e.args.length e.args.memory.now e.requires.fits in
+    record {
+      wide = (search rules, search rules);
+      state_value = (
         e.requires.state ∙ ap reset_bytes (sym same),
         ap (take e.args.length) e.requires.memory ∙ take_zeros e.args.length (length e.args.memory.now) e.requires.fits ∙ ap zeros (sym same),
-      ),
-    )
+      );
+    }
 
 pub returns : goal.returns
 returns c =
     let e = c in
     let same = length-take-le e.args.length e.args.memory.now e.requires.fits in
-    subst (λ (n : ℕ). Reports e.args.files.calls e.args.files.answers n c.run.result) same c.run.ensures
+    subst (λ (n : ℕ). Reports e.args.files.now.calls.number e.args.files.now.answers.number n c.run.result) same c.run.ensures

@@ -6,4 +6,4 @@ returns c =
     let e = c in
     let a = e.args in
     let f = c.audit.ensures in
-    (f, finds_used a.state.now a.memory.now a.calls.now a.answers.now a.position e.requires f)
+    record { finds = f; used = finds_used a.state.now a.memory.now a.calls.now a.answers.now a.position e.requires f }

@@ -13,45 +13,43 @@ use Rattle.audit.specs.Report.{Silent, Reports}
 use Rattle.audit.proofs.reported.Goals as goal
 
 pub audit-requires : goal.audit-requires
-audit-requires c =
+audit-requires g c =
     let m = c.memory-memory in
     let n = c.length_asked-length in
     let st = c.start in
-    starts_by 3 n.result n.ensures.0 n.ensures.1 st.ensures.0 st.ensures.1 c.if-start.true m.ensures.0 m.ensures.1
+    starts_by 3 n.result n.ensures.asks n.ensures.upper_bound st.ensures.value st.ensures.state_after c.if-start.true
+    m.ensures.value m.ensures.value_2
 
 pub returns-after-this : goal.returns-after-this
-returns-after-this c =
-    let o = c.«open» in
+returns-after-this g c =
+    let o = c.open-calls in
     let p = c.open-answers in
     let a = c.audit in
     let n = c.length_asked-length in
     record {
-      calls = o.result;
-      answers = p.result;
+      calls = o.result.number;
+      answers = p.result.number;
       memory = n.result;
       calls_named = o.ensures;
       answers_named = p.ensures;
-      asked = n.ensures.0;
-      reports =
-          subst (λ (z : ℤ). Reports z p.result n.result a.result) (to_z-of_z {w = w32} {z = o.result} (record { sfits = o.type-inv }))
-          (subst (λ (z : ℤ). Reports (to_z w32 (of_z w32 o.result)) z n.result a.result) (to_z-of_z {w = w32} {z = p.result} (record { sfits = p.type-inv }))
-          a.ensures);
+      asked = n.ensures.asks;
+      reports = a.ensures;
     }
 
 pub returns-after-this-2 : goal.returns-after-this-2
-returns-after-this-2 c =
-    let o = c.«open» in
+returns-after-this-2 g c =
+    let o = c.open-calls in
     let p = c.open-answers in
     let n = c.length_asked-length in
     record {
-      calls = o.result;
-      answers = p.result;
+      calls = o.result.number;
+      answers = p.result.number;
       memory = n.result;
       calls_named = o.ensures;
       answers_named = p.ensures;
-      asked = n.ensures.0;
+      asked = n.ensures.asks;
       reports =
           Silent.lengthless
-          (resets_none (zeros state_size) n.result (length-replicate {A = ℕ} state_size 0) n.ensures.1
-          (sym c.start.ensures.0 ∙ c.if-start.false));
+          (resets_none (zeros state_size) n.result (length-replicate {A = ℕ} state_size 0) n.ensures.upper_bound
+          (sym c.start.ensures.value ∙ c.if-start.false));
     }

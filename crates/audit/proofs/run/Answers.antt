@@ -9,16 +9,16 @@ use Rattle.audit.proofs.run.Goals as goal
 pub loop-rounds-init : goal.loop-rounds-init
 loop-rounds-init c =
     let e = c in
-    (refl, refl, refl, refl, search rules, search rules, stand_start e.args.files _ _ _ _ _ e.requires.1.0 e.requires.1.1)
+    (refl, refl, refl, refl, search rules, search rules, stand_start e.args.files.now _ _ _ _ _ e.requires.state_value.0 e.requires.state_value.1)
 
 pub returns-in-Done : goal.returns-in-Done
-returns-in-Done c = stand_done c.loop-rounds.invariant.6 (rw c.in-Done.is at c.round.ensures.0)
+returns-in-Done c = stand_done c.loop-rounds.invariant.6 (rw c.in-Done.is at c.round.ensures.round)
 
 pub loop-rounds-preserved : goal.loop-rounds-preserved
 loop-rounds-preserved c =
     let d = c in
     let i = d.loop-rounds.invariant.5 in
-    let g = rw c.in-On.is at d.round.ensures.1 in (
+    let g = rw c.in-On.is at d.round.ensures.goes in (
       search rules,
       search rules,
       search rules,

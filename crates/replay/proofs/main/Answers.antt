@@ -7,5 +7,5 @@ run_in-requires c =
     let n = c.length_asked-length in
     let m = c.memory-memory in
     let st = c.start in
-    starts_by 1 n.result n.ensures.0 n.ensures.1 st.ensures.0 st.ensures.1 c.if-start.true
-    m.ensures.0 m.ensures.1
+    starts_by 1 n.result n.ensures.asks n.ensures.upper_bound st.ensures.value st.ensures.state_after c.if-start.true
+    m.ensures.value m.ensures.value_2

@@ -1,4 +1,4 @@
--- the buffer after the reply
+-- The buffer after the reply has 135 bytes, and the answer fits it.
 use mathlib.Core.Path.{◌≡◌, refl, sym, ◌∙◌}
 use Prim.Native.Nat.{◌≤◌}
 use native.Mathlib.Omega.{arith}
@@ -9,33 +9,31 @@ use Rattle.tape.proofs.ReplyLaws.{answered_within, leaves_length}
 use Rattle.tape.proofs.FoundLaws.{found_answered, found_fault, found_end, found_more}
 use Rattle.tape.proofs.audit.judge.Goals as goal
 
-room : (c : goal.After-out-in-Answered-1) → length c.reply.new.out ≡ 135
-room c =
-    let a = c.args in
-    leaves_length (step_of a.calls.now a.ended) a.state.now a.memory.now a.calls.now c.reply.ensures refl
-
--- the answer fits it
-
-within : (c : goal.In-Answered) → c.in-Answered.written ≤ 135
-within c =
-    let a = c.args in
-    (answered_within a.calls.now a.ended a.state.now a.memory.now
-    (sym c.reply.ensures.says ∙ c.in-Answered.is)).1
-
 pub slice_bounds-out-end : goal.slice_bounds-out-end
-slice_bounds-out-end c = let r = room c in let w = within c in omega arith
+slice_bounds-out-end c =
+    let a = c.args in
+    let r : length c.reply.new.out ≡ 135 = leaves_length (step_of a.calls.now a.ended) a.state.now a.memory.now a.calls.now c.reply.ensures refl in
+    let w = answered_within a.calls.now a.ended a.state.now a.memory.now (sym c.reply.ensures.says ∙ c.in-Answered.is) in
+    omega arith
 
 pub slice_bounds-judge_answer-end : goal.slice_bounds-judge_answer-end
 slice_bounds-judge_answer-end c =
-    let r = room c in
-    let w = within c in
+    let a = c.args in
+    let r : length c.reply.new.out ≡ 135 = leaves_length (step_of a.calls.now a.ended) a.state.now a.memory.now a.calls.now c.reply.ensures refl in
+    let w = answered_within a.calls.now a.ended a.state.now a.memory.now (sym c.reply.ensures.says ∙ c.in-Answered.is) in
     simp length-take (omega arith)
 
 pub slice_bounds-out-end-in-Fault : goal.slice_bounds-out-end-in-Fault
-slice_bounds-out-end-in-Fault c = let r = room c in omega arith
+slice_bounds-out-end-in-Fault c =
+    let a = c.args in
+    let r : length c.reply.new.out ≡ 135 = leaves_length (step_of a.calls.now a.ended) a.state.now a.memory.now a.calls.now c.reply.ensures refl in
+    omega arith
 
 pub slice_bounds-judge_fault-end : goal.slice_bounds-judge_fault-end
-slice_bounds-judge_fault-end c = let r = room c in simp length-take (omega arith)
+slice_bounds-judge_fault-end c =
+    let a = c.args in
+    let r : length c.reply.new.out ≡ 135 = leaves_length (step_of a.calls.now a.ended) a.state.now a.memory.now a.calls.now c.reply.ensures refl in
+    simp length-take (omega arith)
 
 pub returns-in-Answered : goal.returns-in-Answered
 returns-in-Answered c =
