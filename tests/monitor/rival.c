@@ -516,7 +516,7 @@ int main(int count, char **words)
                  {"counters", counters},               {"tries", held_and_tried},
                  {"batches", batches},                 {"bad rings", bad_rings},
                  {"left rings", left_rings},           {"odd records", odd_records},
-                 {"odd bells", odd_bells},
+                 {"odd bells", odd_bells},             {"late rings", late_rings},
                  {"a ring's completions", ring_completions}, {"rings in turn", rings_in_turn},
                  {"changing records", changing_records}, {"others' objects, by rings", others_objects_by_rings},
                  {"window and share, by rings", window_and_share_by_rings}, {"a former number, by rings", former_number_by_rings},

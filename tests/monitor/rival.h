@@ -17,6 +17,7 @@ void never_closes(void);
 
 void bad_rings(void);
 void left_rings(void);
+void late_rings(void);
 void odd_records(void);
 void odd_bells(void);
 void ring_completions(void);

@@ -70,6 +70,23 @@ void left_rings(void)
     }
 }
 
+/* The same when the helper takes its time, so that each goes before its ring is sealed. */
+void late_rings(void)
+{
+    const struct packet packet = {PACKET_RING, 0, NULL, 0};
+    uint8_t bytes[PACKET_MOST_BYTES];
+    for (unsigned n = 0; n < 6; n++) {
+        struct client a;
+        client_join(&a, path);
+        const int file = memory_file(RING_BYTES, SEALS);
+        EXPECT(link_send(&a.link, bytes, put_packet(bytes, LESUNGKAP_TAPE_CALL_MARK, &packet), file));
+        close(file);
+        usleep(50000); /* until the helper has it */
+        client_close(&a);
+        usleep(100000); /* until the helper is done */
+    }
+}
+
 /* ---- requests */
 
 static unsigned by_ring(struct client *client, uint8_t kind, uint8_t number, const uint8_t *body, size_t length)

@@ -6,22 +6,22 @@ use std::path::Path;
 
 /// First byte, rows and bytes of a row of each table, in the page's order, by the names that numbers.txt uses.
 const TABLES: [[&str; 3]; 16] = [
-    ["rows.MEMORY", "1", "Layout.memoryCodec.size"],
-    ["Layout.turnBase", "1", "Layout.flagCodec.size"],
-    ["Layout.pdFlagBase", "Limits.pdCount", "Layout.flagCodec.size"],
-    ["Layout.cqFlagBase", "Limits.cqCount", "Layout.flagCodec.size"],
-    ["Layout.cqBase", "Limits.cqCount", "Layout.queueCodec.size"],
-    ["Layout.entryBase", "Layout.entryCount", "Records.completionCodec.size"],
-    ["Layout.mrFlagBase", "Limits.mrCount", "Layout.flagCodec.size"],
-    ["Layout.mrBase", "Limits.mrCount", "Layout.regionCodec.size"],
-    ["Layout.pageBase", "Layout.pageCount", "Layout.pageCodec.size"],
-    ["Layout.qpFlagBase", "Limits.qpCount", "Layout.flagCodec.size"],
-    ["Layout.qpBase", "Limits.qpCount", "Layout.pairCodec.size"],
-    ["Layout.waitingBase", "Limits.qpCount", "Layout.waitingCodec.size"],
-    ["Layout.receiveBase", "Layout.receiveCount", "Records.receiveCodec.size"],
-    ["Layout.sendHeadBase", "Limits.qpCount", "Layout.waitingCodec.size"],
-    ["Layout.kindBase", "Layout.queuedCount", "Layout.kindCodec.size"],
-    ["Layout.recordBase", "Layout.queuedCount", "Limits.recordSize"],
+    ["rows.MEMORY", "1", "Layout.memory_codec.size"],
+    ["Layout.turn_base", "1", "Layout.flag_codec.size"],
+    ["Layout.pd_flag_base", "Limits.pd_count", "Layout.flag_codec.size"],
+    ["Layout.cq_flag_base", "Limits.cq_count", "Layout.flag_codec.size"],
+    ["Layout.cq_base", "Limits.cq_count", "Layout.queue_codec.size"],
+    ["Layout.entry_base", "Layout.entry_count", "Records.completion_codec.size"],
+    ["Layout.mr_flag_base", "Limits.mr_count", "Layout.flag_codec.size"],
+    ["Layout.mr_base", "Limits.mr_count", "Layout.region_codec.size"],
+    ["Layout.page_base", "Layout.page_count", "Layout.page_codec.size"],
+    ["Layout.qp_flag_base", "Limits.qp_count", "Layout.flag_codec.size"],
+    ["Layout.qp_base", "Limits.qp_count", "Layout.pair_codec.size"],
+    ["Layout.waiting_base", "Limits.qp_count", "Layout.waiting_codec.size"],
+    ["Layout.receive_base", "Layout.receive_count", "Records.receive_codec.size"],
+    ["Layout.send_head_base", "Limits.qp_count", "Layout.waiting_codec.size"],
+    ["Layout.kind_base", "Layout.queued_count", "Layout.kind_codec.size"],
+    ["Layout.record_base", "Layout.queued_count", "Limits.record_size"],
 ];
 
 /// Compares, and gives back how many tables agree; else what differs.
@@ -30,7 +30,7 @@ pub fn compare(root: &Path) -> Result<usize, String> {
     let file = root.join("docs/STATE.md");
     let page = fs::read_to_string(&file).map_err(|error| format!("{}: {error}", file.display()))?;
     let value = |name: &str| specs.value(name).ok_or(format!("the specification has no {name}"));
-    let size = value("Layout.stateSize")?;
+    let size = value("Layout.state_size")?;
     for length in [format!("exactly **{} bytes**", grouped(size)), format!("the length is {} and", grouped(size))] {
         if !page.contains(&length) {
             return Err(format!("the page does not say '{length}'"));

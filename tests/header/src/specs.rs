@@ -1,9 +1,9 @@
 //! The numbers that the specification and the proved code give names to, read out of their text.
 //!
-//! `Limits.pdCount` is a number of a `.antt` file (its name without the ending, then the definition's), `limits.RTS` a constant of a `.rt`
-//! file. Of a layout, `Records.sendCodec.size` is its length and `Records.sendCodec.opcode` the offset of a field. A definition by cases
-//! over a number, `cond (eqb n 2) (some (Call.send ..))`, gives `Tape.callOf.Call.send` = 2; a row, `rowOf (register g) = record { number = 7; .. }`,
-//! `Commands.rowOf.register.number` = 7. `Tape.isMark[2]` is the third literal in the text of a definition, counted from 0.
+//! `Limits.pd_count` is a number of a `.antt` file (its name without the ending, then the definition's), `limits.RTS` a constant of a `.rt`
+//! file. Of a layout, `Records.send_codec.size` is its length and `Records.send_codec.opcode` the offset of a field. A definition by cases
+//! over a number, `cond (eqb n 2) (some (Call.send ..))`, gives `Tape.call_of.Call.send` = 2; a row, `row_of (register g) = record { number = 7; .. }`,
+//! `Commands.row_of.register.number` = 7. `Tape.is_mark[2]` is the third literal in the text of a definition, counted from 0.
 
 use std::collections::HashMap;
 use std::fs;
@@ -123,7 +123,7 @@ impl Specs {
         }
     }
 
-    /// `record { size = SIZE; lines = line OFFSET WIDTH (λ r. r .NAME) ..`; the field's name stands last in its parentheses.
+    /// `record { size = SIZE; lines = line OFFSET WIDTH (λ r. r.NAME) ..`, also `(λ d. (of d).NAME)`; the field's name stands last in its parentheses.
     fn layout(&mut self, stem: &str, name: &str, body: &[String]) {
         for part in body.windows(3).filter(|part| part[0] == "size" && part[1] == "=") {
             if let Some(size) = literal(&part[2]) {
@@ -131,8 +131,8 @@ impl Specs {
             }
         }
         for at in (0..body.len()).filter(|&at| body[at] == "line" && body.get(at + 3).map_or(false, |next| next == "(")) {
-            let last = body[at..].iter().take_while(|token| *token != ")").last();
-            if let (Some(offset), Some(field)) = (literal(&body[at + 1]), last.and_then(|token| token.strip_prefix('.'))) {
+            let last = inside(&body[at + 3..]).last().and_then(|token| token.rsplit_once('.'));
+            if let (Some(offset), Some((_, field))) = (literal(&body[at + 1]), last) {
                 self.add(format!("{stem}.{name}.{field}"), offset);
             }
         }
@@ -214,6 +214,20 @@ fn tokens(text: &str) -> Vec<String> {
         }
     }
     spaced.split_whitespace().map(String::from).collect()
+}
+
+/// What stands in the parentheses that the first word opens.
+fn inside(body: &[String]) -> &[String] {
+    let mut depth = 0;
+    for (at, token) in body.iter().enumerate() {
+        match token.as_str() {
+            "(" => depth += 1,
+            ")" if depth == 1 => return &body[1..at],
+            ")" => depth -= 1,
+            _ => {}
+        }
+    }
+    &[]
 }
 
 fn literal(token: &str) -> Option<u64> {
