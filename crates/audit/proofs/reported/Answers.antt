@@ -1,15 +1,11 @@
 -- The command line, a reset card, and the audit over it.
-use mathlib.Core.Path.{sym, subst, ◌∙◌}
+use mathlib.Core.Path.{sym, ◌∙◌}
 use Prim.Native.Nat.{ℕ}
-use lib.IntN.{ℤ}
 use lib.ListN.{length-replicate}
-use mir.Syntax.{w32}
-use mir.Val.{to_z, of_z}
-use mir.Facts.{to_z-of_z}
 use Rattle.tables.specs.Layout.{state_size}
 use Rattle.tables.specs.Reset.{zeros}
 use Rattle.tape.proofs.LengthLaws.{resets_none, starts_by}
-use Rattle.audit.specs.Report.{Silent, Reports}
+use Rattle.audit.specs.Report.{Silent}
 use Rattle.audit.proofs.reported.Goals as goal
 
 pub audit-requires : goal.audit-requires
@@ -20,8 +16,8 @@ audit-requires g c =
     starts_by 3 n.result n.ensures.asks n.ensures.upper_bound st.ensures.value st.ensures.state_after c.if-start.true
     m.ensures.value m.ensures.value_2
 
-pub returns-after-this : goal.returns-after-this
-returns-after-this g c =
+pub returns-then-start : goal.returns-then-start
+returns-then-start g c =
     let o = c.open-calls in
     let p = c.open-answers in
     let a = c.audit in
@@ -36,8 +32,8 @@ returns-after-this g c =
       reports = a.ensures;
     }
 
-pub returns-after-this-2 : goal.returns-after-this-2
-returns-after-this-2 g c =
+pub returns : goal.returns
+returns g c =
     let o = c.open-calls in
     let p = c.open-answers in
     let n = c.length_asked-length in

@@ -25,7 +25,7 @@ loop-rounds-preserved c =
       search rules,
       g.0,
       let n = g.1 in omega arith,
-      stand_on c.loop-rounds.invariant.6 (rw c.in-On.is at d.round.ensures.0) _ (omega arith),
+      stand_on c.loop-rounds.invariant.6 (rw c.in-On.is at d.round.ensures.round) _ (omega arith),
     )
 
 pub returns : goal.returns
