@@ -9,7 +9,7 @@ use lib.Dec.{eqb}
 use lib.IntN.{ℤ}
 use lib.ListN.{length, take, drop, length-take, length-drop, length-append, take-append-drop}
 use lib.Seq.{length-take-le, take-add, drop-drop, drop_at}
-use borrow.Author.Tests.{eqb-true, eqb-false}
+use borrow.Author.Tests.{eqb-false}
 use Rattle.tables.specs.Reset.{zeros, reset_bytes}
 use Rattle.tape.specs.declared.Found.{Found}
 use Rattle.tape.specs.declared.input.Held.{Held}
@@ -28,7 +28,7 @@ use Rattle.audit.specs.declared.Next.{Next}
 use Rattle.audit.specs.declared.Position.{Position}
 use Rattle.audit.specs.declared.Report.{Report}
 use Rattle.audit.specs.Report.{Tapes, VerdictOn, Silent, Reports}
-use Rattle.audit.specs.Inside.{shown, behind, passed, on_calls, on_answers, Follows, Stands, Round}
+use Rattle.audit.specs.Inside.{shown, behind, passed, on_calls, on_answers, Follows, Round}
 use Rattle.audit.proofs.RoundLaws.{among}
 
 -- the first bytes of a memory of zeros

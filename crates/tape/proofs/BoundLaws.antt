@@ -1,13 +1,13 @@
 -- The bounds of a record: a header is in its first six bytes, a body has at most 640, an answer record at most 135. Assumes nothing.
-use mathlib.Core.Path.{◌≡◌, refl, sym, ap, ◌∙◌}
+use mathlib.Core.Path.{◌≡◌, refl, sym, ◌∙◌}
 use mathlib.Core.Bool.{Bool, true, false, cond, ◌&&◌, ◌||◌}
-use mathlib.Core.List.{List, [], ◌∷◌, ◌++◌}
+use mathlib.Core.List.{List}
 use mathlib.Core.Option.{Option, none, some}
-use Prim.Native.Nat.{ℕ, zero, suc, ◌+◌, min, ◌≤◌, ◌<◌}
+use Prim.Native.Nat.{ℕ, ◌+◌, min, ◌≤◌}
 use native.Mathlib.Decide.{dec_lt}
 use native.Mathlib.Omega.{arith}
 use lib.Dec.{eqb, ltb, leb}
-use lib.ListN.{length, take, drop, length-take, length-drop, length-append}
+use lib.ListN.{length, take, length-take, length-append}
 use lib.Seq.{get_or-take}
 use borrow.Author.Tests.{le-ltb, lt-ltb, leb-true}
 use Rattle.wire.specs.Le.{le_at}
@@ -16,7 +16,7 @@ use Rattle.wire.proofs.ScanLaws.{and_left, and_right}
 use Rattle.validate.specs.Accept.{accepts}
 use Rattle.tables.specs.Card.{Card}
 use Rattle.tables.specs.State.{card}
-use Rattle.tables.specs.Commands.{Command, command_of, ack_size}
+use Rattle.tables.specs.Commands.{Command, ack_size}
 use Rattle.rules.specs.Answer.{is_done}
 use Rattle.rules.specs.Call.{Call, Buffer, given}
 use Rattle.rules.specs.Calls.{Result, owed}
@@ -24,10 +24,8 @@ use Rattle.rules.specs.Control.{command_ack}
 use Rattle.rules.specs.Lists.{maybe}
 use Rattle.rules.specs.declared.Answer.{Answer}
 use Rattle.rules.specs.declared.Answer.TheVariants.{Done, Held, Refused}
-use Rattle.rules.specs.Contract.{bytes_after}
-use Rattle.tape.specs.declared.Header.{Header}
 use Rattle.tape.specs.declared.Header.TheVariants.{Record, Bad, Cut}
-use Rattle.tape.specs.Tape.{is_mark, is_kind, is_good, is_length, ack_written_by, written_in, written_by, answer_head, answer_record, header_of, call_of, memory_left, answer_to, bad_record, play_by, play}
+use Rattle.tape.specs.Tape.{is_mark, is_kind, is_good, is_length, ack_written_by, written_in, written_by, answer_head, answer_record, header_of, answer_to}
 use Rattle.tape.specs.Inside.{Answers}
 
 -- ---- a header is in its first six bytes

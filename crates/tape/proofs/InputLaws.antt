@@ -11,7 +11,7 @@ use lib.IntN.{ℤ, pos, negsuc}
 use Rattle.tape.specs.declared.input.Held.{Held}
 use Rattle.tape.specs.declared.input.Read.{Read}
 use Rattle.tape.specs.System.{Event, Happened, Unreadable}
-use Rattle.tape.specs.Inside.{held_in, Lies, Room, bytes_by, is_failure, Gives, Reads}
+use Rattle.tape.specs.Inside.{held_in, Lies, bytes_by, is_failure, Gives, Reads}
 use lib.Seq.{length-take-le, take-add, take-suc, take-suc-set, drop-set-lt, drop-drop, get_or-drop}
 
 -- i bytes of the window w₀ are moved to its start, from the place `from` on

@@ -1,7 +1,7 @@
 -- However the input is cut into pieces, the program writes the answer records of the whole tape. Assumes nothing.
 use mathlib.Core.Path.{◌≡◌, refl, sym, ap, ap₂, ◌∙◌}
 use mathlib.Core.Bool.{Bool, true, false, cond, true≢false}
-use mathlib.Core.List.{List, [], ◌∷◌, ◌++◌, flatten, append-nil, append_assoc}
+use mathlib.Core.List.{List, [], ◌∷◌, ◌++◌, flatten, append_assoc}
 use Prim.Native.Nat.{ℕ, zero, suc, ◌+◌, ◌≤◌}
 use native.Mathlib.Omega.{arith}
 use lib.ListN.{length, take, drop, length-drop, length-append}
@@ -9,8 +9,8 @@ use lib.Seq.{take-append-le, drop-append-le}
 use Rattle.rules.specs.Call.{Call}
 use Rattle.rules.specs.Contract.{bytes_after}
 use Rattle.tape.specs.declared.Step.{Step}
-use Rattle.tape.specs.Tape.{step_of, call_of, call_at, memory_left, answer_to, bad_record, play_by, play, played, records}
-use Rattle.tape.specs.Pieces.{Input, unread, read_by, next, past, rounds_for, run_by, run, HoweverCut}
+use Rattle.tape.specs.Tape.{step_of, call_of, call_at, memory_left, answer_to, play_by, play, played, records}
+use Rattle.tape.specs.Pieces.{Input, unread, read_by, next, past, run_by, run, HoweverCut}
 use Rattle.tape.proofs.StepLaws.{is_more, whole_held, more_wanting, step_kept}
 
 -- ---- the answer records do not depend on the bound on their number, where it is at least the input's length

@@ -4,12 +4,12 @@ use mathlib.Core.Logic.{⊎_elim, inl, inr}
 use mathlib.Core.Bool.{Bool, true, false, cond, not, ◌&&◌, true≢false}
 use mathlib.Core.List.{List, [], ◌∷◌, ◌++◌}
 use mathlib.Core.Option.{Option, none, some}
-use Prim.Native.Nat.{ℕ, ◌+◌, ◌*◌, ◌≤◌}
+use Prim.Native.Nat.{ℕ, ◌+◌, ◌≤◌}
 use native.Mathlib.Omega.{arith}
 use lib.Dec.{eqb}
 use lib.ListN.{length, take, drop, length-append}
 use lib.Seq.{paste, length-take-le, drop-append-add, drop-drop}
-use borrow.Author.Tests.{ltb-false, ne_eqb, eq-eqb}
+use borrow.Author.Tests.{ltb-false, ne_eqb}
 use types.Run.{OneOf}
 use Rattle.wire.specs.Checks.{Check, refusal}
 use Rattle.wire.proofs.CheckLaws.{passed}
@@ -24,7 +24,7 @@ use Rattle.tables.specs.declared.Registration.{Registration}
 use Rattle.tables.specs.Commands.{ack_size, Command, number_codec, register_codec, create_qp_codec, modify_qp_codec, command_of}
 use Rattle.tables.specs.Layout.{state_size}
 use Rattle.tables.specs.Reset.{zeros, reset_bytes}
-use Rattle.rules.specs.Answer.{answered, is_done}
+use Rattle.rules.specs.Answer.{is_done}
 use Rattle.rules.specs.Call.{Call}
 use Rattle.rules.specs.Calls.{checks, reset_checks, control_checks, owed_checks, settled}
 use Rattle.rules.specs.Control.{command_ack, command_checks}

@@ -1,6 +1,6 @@
 -- Inner contracts: what the functions of this crate owe one another and the programs. No statement of the other files rests
 -- on this one. Assumes nothing.
-use Rattle.std.specs.Prelude.{◌≡◌, Bool, true, false, cond, ◌&&◌, ◌||◌, List, [], ◌∷◌, ◌++◌, ℕ, ◌+◌, ◌-◌, ◌≤◌, ◌<◌, eqb, leb, ℤ, pos, negsuc, length, take, drop}
+use Rattle.std.specs.Prelude.{◌≡◌, Bool, true, false, cond, ◌&&◌, ◌||◌, List, ◌++◌, ℕ, ◌+◌, ◌-◌, ◌≤◌, ◌<◌, eqb, leb, ℤ, pos, negsuc, length, take, drop}
 use Rattle.validate.specs.Accept.{memory_ok}
 use Rattle.tables.specs.Layout.{state_size}
 use Rattle.tables.specs.Reset.{zeros, reset_bytes}

@@ -1,5 +1,5 @@
 // An input that is read piece by piece into a window.
-ghost use Rattle.std.specs.Prelude.{◌≡◌, ◌+◌, ◌-◌, ◌≤◌, pos, length, take, drop};
+ghost use Rattle.std.specs.Prelude.{◌≡◌, ◌+◌, ◌-◌, ◌≤◌, pos, negsuc, length, take, drop};
 ghost use Rattle.tape.specs.System.{Opens};
 ghost use Rattle.tape.specs.Inside.{Gives, Reads};
 
@@ -66,7 +66,10 @@ pub fn open<R: Env + Files<File = File>>(rt: &R, i: usize) -> Source
     }
 }
 
-fn missing() -> Source {
+// One that could not be opened.
+fn missing() -> Source
+    ensures { result.number ≡ negsuc 0 }
+{
     Source {
         number: -1,
         stream: Stream::Missing,

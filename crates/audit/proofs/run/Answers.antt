@@ -1,6 +1,5 @@
 -- The invariant: where the program stands, by `Stand`; its number and the rounds left stay below the largest number.
-use mathlib.Core.Path.{◌≡◌, refl}
-use Prim.Native.Nat.{◌+◌, ◌≤◌}
+use mathlib.Core.Path.{refl}
 use native.Mathlib.Omega.{arith}
 use Rattle.audit.proofs.RunLaws.{stand_start, stand_on, stand_done, stand_out}
 use borrow.Author.Rules.{rules}

@@ -1,6 +1,5 @@
 -- The buffer after the reply has 135 bytes, and the answer fits it.
 use mathlib.Core.Path.{◌≡◌, refl, sym, ◌∙◌}
-use Prim.Native.Nat.{◌≤◌}
 use native.Mathlib.Omega.{arith}
 use lib.ListN.{length, length-take}
 use Rattle.tape.specs.declared.Found.{Found}

@@ -1,5 +1,4 @@
-use mathlib.Core.Path.{◌≡◌, refl, sym, ◌∙◌}
-use Prim.Native.Nat.{◌-◌, ◌≤◌}
+use mathlib.Core.Path.{refl, sym, ◌∙◌}
 use Rattle.tape.proofs.StartLaws.{starts_short, starts_other, starts_more, starts_end}
 use borrow.Author.Rules.{rules}
 use Rattle.tape.proofs.audit.starts.Goals as goal

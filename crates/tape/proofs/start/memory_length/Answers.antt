@@ -38,8 +38,7 @@ returns-then-value-gt-MOST_LENGTH c =
 pub loop-i-preserved : goal.loop-i-preserved
 loop-i-preserved c =
     let l = c.loop-i in
-    let digit = sym c.is_digit.ensures ∙ c.if-not-is_digit.false in
-    (
+    let digit = sym c.is_digit.ensures ∙ c.if-not-is_digit.false in (
       omega arith,
       c.if-value-gt-MOST_LENGTH.false,
       l.invariant.2 ∙ value_more c.args.text.now l.value l.i (search rules) digit c.if-value-gt-MOST_LENGTH.false,
