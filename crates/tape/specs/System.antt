@@ -13,7 +13,7 @@ pub data Event : Type 0 where
   -- a read of the file gave the answer, and left its buffer so
   read : (file answer : ℤ) → (buffer : List ℕ) → Event
 
--- The call was made and did that. No contract of the C library says so, and this is shut: a proof has it of the function that
+-- The call was made and did that. No contract of the library says so, and this is shut: a proof has it of the function that
 -- made the call alone. So what is proved from it holds for any meaning that those functions keep; tests/audit/run looks at
 -- where `by_call` is cited.
 pub Happened : Event → Type 0
