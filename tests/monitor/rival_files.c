@@ -222,7 +222,7 @@ void never_closes(void)
     EXPECT(link_send(&link, request, put_packet(request, LESUNGKAP_TAPE_CALL_MARK, &window), stuck.socket));
     close(stuck.socket);
     EXPECT(kill(monitor, SIGCONT) == 0);
-    usleep(200000); /* until the monitor has it */
+    usleep(1000000); /* until the monitor has it, on a busy machine too */
     printf("passed\n");
     fflush(stdout);
     pause();
