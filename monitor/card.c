@@ -69,58 +69,27 @@ int is_held(uint32_t result)
            lesungkap_answer(result) == LESUNGKAP_HELD_PLACE;
 }
 
-uint32_t card_send(struct card *card, uint32_t qpn, const uint8_t *bytes, size_t length)
+static uint32_t post_send(struct card *card, uint32_t qpn, const uint8_t *bytes, size_t length)
 {
     const uint64_t since = begin(card);
     const uint32_t result = lesungkap_post_send(card->state, sizeof card->state, card->memory,
                                                 card->memory_len, qpn, bytes, length);
     end(card, since);
+    return result;
+}
+
+uint32_t card_send(struct card *card, uint32_t qpn, const uint8_t *bytes, size_t length)
+{
+    const uint32_t result = post_send(card, qpn, bytes, length);
     tape_record(&card->tape, LESUNGKAP_TAPE_SEND, qpn, bytes, length, result, NULL, 0);
     return result;
 }
 
-uint32_t card_enqueue(struct card *card, uint32_t qpn, const uint8_t *bytes, size_t length)
+uint32_t card_send_again(struct card *card, uint32_t qpn, const uint8_t *bytes, size_t length)
 {
-    const uint64_t since = begin(card);
-    const uint32_t result = lesungkap_enqueue(card->state, sizeof card->state, card->memory,
-                                              card->memory_len, qpn, bytes, length);
-    end(card, since);
-    return result;
-}
-
-/* A queue's oldest send, as it is written to a tape. */
-struct head {
-    size_t length;
-    uint8_t record[LESUNGKAP_SEND_MOST_BYTES];
-};
-
-/* Which one a turn runs, it says itself, and then it has left. */
-static void copy_heads(const struct card *card, struct head heads[LESUNGKAP_QP_COUNT])
-{
-    struct lesungkap_send send;
-    for (uint32_t qpn = 0; qpn < LESUNGKAP_QP_COUNT; qpn++) {
-        const unsigned answer = lesungkap_peek_send(card->state, sizeof card->state, qpn, 0, &send);
-        heads[qpn].length =
-            answer == LESUNGKAP_DONE
-                ? lesungkap_put_send(heads[qpn].record, sizeof heads[qpn].record, &send)
-                : 0;
-    }
-}
-
-uint32_t card_turn(struct card *card)
-{
-    struct head heads[LESUNGKAP_QP_COUNT];
-    if (card->tape.recording) {
-        copy_heads(card, heads);
-    }
-    const uint64_t since = begin(card);
-    const uint32_t result =
-        lesungkap_turn(card->state, sizeof card->state, card->memory, card->memory_len);
-    end(card, since);
-    if (card->tape.recording && lesungkap_answer(result) == LESUNGKAP_DONE) {
-        const struct head *head = heads + lesungkap_served(result);
-        tape_record(&card->tape, LESUNGKAP_TAPE_SEND, lesungkap_served(result), head->record,
-                    head->length, LESUNGKAP_DONE | lesungkap_status(result) << 8, NULL, 0);
+    const uint32_t result = post_send(card, qpn, bytes, length);
+    if (!is_held(result)) {
+        tape_record(&card->tape, LESUNGKAP_TAPE_SEND, qpn, bytes, length, result, NULL, 0);
     }
     return result;
 }
@@ -175,11 +144,4 @@ unsigned card_unread(const struct card *card, uint32_t cqn)
     struct lesungkap_cq cq;
     const unsigned answer = lesungkap_peek_cq(card->state, sizeof card->state, cqn, &cq);
     return answer == LESUNGKAP_DONE ? cq.unread : 0;
-}
-
-unsigned card_queued(const struct card *card, uint32_t qpn)
-{
-    struct lesungkap_qp qp;
-    const unsigned answer = lesungkap_peek_qp(card->state, sizeof card->state, qpn, &qp);
-    return answer == LESUNGKAP_DONE ? qp.queued : 0;
 }

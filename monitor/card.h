@@ -25,11 +25,9 @@ int card_close(struct card *card);
 uint32_t card_control(struct card *card, const uint8_t *command, size_t length,
                       uint8_t ack[LESUNGKAP_ACK_MOST_BYTES]);
 uint32_t card_send(struct card *card, uint32_t qpn, const uint8_t *record, size_t length);
-/* Lets a send wait in its queue pair's queue. It is not recorded: it does nothing until its turn.
- */
-uint32_t card_enqueue(struct card *card, uint32_t qpn, const uint8_t *record, size_t length);
-/* Runs the oldest send of a queue, and records it as a send: that is what it does. */
-uint32_t card_turn(struct card *card);
+/* The same for a send that was held: it is recorded only if it isn't held again, which changes
+ * nothing. */
+uint32_t card_send_again(struct card *card, uint32_t qpn, const uint8_t *record, size_t length);
 uint32_t card_receive(struct card *card, uint32_t qpn, const uint8_t *record, size_t length);
 uint32_t card_flush(struct card *card, uint32_t qpn);
 uint32_t card_poll(struct card *card, uint32_t cqn, uint8_t completion[LESUNGKAP_COMPLETION_BYTES]);
@@ -38,8 +36,6 @@ uint32_t card_poll(struct card *card, uint32_t cqn, uint8_t completion[LESUNGKAP
 int is_held(uint32_t result);
 /* Unread completions of a queue; 0 if there is no such queue. */
 unsigned card_unread(const struct card *card, uint32_t cqn);
-/* Sends in a queue pair's queue; 0 if there is no such queue pair. */
-unsigned card_queued(const struct card *card, uint32_t qpn);
 /* Moves a queue pair to the error state. */
 uint32_t card_break(struct card *card, uint32_t qpn);
 

@@ -11,6 +11,8 @@
 #include <sys/socket.h>
 #include <unistd.h>
 
+enum { HUGE_PAGE = 2097152 };
+
 void clients_init(struct monitor *monitor)
 {
     for (unsigned n = 0; n < LESUNGKAP_CQ_COUNT; n++) {
@@ -160,7 +162,6 @@ static void give_seat_back(struct monitor *monitor, unsigned number)
     } else {
         complain(monitor, number, "a window could not be freed, its seat stays taken");
     }
-    ring_close(monitor, connection);
     connection->seat = NO_SEAT;
     counters_close(connection);
     renew(monitor);
@@ -174,10 +175,6 @@ void clients_drop(struct monitor *monitor, unsigned number)
     connection_listen_to(monitor, number, EPOLL_CTL_DEL, 0);
     if (connection->seat != NO_SEAT) {
         give_seat_back(monitor, number);
-    }
-    if (connection->answer.file != NO_FD) { /* it can't be given any more */
-        close(connection->answer.file);
-        connection->answer.file = NO_FD;
     }
     connection->state = LEAVES;
     if (!connection->busy) {
@@ -201,12 +198,8 @@ static void take_place(struct monitor *monitor, unsigned place, int fd, const st
                        struct user *user)
 {
     const struct job take = {.place = (uint8_t)place, .take = 1};
-    monitor->connections[place] = (struct connection){.state = ASKS,
-                                                      .fd = fd,
-                                                      .pid = peer->pid,
-                                                      .user = user,
-                                                      .seat = NO_SEAT,
-                                                      .answer = {.file = NO_FD}};
+    monitor->connections[place] = (struct connection){
+        .state = ASKS, .fd = fd, .pid = peer->pid, .user = user, .seat = NO_SEAT};
     ask_helper(monitor, &take, fd);
 }
 
@@ -313,8 +306,9 @@ static uint32_t join_refused(struct monitor *monitor, unsigned number,
     if (connection->seat != NO_SEAT) {
         return LESUNGKAP_IN_USE;
     }
+    const uint64_t blocks_most = (monitor->window + HUGE_PAGE) / 512; /* more take long to free */
     if (with->file_bytes <= 0 || with->file_bytes % PACKET_PAGE != 0 ||
-        (uint64_t)with->file_bytes > monitor->window || has_more_blocks(with, monitor->window)) {
+        (uint64_t)with->file_bytes > monitor->window || (uint64_t)with->file_blocks > blocks_most) {
         return LESUNGKAP_RANGE;
     }
     if (connection->user->seated >= connection->user->share || free_seat(monitor) == NO_SEAT) {
@@ -364,17 +358,14 @@ uint32_t connection_join(struct monitor *monitor, unsigned number, const struct 
     return LESUNGKAP_DONE;
 }
 
-/* A window or a ring whose pages are there; what is left to do is that the kernel writes them down.
- */
-void connection_sealed(struct monitor *monitor, unsigned number)
+/* A window whose pages are there; what is left to do is that the kernel writes them down. */
+void connection_joined(const struct monitor *monitor, unsigned number)
 {
     const struct connection *connection = monitor->connections + number;
-    struct ring *ring = connection->ring.shared;
 #ifdef MADV_POPULATE_WRITE
-    madvise(ring != NULL ? (void *)ring : window_of(monitor, connection->seat),
-            ring != NULL ? (size_t)RING_BYTES : connection->window_bytes, MADV_POPULATE_WRITE);
+    madvise(window_of(monitor, connection->seat), connection->window_bytes, MADV_POPULATE_WRITE);
+#else
+    (void)monitor;
+    (void)connection;
 #endif
-    if (ring != NULL) {
-        ring_sealed(monitor, number);
-    }
 }

@@ -56,14 +56,6 @@ struct report_of_job {
     uint8_t bytes[PACKET_MOST_BYTES];
 };
 
-enum { HUGE_PAGE = 2097152 };
-
-/* Whether a file has more blocks than memory of so many bytes needs: they take long to free. */
-static inline int has_more_blocks(const struct report_of_job *with, uint64_t bytes)
-{
-    return (uint64_t)with->file_blocks > (bytes + HUGE_PAGE) / 512;
-}
-
 /* The monitor's end. */
 struct helper {
     int fd;

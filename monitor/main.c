@@ -6,7 +6,6 @@
 #include <errno.h>
 #include <fcntl.h>
 #include <inttypes.h>
-#include <sched.h>
 #include <signal.h>
 #include <stdio.h>
 #include <sys/epoll.h>
@@ -16,7 +15,7 @@
 #include <unistd.h>
 
 /* What the loop waits for: clients with a seat, by their place, and these. */
-enum { SIGNALS = BELLS + 1, HELPER, UNSEATED, PAUSE, SOURCES = PAUSE + SEATS_MOST };
+enum { SIGNALS = PLACES, HELPER, UNSEATED, PAUSE, SOURCES };
 /* What UNSEATED is a set of: newcomers, and for each operator its connections without a seat. */
 enum { LISTENER, FIRST_OPERATOR };
 /* Of the monitor's time, those without a seat get one part of four while others ask. */
@@ -122,16 +121,13 @@ static void serve_seated(const struct epoll_event *events, int count)
             owed += clock_now() - since;
         }
     }
-    int served = 0;
     for (int n = 0; n < count; n++) {
         const uint32_t source = events[n].data.u32;
         if (source < PLACES && monitor.connections[source].state == ASKS) {
             clients_serve(&monitor, source);
-            served = 1;
+            seated_at = clock_now();
         }
     }
-    served |= rings_serve(&monitor);
-    seated_at = served ? clock_now() : seated_at;
 }
 
 static void take_report(void)
@@ -155,43 +151,9 @@ static void round_of(const struct epoll_event *events, int count)
     }
 }
 
-/* Whether clients with a seat are waited for without sleeping, as they have just asked. */
-static int spins(void)
-{
-    return monitor.spin > 0 && clock_now() - seated_at < monitor.spin;
-}
-
-/* How long to wait for the next event, in milliseconds; others run while this one spins. */
 static int patience(void)
 {
-    if (monitor.changed && monitor.queues != 0) {
-        return 0;
-    }
-    if (spins()) {
-        if (!rings_ask(&monitor)) {
-            sched_yield();
-        }
-        return 0;
-    }
-    if (!rings_sleep(&monitor)) {
-        return 0;
-    }
-    return monitor.accept_after > 0 ? 1000 : -1;
-}
-
-/* Shows what the round has done, once it is on the tape. */
-static void end_round(void)
-{
-    if (monitor.changed && !monitor.ended) {
-        work_turn(&monitor);
-    }
-    rings_fill(&monitor);
-    if (!tape_commit(&monitor.card.tape)) {
-        monitor.ended = 1;
-        return;
-    }
-    rings_tell(&monitor);
-    events_tell(&monitor);
+    return monitor.changed ? 0 : monitor.accept_after > 0 ? 1000 : -1;
 }
 
 /* Serves until it is told to end, or can't go on. */
@@ -203,17 +165,15 @@ static int serve(void)
             wait_for(unseated, listener, EPOLLIN, LISTENER)) {
             monitor.accept_after = 0;
         }
-        const int timeout = patience();
-        const int count = epoll_wait(monitor.epoll, events, SOURCES, timeout);
+        const int count = epoll_wait(monitor.epoll, events, SOURCES, patience());
         if (count < 0 && errno != EINTR) {
             return failed("epoll", strerror(errno));
         }
-        if (timeout != 0) {
-            rings_wake(&monitor);
-        }
-        monitor.round++;
         round_of(events, count);
-        end_round();
+        if (monitor.changed && !monitor.ended) {
+            work_turn(&monitor);
+        }
+        monitor.ended |= !tape_commit(&monitor.card.tape);
     }
     return 1;
 }
@@ -326,7 +286,6 @@ int main(int count, char **words)
     fill_standard();
     clients_init(&monitor);
     monitor.card.timed = options.times;
-    monitor.spin = options.spin * 1000;
     if (!open_all(&options)) {
         if (listener >= 0) {
             unlink(options.socket);

@@ -5,9 +5,10 @@
 
 #include "card.h"
 #include "helper.h"
+#include "packet.h"
 #include "report.h"
-#include "ring.h"
 
+#include <stdatomic.h>
 #include <sys/types.h>
 
 enum kind { PD, CQ, MR, QP, KINDS };
@@ -16,8 +17,7 @@ enum {
     OBJECTS_MOST = LESUNGKAP_MR_COUNT, /* of the largest table */
     KEYS_OF_A_SLOT = 255,
     OPERATOR_NAME_BYTES = 33,
-    NO_SEAT = -1,
-    BELLS = PLACES /* what epoll says of a ring's eventfd, and of a connection its place */
+    NO_SEAT = -1
 };
 
 /* What a request is answered with. */
@@ -47,17 +47,6 @@ struct user {
  * gone and its files have not. */
 enum state { FREE, ASKS, WAITS, LEAVES };
 
-/* A client's ring, and what the monitor knows of it by itself. */
-struct ring_of_client {
-    struct ring *shared; /* or NULL */
-    int bell;            /* the eventfd */
-    uint32_t taken;      /* requests */
-    uint32_t answered;
-    uint32_t put[LESUNGKAP_CQ_COUNT]; /* completions */
-    uint32_t held[LESUNGKAP_QP_COUNT];
-    int news; /* that the client can't see yet */
-};
-
 struct connection {
     enum state state;
     int fd;
@@ -68,26 +57,20 @@ struct connection {
     uint64_t window_bytes; /* of its window, those that its memory fills */
     unsigned has[KINDS];
     _Atomic uint32_t *counters; /* its page of them, or NULL */
-    struct ring_of_client ring;
-    uint64_t round;       /* in which it was served last */
-    int by_ring;          /* its request came there */
-    int busy;             /* the helper has a job of it */
-    struct job job;       /* the helper's next */
-    pid_t sender;         /* of the packet that came with a file */
-    struct answer answer; /* waits for the helper */
+    int busy;                   /* the helper has a job of it */
+    struct job job;             /* the helper's next */
+    pid_t sender;               /* of the packet that came with a file */
+    struct answer answer;       /* waits for the helper */
 };
 
-/* Sends of a queue pair that wait and that the card's queue has no room for, the oldest first. */
-enum { HELD_HERE_MOST = PACKET_HELD_MOST - LESUNGKAP_QP_MOST_SENDS };
-
+/* Sends of a queue pair that wait, the oldest first. */
 struct held {
-    uint32_t left; /* how many that have waited have left the card's queue */
     unsigned first;
     unsigned count;
     struct {
         uint16_t length;
         uint8_t record[LESUNGKAP_SEND_MOST_BYTES];
-    } at[HELD_HERE_MOST];
+    } at[PACKET_HELD_MOST];
 };
 
 /* What a queue pair's number stands for: given counts how often it was handed out, and is 0 while
@@ -103,7 +86,6 @@ struct queue_pair {
 struct events {
     int channel; /* socket of the client's */
     int armed;
-    int due;         /* one is to be told of, once the client can see the completion */
     unsigned unread; /* before the call that is watched */
 };
 
@@ -113,7 +95,6 @@ struct monitor {
     unsigned seats;
     uint64_t window; /* bytes of each seat */
     uint8_t taken[SEATS_MOST];
-    uint8_t rings[SEATS_MOST];           /* connection + 1 of who has the seat and a ring */
     struct lines seat_lines[SEATS_MOST]; /* about who has the seat */
     struct user operators[OPERATORS_MOST];
     unsigned operator_count;
@@ -122,13 +103,9 @@ struct monitor {
     struct queue_pair pairs[LESUNGKAP_QP_COUNT];
     struct held held[LESUNGKAP_QP_COUNT];
     struct events events[LESUNGKAP_CQ_COUNT];
-    uint32_t queues;       /* bits of queue pairs that sends wait on */
+    uint32_t turn;         /* queue pair whose held send is tried first */
     int changed;           /* a held send may be able to run */
     int ended;             /* service ends, for want of the tape or of the helper */
-    int completed;         /* a queue may have got completions */
-    uint32_t left;         /* bits of queues whose owner's ring has no room for them */
-    uint64_t round;        /* of the loop */
-    uint64_t spin;         /* nanoseconds that rings are looked at before the monitor sleeps */
     int epoll;             /* of clients with a seat, and of all else */
     uint64_t accept_after; /* newcomers wait until then, by the clock; 0: they don't */
     uint64_t clients;      /* that have joined */
@@ -174,18 +151,12 @@ void connection_free_place(struct monitor *monitor, unsigned number);
 /* Maps a client's memory into a window, and what is to be done after the helper has sealed it. */
 uint32_t connection_join(struct monitor *monitor, unsigned number, const struct report_of_job *with,
                          int fd);
-void connection_sealed(struct monitor *monitor, unsigned number);
+void connection_joined(const struct monitor *monitor, unsigned number);
 
 /* ---- serve.c: requests */
 
-/* Writes an answer's record; its length. */
-size_t put_answer(uint8_t *bytes, const struct answer *answer);
-
 /* Reads and answers one request. */
 void clients_serve(struct monitor *monitor, unsigned number);
-/* The same for a request of a ring, by its bytes. */
-void clients_serve_record(struct monitor *monitor, unsigned number, const uint8_t *bytes,
-                          size_t length);
 /* The same for one of an operator's connections without a seat; one that has hung up goes. */
 void clients_serve_unseated(struct monitor *monitor, struct user *user);
 /* Goes on where the helper has done a connection's job. */
@@ -214,11 +185,9 @@ uint32_t work_flush(struct monitor *monitor, unsigned client, uint32_t qpn);
 void work_poll(struct monitor *monitor, unsigned client, uint32_t cqn, struct answer *answer);
 /* Says what a queue pair's oldest held send waits for (waits.c). */
 void work_waits(struct monitor *monitor, unsigned client, uint32_t qpn, struct answer *answer);
-/* Has the card run sends that were held, one of each queue pair at most. */
+/* Gives each queue pair's oldest held send one try. */
 void work_turn(struct monitor *monitor);
 void work_forget(struct monitor *monitor, uint32_t qpn);
-/* How many sends of a queue pair are held. */
-unsigned work_held(const struct monitor *monitor, uint32_t qpn);
 
 /* Takes the socket if it answers LESUNGKAP_DONE: *fd is NO_FD then. */
 uint32_t events_channel(struct monitor *monitor, unsigned client, uint32_t cqn, int *fd);
@@ -227,8 +196,6 @@ void events_forget(struct monitor *monitor, unsigned client, uint32_t cqn);
 /* Around a call that may put completions. */
 void events_before(struct monitor *monitor);
 void events_after(struct monitor *monitor);
-/* Sends the events that are due. */
-void events_tell(struct monitor *monitor);
 
 /* ---- counters.c: unread completions, as a client sees them without asking */
 
@@ -238,29 +205,6 @@ void counters_close(struct connection *connection);
 /* Writes how many completions a queue has, for its owner; none for one that it has no more. */
 void counters_show(struct monitor *monitor, uint32_t cqn);
 void counters_hide(struct connection *connection, uint32_t cqn);
-
-/* ---- rings.c: requests and completions in memory that is shared with clients */
-
-/* Takes a client's ring, which the helper seals then; *file is to be passed to it if this answers
- * LESUNGKAP_DONE. */
-uint32_t ring_open(struct monitor *monitor, unsigned client, const struct report_of_job *with,
-                   int fd, int *file);
-/* It is there: from now on it is looked at. */
-void ring_sealed(struct monitor *monitor, unsigned client);
-void ring_close(struct monitor *monitor, struct connection *connection);
-/* Writes an answer, which the client sees when rings_tell is called. */
-void ring_answer(struct connection *connection, const struct answer *answer);
-/* Serves one record of each ring; whether there was one. */
-int rings_serve(struct monitor *monitor);
-/* Polls what the card has for clients with a ring, as far as there is room. */
-void rings_fill(struct monitor *monitor);
-/* Shows all of it to the clients, and wakes those that sleep. */
-void rings_tell(struct monitor *monitor);
-/* Whether there is something to do in a ring. */
-int rings_ask(struct monitor *monitor);
-/* Whether the monitor may sleep: who asks by a ring from now on writes to its eventfd. */
-int rings_sleep(struct monitor *monitor);
-void rings_wake(struct monitor *monitor);
 
 /* ---- show.c: statistics */
 

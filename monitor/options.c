@@ -3,10 +3,7 @@
 #include <errno.h>
 #include <stdlib.h>
 
-enum {
-    TAPE_MOST_MEMORY = 1048576, /* what lesungkap-replay takes */
-    SPIN_MOST = 1000000         /* microseconds */
-};
+enum { TAPE_MOST_MEMORY = 1048576 }; /* what lesungkap-replay takes */
 
 const char usage[] =
     "usage: lesungkap-monitor SOCKET [OPTION...]\n"
@@ -27,7 +24,6 @@ const char usage[] =
     "                           and so on where it exists, and when the card is reset\n"
     "  --tape-size BYTES        go on in FILE.part0002 and so on when a part is so large\n"
     "  --tape-full serve|stop   what to do where the tape can't be written (serve)\n"
-    "  --spin MICROSECONDS      after a request, look at rings for so long before sleeping (0)\n"
     "  --times                  at the end, say how long requests and calls took\n"
     "--show and SIGUSR1 show what is live, SIGTERM and SIGINT end it.\n";
 
@@ -54,9 +50,6 @@ static int number_option(struct options *options, const char *name, const char *
     if (strcmp(name, "--tape-size") == 0) {
         return number_of(value, INT64_MAX, &options->tape.part_bytes) ||
                failed(value, "no length of a tape's part");
-    }
-    if (strcmp(name, "--spin") == 0) {
-        return number_of(value, SPIN_MOST, &options->spin) || failed(value, "no time to spin");
     }
     return failed(name, "no such option (--help)");
 }

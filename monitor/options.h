@@ -11,7 +11,6 @@ struct options {
     struct tape_options tape;
     const char *mode;  /* of the socket; NULL: not said */
     const char *group; /* of the socket; NULL: the user's */
-    uint64_t spin;     /* microseconds; 0: not said */
     int lock;
     int times;
 };

@@ -26,8 +26,6 @@ enum {
                              bytes for each completion queue, how many completions are unread */
     PACKET_BATCH = 23,    /* body: up to PACKET_BATCH_MOST records of kinds 2 to 5; the answer's
                              body: the record of each one's answer */
-    PACKET_RING = 24,     /* with the file of the client's ring (ring.h); the answer comes with the
-                             eventfd that wakes the monitor */
 
     PACKET_MOST_BODY = 1024, /* of a batch; of others LESUNGKAP_TAPE_MOST_BODY */
     PACKET_MOST_BYTES = LESUNGKAP_TAPE_HEADER_BYTES + PACKET_MOST_BODY,
@@ -35,7 +33,6 @@ enum {
     PACKET_POLL_BYTES = LESUNGKAP_COMPLETION_BYTES + 1, /* last: how many completions are left */
     PACKET_WAITS_BYTES = 8,
     PACKET_BATCH_MOST = 16,
-    PACKET_WAKE_BYTES = 1, /* of what wakes a client, which is no answer */
     PACKET_PAGE = 4096,
     PACKET_HELD_MOST = 1024, /* sends that wait on a queue pair */
     PACKET_NAME_SHIFT = 8    /* of a queue pair's name: its number below, above it whose it is and

@@ -26,7 +26,8 @@ static void show(const struct monitor *monitor, unsigned client, uint32_t number
     answer->result = answer->length > 0 ? LESUNGKAP_DONE : LESUNGKAP_NOTHING;
 }
 
-size_t put_answer(uint8_t *bytes, const struct answer *answer)
+/* Writes an answer's record; its length. */
+static size_t put_answer(uint8_t *bytes, const struct answer *answer)
 {
     const struct packet packet = {(uint8_t)lesungkap_answer(answer->result),
                                   (uint8_t)lesungkap_status(answer->result), answer->body,
@@ -114,7 +115,6 @@ static void run(struct monitor *monitor, unsigned client, const struct packet *p
     case PACKET_SHOW: show(monitor, client, number, answer); return;
     case PACKET_COUNTERS: answer->result = counters_open(monitor, client, &answer->file); return;
     case PACKET_WAITS: work_waits(monitor, client, number, answer); return;
-    case PACKET_RING: answer->result = ring_open(monitor, client, with, *fd, &answer->file); return;
     default: answer->result = LESUNGKAP_BAD_TAPE_RECORD;
     }
 }
@@ -132,34 +132,20 @@ static int reply(int fd, struct answer *answer)
     return sent;
 }
 
-/* Gives the answer to a packet, once it is on the tape; 0 if the client was dropped. */
-static int answer_packet(struct monitor *monitor, unsigned number)
+/* Gives the answer, once it is on the tape, and listens again. */
+static void finish(struct monitor *monitor, unsigned number)
 {
     struct connection *connection = monitor->connections + number;
     if (!tape_commit(&monitor->card.tape)) {
         monitor->ended = 1;
-        return 0;
+        return;
     }
-    const int taken = reply(connection->fd, &connection->answer);
-    if (!taken) {
+    if (!reply(connection->fd, &connection->answer)) {
         if (errno == EAGAIN) {
             complain(monitor, number, "a client was dropped: it does not take its answers");
         }
         clients_drop(monitor, number);
-    }
-    return taken;
-}
-
-/* Gives the answer and listens again. One to a ring is shown at the round's end. */
-static void finish(struct monitor *monitor, unsigned number)
-{
-    struct connection *connection = monitor->connections + number;
-    if (connection->by_ring) {
-        ring_answer(connection, &connection->answer);
-    } else if (!answer_packet(monitor, number)) {
-        return;
-    }
-    if (connection->state == WAITS) {
+    } else if (connection->state == WAITS) {
         connection->state = ASKS;
         connection_listen_to(monitor, number, EPOLL_CTL_MOD, EPOLLIN | EPOLLRDHUP);
     }
@@ -189,10 +175,8 @@ static void serve(struct monitor *monitor, unsigned number, const uint8_t *bytes
     connection->sender = with != NULL ? with->sender : 0;
     connection->user->requests++;
     monitor->requests++;
-    connection->round = monitor->round;
     if (length <= PACKET_MOST_BYTES &&
-        get_packet(bytes, length, LESUNGKAP_TAPE_CALL_MARK, &packet) &&
-        (!connection->by_ring || ring_takes(packet.third))) {
+        get_packet(bytes, length, LESUNGKAP_TAPE_CALL_MARK, &packet)) {
         run(monitor, number, &packet, with, fd, &connection->answer);
     }
     close_first(fd);
@@ -205,20 +189,11 @@ static void serve(struct monitor *monitor, unsigned number, const uint8_t *bytes
     }
 }
 
-void clients_serve_record(struct monitor *monitor, unsigned number, const uint8_t *bytes,
-                          size_t length)
-{
-    int no_file = NO_FD;
-    monitor->connections[number].by_ring = 1;
-    serve(monitor, number, bytes, length, NULL, &no_file);
-}
-
 void clients_serve(struct monitor *monitor, unsigned number)
 {
     struct connection *connection = monitor->connections + number;
     uint8_t bytes[PACKET_MOST_BYTES];
     int with_files, no_file = NO_FD;
-    connection->by_ring = 0;
     const ssize_t length = receive_packet(connection->fd, bytes, &with_files);
     if (with_files) {
         connection->job.read = 1;
@@ -265,7 +240,7 @@ static void go_on(struct monitor *monitor, const struct report_of_job *done, int
         clients_drop(monitor, done->place);
     } else if (!done->read) {
         if (done->sealed) {
-            connection_sealed(monitor, done->place);
+            connection_joined(monitor, done->place);
         }
         finish(monitor, done->place);
     } else if (done->length >= 0) {

@@ -15,7 +15,6 @@ struct live {
     unsigned of[KINDS];
     unsigned seats;
     unsigned held;
-    unsigned queued; /* of them in the card */
 };
 
 /* What the connections of an operator have. */
@@ -32,7 +31,7 @@ static struct live live_of(const struct monitor *monitor, const struct user *use
     for (uint32_t n = 0; n < LESUNGKAP_QP_COUNT; n++) {
         const unsigned owner = monitor->owner[QP][n];
         live.held +=
-            owner > 0 && monitor->connections[owner - 1].user == user ? work_held(monitor, n) : 0;
+            owner > 0 && monitor->connections[owner - 1].user == user ? monitor->held[n].count : 0;
     }
     return live;
 }
@@ -82,15 +81,13 @@ static int live_line(const struct monitor *monitor, char *text, size_t size)
         live.seats += monitor->taken[n];
     }
     for (uint32_t n = 0; n < LESUNGKAP_QP_COUNT; n++) {
-        live.held += work_held(monitor, n);
-        live.queued += card_queued(&monitor->card, n);
+        live.held += monitor->held[n].count;
     }
-    return snprintf(
-        text, size,
-        "live: %u clients, %u PD, %u CQ, %u MR, %u QP, %u held sends, %u of them in the "
-        "card; %" PRIu64 " clients and %" PRIu64 " requests so far",
-        live.seats, live.of[PD], live.of[CQ], live.of[MR], live.of[QP], live.held, live.queued,
-        monitor->clients, monitor->requests);
+    return snprintf(text, size,
+                    "live: %u clients, %u PD, %u CQ, %u MR, %u QP, %u held sends; %" PRIu64
+                    " clients and %" PRIu64 " requests so far",
+                    live.seats, live.of[PD], live.of[CQ], live.of[MR], live.of[QP], live.held,
+                    monitor->clients, monitor->requests);
 }
 
 /* Root and the monitor's own user see all, another operator its own line. */

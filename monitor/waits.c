@@ -26,16 +26,17 @@ void work_waits(struct monitor *monitor, unsigned client, uint32_t qpn, struct a
         answer->result = LESUNGKAP_NOT_LIVE;
         return;
     }
-    const struct card *card = &monitor->card;
+    const struct held *held = monitor->held + qpn;
     struct lesungkap_send send;
     uint32_t what = PACKET_WAITS_FOR_NOTHING;
     if (peer_gone(monitor, qpn)) {
         what = PACKET_WAITS_FOR_GONE;
-    } else if (lesungkap_peek_send(card->state, sizeof card->state, qpn, 0, &send) ==
-               LESUNGKAP_DONE) {
+    } else if (held->count > 0 &&
+               lesungkap_get_send(held->at[held->first].record, held->at[held->first].length,
+                                  &send) == LESUNGKAP_DONE) {
         what = reason(monitor, qpn, &send);
     }
-    put_number(answer->body, 4, monitor->held[qpn].left);
+    put_number(answer->body, 4, held->first);
     put_number(answer->body + 4, 4, what);
     answer->length = PACKET_WAITS_BYTES;
     answer->result = LESUNGKAP_DONE;

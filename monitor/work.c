@@ -1,6 +1,5 @@
-/* Work requests, polls and events. A send that the card holds waits in its queue pair's queue,
- * which the card serves in turn; what that has no room for waits here. On a queue pair in error the
- * card flushes it at its turn. */
+/* Work requests, polls and events. A send that the card holds waits here, in the order of its queue
+ * pair, and is tried again in turn; on a queue pair in error the card flushes it then. */
 #define _GNU_SOURCE
 #include "monitor.h"
 
@@ -18,30 +17,25 @@ void events_before(struct monitor *monitor)
     }
 }
 
+/* The event is the number of the queue. It is lost where the client's socket is full or is gone:
+ * that client does not listen. */
+static void notify(struct events *events, uint32_t cqn)
+{
+    const uint8_t number = (uint8_t)cqn;
+    events->armed = 0;
+    if (events->channel != NO_FD) {
+        (void)!send(events->channel, &number, sizeof number, MSG_DONTWAIT | MSG_NOSIGNAL);
+    }
+}
+
 void events_after(struct monitor *monitor)
 {
     for (uint32_t cqn = 0; cqn < LESUNGKAP_CQ_COUNT; cqn++) {
         struct events *events = monitor->events + cqn;
         counters_show(monitor, cqn);
         if (events->armed && card_unread(&monitor->card, cqn) > events->unread) {
-            events->armed = 0;
-            events->due = 1;
+            notify(events, cqn);
         }
-    }
-    monitor->completed = 1;
-}
-
-/* The event is the number of the queue. It is lost where the client's socket is full or is gone:
- * that client does not listen. */
-void events_tell(struct monitor *monitor)
-{
-    for (uint32_t cqn = 0; cqn < LESUNGKAP_CQ_COUNT; cqn++) {
-        struct events *events = monitor->events + cqn;
-        const uint8_t number = (uint8_t)cqn;
-        if (events->due && events->channel != NO_FD) {
-            (void)!send(events->channel, &number, sizeof number, MSG_DONTWAIT | MSG_NOSIGNAL);
-        }
-        events->due = 0;
     }
 }
 
@@ -54,7 +48,7 @@ void events_forget(struct monitor *monitor, unsigned client, uint32_t cqn)
         monitor->connections[client].job.drop_channels |= (uint64_t)1 << cqn;
     }
     events->channel = NO_FD;
-    events->armed = events->due = 0;
+    events->armed = 0;
 }
 
 uint32_t events_channel(struct monitor *monitor, unsigned client, uint32_t cqn, int *fd)
@@ -84,12 +78,13 @@ uint32_t events_arm(struct monitor *monitor, unsigned client, uint32_t cqn)
 
 /* ---- sends */
 
-/* A send of a queue pair that no other waits on. */
-static uint32_t send_now(struct monitor *monitor, uint32_t qpn, const uint8_t *record,
-                         size_t length)
+/* A send that is made for the first time, or again. */
+static uint32_t send_once(struct monitor *monitor, uint32_t qpn, const uint8_t *record,
+                          size_t length, int again)
 {
     events_before(monitor);
-    uint32_t result = card_send(&monitor->card, qpn, record, length);
+    uint32_t result = again ? card_send_again(&monitor->card, qpn, record, length)
+                            : card_send(&monitor->card, qpn, record, length);
     if (lesungkap_answer(result) == LESUNGKAP_HELD_PEER && peer_gone(monitor, qpn)) {
         card_break(&monitor->card, qpn);
         result = card_send(&monitor->card, qpn, record, length);
@@ -99,22 +94,21 @@ static uint32_t send_now(struct monitor *monitor, uint32_t qpn, const uint8_t *r
     return result;
 }
 
-/* Lets a send wait: in the card, where none waits here and its queue has room. */
-static uint32_t hold(struct monitor *monitor, uint32_t qpn, const uint8_t *record, size_t length,
-                     uint32_t result)
+static uint32_t hold(struct held *held, const uint8_t *record, size_t length, uint32_t result)
 {
-    struct held *held = monitor->held + qpn;
-    if (held->count == 0 && card_enqueue(&monitor->card, qpn, record, length) == LESUNGKAP_DONE) {
-        monitor->queues |= 1u << qpn;
-        return result;
-    }
-    if (held->count == HELD_HERE_MOST) {
+    if (held->count == PACKET_HELD_MOST) {
         return LESUNGKAP_FULL;
     }
-    const unsigned place = (held->first + held->count++) % HELD_HERE_MOST;
+    const unsigned place = (held->first + held->count++) % PACKET_HELD_MOST;
     memcpy(held->at[place].record, record, length);
     held->at[place].length = (uint16_t)length;
     return result;
+}
+
+static void drop_first(struct held *held)
+{
+    held->first = (held->first + 1) % PACKET_HELD_MOST;
+    held->count--;
 }
 
 uint32_t work_send(struct monitor *monitor, unsigned client, uint32_t qpn, const uint8_t *record,
@@ -128,81 +122,39 @@ uint32_t work_send(struct monitor *monitor, unsigned client, uint32_t qpn, const
     if (test != LESUNGKAP_DONE) {
         return test;
     }
-    if (monitor->queues & 1u << qpn) {
-        return hold(monitor, qpn, record, length, LESUNGKAP_HELD_PLACE);
+    struct held *held = monitor->held + qpn;
+    if (held->count > 0) {
+        return hold(held, record, length, LESUNGKAP_HELD_PLACE);
     }
-    const uint32_t result = send_now(monitor, qpn, record, length);
-    return is_held(result) ? hold(monitor, qpn, record, length, result) : result;
+    const uint32_t result = send_once(monitor, qpn, record, length, 0);
+    return is_held(result) ? hold(held, record, length, result) : result;
 }
 
-/* ---- turns */
-
-/* The card flushes what is queued on a queue pair in error: so ends what waits for one who has
- * gone. */
-static void break_forsaken(struct monitor *monitor)
-{
-    const struct card *card = &monitor->card;
-    struct lesungkap_qp qp;
-    for (uint32_t qpn = 0; qpn < LESUNGKAP_QP_COUNT; qpn++) {
-        if ((monitor->queues & 1u << qpn) && peer_gone(monitor, qpn) &&
-            lesungkap_peek_qp(card->state, sizeof card->state, qpn, &qp) == LESUNGKAP_DONE &&
-            qp.state == LESUNGKAP_QP_RTS) {
-            card_break(&monitor->card, qpn);
-        }
-    }
-}
-
-/* A send has left its queue: the next that waits here takes the place. */
-static void follow(struct monitor *monitor, uint32_t qpn)
+static void try_first(struct monitor *monitor, uint32_t qpn)
 {
     struct held *held = monitor->held + qpn;
-    held->left++;
-    if (held->count > 0 && card_enqueue(&monitor->card, qpn, held->at[held->first].record,
-                                        held->at[held->first].length) == LESUNGKAP_DONE) {
-        held->first = (held->first + 1) % HELD_HERE_MOST;
-        held->count--;
+    const uint32_t result =
+        send_once(monitor, qpn, held->at[held->first].record, held->at[held->first].length, 1);
+    if (!is_held(result)) {
+        drop_first(held);
     }
-    if (work_held(monitor, qpn) == 0) {
-        monitor->queues &= ~(1u << qpn);
-    }
-}
-
-/* Has the card run one queued send; 0 if there is none that isn't held. */
-static int take_turn(struct monitor *monitor)
-{
-    events_before(monitor);
-    const uint32_t result = card_turn(&monitor->card);
-    events_after(monitor);
-    if (lesungkap_answer(result) != LESUNGKAP_DONE) {
-        return 0;
-    }
-    monitor->changed = 1;
-    follow(monitor, lesungkap_served(result));
-    return 1;
 }
 
 void work_turn(struct monitor *monitor)
 {
     monitor->changed = 0;
-    if (monitor->queues == 0) {
-        return;
+    for (uint32_t n = 0; n < LESUNGKAP_QP_COUNT; n++) {
+        const uint32_t qpn = (monitor->turn + n) % LESUNGKAP_QP_COUNT;
+        if (monitor->held[qpn].count > 0) {
+            try_first(monitor, qpn);
+        }
     }
-    break_forsaken(monitor);
-    for (unsigned n = 0; n < LESUNGKAP_QP_COUNT && take_turn(monitor); n++) {
-    }
+    monitor->turn = (monitor->turn + 1) % LESUNGKAP_QP_COUNT;
 }
 
-/* The card drops what it has itself. */
 void work_forget(struct monitor *monitor, uint32_t qpn)
 {
     monitor->held[qpn].count = 0;
-    monitor->queues &= ~(1u << qpn);
-}
-
-unsigned work_held(const struct monitor *monitor, uint32_t qpn)
-{
-    return monitor->queues & 1u << qpn ? card_queued(&monitor->card, qpn) + monitor->held[qpn].count
-                                       : 0;
 }
 
 /* ---- receives, flushes, polls */

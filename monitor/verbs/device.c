@@ -190,12 +190,7 @@ int join_monitor(struct lk_context *context)
                  lesungkap_answer_text(lesungkap_answer(result)));
         return link_errno(result);
     }
-    result = ask_ring(&context->link);
-    if (result != LESUNGKAP_DONE) {
-        pages_close(&context->pages);
-        complain("the monitor takes no ring", lesungkap_answer_text(lesungkap_answer(result)));
-        return link_errno(result);
-    }
+    ask_counters(&context->link); /* where there are none, every poll is asked for */
     context->joined = 1;
     return 0;
 }

@@ -49,7 +49,7 @@ int flushes_into(struct lk_context *context, const struct lk_cq *cq)
     for (unsigned n = 0; n < NUMBERS; n++) {
         const struct lk_qp *qp = context->qps[n];
         if (qp != NULL && qp->broken && qp->base.recv_cq == &cq->base &&
-            qp->in_card + (int)qp->waiting > 0) {
+            qp->in_card + qp->waiting > 0) {
             return 1;
         }
     }

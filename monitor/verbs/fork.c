@@ -190,14 +190,13 @@ static void after_in_child(void)
     place_copies();
     after();
     for (struct lk_context *context = contexts; context != NULL; context = context->next) {
+        pthread_mutex_init(&context->lock, NULL);
         limits_init(context);
         link_lose(&context->link);
         context->extended.context.cmd_fd = context->link.fd;
         pages_lose(&context->pages);
-        pthread_mutex_unlock(&context->link.lock);
-        pthread_mutex_unlock(&context->lock);
     }
-    contexts_unlock_all();
+    pthread_mutex_init(&contexts_lock, NULL);
 }
 
 static __attribute__((constructor)) void begin(void)

@@ -29,8 +29,9 @@ int link_open(struct link *link, const char *path)
         close(link->fd);
         return why;
     }
-    *link = (struct link){.fd = link->fd};
     pthread_mutex_init(&link->lock, NULL);
+    link->counters = NULL;
+    link->looks = 0;
     return 0;
 }
 
@@ -54,7 +55,6 @@ void link_close(struct link *link)
         close(link->fd);
     }
     link_drop_counters(link);
-    link_drop_ring(link, 0);
     pthread_mutex_destroy(&link->lock);
 }
 
@@ -62,8 +62,8 @@ void link_lose(struct link *link)
 {
     close(link->fd);
     link_drop_counters(link);
-    link_drop_ring(link, 1);
     link->fd = -1;
+    pthread_mutex_init(&link->lock, NULL);
 }
 
 int link_errno(uint32_t result)
@@ -105,7 +105,7 @@ size_t link_exchange(struct link *link, const uint8_t *request, size_t length, i
     if (link_send(link, request, length, file)) {
         do {
             got = recv(link->fd, answer, PACKET_MOST_BYTES, 0);
-        } while ((got < 0 && errno == EINTR) || got == PACKET_WAKE_BYTES);
+        } while (got < 0 && errno == EINTR);
     }
     pthread_mutex_unlock(&link->lock);
     return got > 0 ? (size_t)got : 0;
@@ -118,13 +118,8 @@ uint32_t link_ask(struct link *link, unsigned kind, uint32_t number, const uint8
 {
     uint8_t request[PACKET_MOST_BYTES];
     const struct packet packet = {(uint8_t)kind, (uint8_t)number, body, length};
-    const int by_ring =
-        link->ring != NULL && file < 0 && ring_takes(kind) && length <= LESUNGKAP_TAPE_MOST_BODY;
-    const size_t got =
-        by_ring
-            ? ring_exchange(link, &packet, asked->bytes)
-            : link_exchange(link, request, put_packet(request, LESUNGKAP_TAPE_CALL_MARK, &packet),
-                            file, asked->bytes);
+    const size_t got = link_exchange(
+        link, request, put_packet(request, LESUNGKAP_TAPE_CALL_MARK, &packet), file, asked->bytes);
     if (!get_packet(asked->bytes, got, LESUNGKAP_TAPE_ANSWER_MARK, &asked->packet)) {
         return asked->result = LINK_LOST;
     }
@@ -281,11 +276,8 @@ uint32_t ask_destroy_cq(struct link *link, uint32_t cqn)
     const struct lesungkap_destroy_cq data = {cqn};
     uint8_t command[LESUNGKAP_COMMAND_MOST_BYTES];
     struct asked asked;
-    ask_command(link, command, lesungkap_put_destroy_cq(command, sizeof command, &data), &asked);
-    if (asked.result == LESUNGKAP_DONE) {
-        ring_forget(link, cqn);
-    }
-    return asked.result;
+    return ask_command(link, command, lesungkap_put_destroy_cq(command, sizeof command, &data),
+                       &asked);
 }
 
 uint32_t ask_deregister_mr(struct link *link, uint32_t mrn)
@@ -349,10 +341,6 @@ uint32_t ask_poll(struct link *link, uint32_t cqn, struct lesungkap_completion *
                   unsigned *left)
 {
     struct asked asked;
-    if (link->ring != NULL && cqn < LESUNGKAP_CQ_COUNT) {
-        const uint32_t result = ring_take(link, cqn, completion, left);
-        return result == LESUNGKAP_NOTHING ? link_idle(link) : result;
-    }
     if (shows_none(link, cqn)) {
         return LESUNGKAP_NOTHING;
     }

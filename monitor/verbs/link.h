@@ -3,34 +3,17 @@
 #ifndef LESUNGKAP_LINK_H
 #define LESUNGKAP_LINK_H
 
-#include "ring.h"
+#include "packet.h"
 
 #include <pthread.h>
 
-enum {
-    LINK_LOST = 255,      /* an answer that no monitor gives: it has gone */
-    LINK_NO_RECEIVE = 255 /* no number of a queue pair */
-};
-
-/* What the card has said to receives of a queue pair that nobody has waited for. */
-struct late {
-    uint8_t count;
-    uint8_t done[LESUNGKAP_QP_MOST_RECEIVES];
-};
+enum { LINK_LOST = 255 }; /* an answer that no monitor gives: it has gone */
 
 struct link {
     int fd;
     pthread_mutex_t lock;
     const _Atomic uint32_t *counters; /* of unread completions, which the monitor writes; or NULL */
     unsigned looks;                   /* at an empty queue's, since the monitor was asked */
-    struct ring *ring;                /* or NULL */
-    int bell;                         /* the eventfd that wakes the monitor */
-    uint32_t asked;                   /* requests in the ring, so far */
-    uint32_t noted;                   /* answers of them that were looked at */
-    int quiet;                        /* there are some that the monitor was not woken for */
-    uint8_t receives[RING_REQUESTS];  /* whose receive a request is, or LINK_NO_RECEIVE */
-    struct late late[LESUNGKAP_QP_COUNT];
-    uint32_t taken[LESUNGKAP_CQ_COUNT]; /* completions */
 };
 
 /* Connects to a monitor; 0 or an errno. */
@@ -87,33 +70,28 @@ uint32_t ask_flush(struct link *link, uint32_t name);
 uint32_t ask_poll(struct link *link, uint32_t cqn, struct lesungkap_completion *completion,
                   unsigned *left);
 
+/* Receives, or polls of one queue, in one request. Each returns how many were done; *result is that
+ * of the first that was not, or LESUNGKAP_DONE. */
+unsigned ask_receives(struct link *link, uint32_t name,
+                      const struct lesungkap_receive *const *receives, unsigned count,
+                      uint32_t *result);
+unsigned ask_polls(struct link *link, uint32_t cqn, struct lesungkap_completion *completions,
+                   unsigned count, unsigned *left, uint32_t *result);
+/* A send with receives of its queue pair before it and a poll behind it, in one request; the send's
+ * result. */
+struct together {
+    const struct lesungkap_receive *receives[LESUNGKAP_QP_MOST_RECEIVES];
+    unsigned count; /* of them */
+    unsigned given; /* of them, that the card has taken */
+    int polls;      /* a completion of queue `cqn` is wanted */
+    uint32_t cqn;
+    int polled; /* and here it is */
+    struct lesungkap_completion completion;
+};
+uint32_t ask_together(struct link *link, uint32_t name, const struct lesungkap_send *send,
+                      struct together *with);
 /* How many completions of a queue the monitor shows; 0 also where it shows none at all. */
 unsigned link_unread(const struct link *link, uint32_t cqn);
-
-/* ---- link_ring.c: requests and completions in memory that is shared with the monitor */
-
-/* Makes a ring: from then on requests that it takes are made there, and completions come there. */
-uint32_t ask_ring(struct link *link);
-void link_drop_ring(struct link *link, int is_child);
-/* Make a request by its record and don't wait for the answer; 0 where the monitor has gone. A
- * receive's is asked for by link_late, in order, and the monitor need not hurry to serve it. */
-int link_post_send(struct link *link, uint32_t name, const uint8_t *record, size_t length);
-int link_post_receive(struct link *link, uint32_t name, const uint8_t *record, size_t length);
-unsigned link_late(struct link *link, uint32_t name, uint8_t done[LESUNGKAP_QP_MOST_RECEIVES]);
-/* Whether so few sends of the queue pair wait that another can't be refused. */
-int link_may_post(const struct link *link, uint32_t name);
-/* Has the monitor serve what it was not woken for. */
-void link_hurry(struct link *link);
-/* The next completion of a queue, one caller at a time; *left: how many are behind it. */
-uint32_t ring_take(struct link *link, uint32_t cqn, struct lesungkap_completion *completion,
-                   unsigned *left);
-unsigned ring_unread(const struct link *link, uint32_t cqn);
-/* Drops the completions of a queue that is no more. */
-void ring_forget(struct link *link, uint32_t cqn);
-/* Where no completion was found: lets others run; LINK_LOST if the monitor has gone. */
-uint32_t link_idle(struct link *link);
-/* A request by the ring: the length of its answer, or 0 where the monitor has gone. */
-size_t ring_exchange(struct link *link, const struct packet *packet, uint8_t *answer);
 
 /* Sends a request by its bytes, with a file or -1; whether it was taken. */
 int link_send(const struct link *link, const uint8_t *request, size_t length, int file);
@@ -134,7 +112,5 @@ struct asked {
 uint32_t link_ask(struct link *link, unsigned kind, uint32_t number, const uint8_t *body,
                   size_t length, int file, struct asked *asked);
 void link_drop_counters(struct link *link);
-/* A request with a file or -1, whose answer may come with one: *got. */
-uint32_t link_ask_file(struct link *link, unsigned kind, int file, int *got);
 
 #endif

@@ -36,7 +36,6 @@ static int create_qp(struct lk_context *context, struct lk_qp *qp)
     if (result == LESUNGKAP_DONE) {
         qp->base.handle = qp_number(qp->base.qp_num);
         context->qps[qp->base.handle] = qp;
-        work_forget(context, qp);
         context->names[qp->base.handle] = qp->base.qp_num;
     }
     return link_errno(result);
@@ -180,7 +179,7 @@ static void enter(struct lk_context *context, struct lk_qp *qp, enum ibv_qp_stat
     qp->ended = IBV_WC_SUCCESS;
     qp->limits = (struct limits){0};
     if (state == IBV_QPS_RESET) {
-        work_forget(context, qp);
+        qp->waiting = qp->in_card = 0;
     } else if (qp->broken && flushes_into(context, cq)) {
         events_raise(cq);
     }

@@ -22,6 +22,7 @@ enum {
     MOST_CQE = 4096,
     MOST_WR = PACKET_HELD_MOST,
     PORT = 1,
+    EARLY_MOST = 16,                 /* completions that were taken before the program asked */
     NUMBERS = 1 << PACKET_NAME_SHIFT /* of queue pairs and completion queues, in one byte */
 };
 
@@ -48,6 +49,9 @@ struct lk_cq {
     struct ibv_wc polled;    /* then the completion whose fields are read */
     uint32_t cqn;
     int armed;
+    struct lesungkap_completion early[EARLY_MOST]; /* taken with a send, the oldest first */
+    unsigned early_first;
+    unsigned early_count;
 };
 
 /* The time of sends that the monitor holds (limits.c). */
@@ -74,9 +78,7 @@ struct lk_qp {
     int drained;              /* and none is left in the card */
     unsigned first;
     unsigned waiting;
-    unsigned flying;  /* of them the first, or those behind the refused: on their way to the card */
-    unsigned refused; /* of those on their way, the first */
-    int in_card;      /* -1 and so on where they have completed before that was noted */
+    unsigned in_card;
     struct lesungkap_receive *receives; /* init.cap.max_recv_wr of them */
 };
 
@@ -98,6 +100,7 @@ struct lk_context {
     struct link link;
     struct pages pages;
     int joined;
+    int deferred; /* a receive waits here that the card has room for */
     pthread_mutex_t lock;
     pthread_cond_t clock; /* wakes the thread of limits.c */
     pthread_t thread;
@@ -174,8 +177,6 @@ int query_device_ex(struct ibv_context *base, const struct ibv_query_device_ex_i
 
 /* Gives the card the receives that it has room for. */
 void work_refill(struct lk_context *context);
-/* Forgets the receives of a queue pair that was reset, or is new. */
-void work_forget(struct lk_context *context, struct lk_qp *qp);
 int work_post_send(struct ibv_qp *qp, struct ibv_send_wr *wr, struct ibv_send_wr **bad);
 int work_post_receive(struct ibv_qp *qp, struct ibv_recv_wr *wr, struct ibv_recv_wr **bad);
 int work_poll(struct ibv_cq *cq, int count, struct ibv_wc *wcs);

@@ -64,27 +64,39 @@ static int put_request(const struct lk_qp *qp, const struct ibv_send_wr *wr,
     return 0;
 }
 
-/* Whether a send need not wait for its answer: whatever comes of it, its completion says. */
-static int may_post(const struct lk_context *context, const struct lk_qp *qp)
+/* The next receives that wait here and that the card has room for. */
+static unsigned next_receives(const struct lk_qp *qp, const struct lesungkap_receive **next)
 {
-    return qp->base.state == IBV_QPS_RTS && !qp->broken &&
-           link_may_post(&context->link, qp->base.qp_num);
+    unsigned count = 0;
+    while (count < qp->waiting && qp->in_card + count < LESUNGKAP_QP_MOST_RECEIVES && !qp->broken) {
+        next[count] = qp->receives + (qp->first + count) % qp->init.cap.max_recv_wr;
+        count++;
+    }
+    return count;
 }
 
-/* Makes a send, which may be held; its result. */
-static uint32_t send_one(struct lk_context *context, struct lk_qp *qp,
-                         const struct lesungkap_send *send)
+static void given(struct lk_qp *qp, unsigned count)
 {
-    struct lesungkap_send checked;
-    uint8_t record[LESUNGKAP_SEND_MOST_BYTES];
-    const size_t length = lesungkap_put_send(record, sizeof record, send);
-    if (length == 0 || lesungkap_get_send(record, length, &checked) != LESUNGKAP_DONE ||
-        !may_post(context, qp)) {
-        return ask_send(&context->link, qp->base.qp_num, send);
+    qp->first = (qp->first + count) % qp->init.cap.max_recv_wr;
+    qp->waiting -= count;
+    qp->in_card += count;
+}
+
+/* Makes a send, with receives that were deferred; where it completes at once, its completion is
+ * taken along and waits here. */
+static uint32_t send_together(struct lk_context *context, struct lk_qp *qp,
+                              const struct lesungkap_send *send)
+{
+    struct lk_cq *cq = (struct lk_cq *)qp->base.send_cq;
+    const int signaled = qp->init.sq_sig_all || (send->flags & LESUNGKAP_FLAG_SIGNALED);
+    struct together with = {.cqn = cq->cqn, .polls = signaled && cq->early_count < EARLY_MOST};
+    with.count = next_receives(qp, with.receives);
+    const uint32_t result = ask_together(&context->link, qp->base.qp_num, send, &with);
+    given(qp, with.given);
+    if (with.polled) {
+        cq->early[(cq->early_first + cq->early_count++) % EARLY_MOST] = with.completion;
     }
-    return link_post_send(&context->link, qp->base.qp_num, record, length)
-               ? (uint32_t)LESUNGKAP_HELD_PEER
-               : (uint32_t)LINK_LOST;
+    return result;
 }
 
 static int post_one(struct lk_context *context, struct lk_qp *qp, const struct ibv_send_wr *wr)
@@ -95,7 +107,7 @@ static int post_one(struct lk_context *context, struct lk_qp *qp, const struct i
     if (why != 0) {
         return why;
     }
-    const uint32_t result = send_one(context, qp, &send);
+    const uint32_t result = send_together(context, qp, &send);
     switch (lesungkap_answer(result)) {
     case LESUNGKAP_DONE: return 0;
     case LESUNGKAP_HELD_PEER:
@@ -119,83 +131,36 @@ int work_post_send(struct ibv_qp *base, struct ibv_send_wr *wr, struct ibv_send_
 
 /* ---- receives */
 
-static const struct lesungkap_receive *receive_at(const struct lk_qp *qp, unsigned number)
-{
-    return qp->receives + (qp->first + number) % qp->init.cap.max_recv_wr;
-}
-
-/* The card has taken the receive that lies behind so many others here. */
-static void given(struct lk_qp *qp, unsigned number)
-{
-    for (; number > 0; number--) {
-        *(struct lesungkap_receive *)receive_at(qp, number) = *receive_at(qp, number - 1);
-    }
-    qp->first = (qp->first + 1) % qp->init.cap.max_recv_wr;
-    qp->waiting--;
-    qp->in_card++;
-}
-
-/* Notes what the card has said to receives on their way. One that it refused waits here as before:
- * it has no place to flush it to. */
-static void settle(struct lk_context *context, struct lk_qp *qp)
-{
-    uint8_t done[LESUNGKAP_QP_MOST_RECEIVES];
-    const unsigned count = link_late(&context->link, qp->base.qp_num, done);
-    for (unsigned n = 0; n < count && qp->flying > 0; n++) {
-        qp->flying--;
-        if (done[n]) {
-            given(qp, qp->refused);
-        } else {
-            qp->refused++;
-        }
-    }
-    qp->refused = qp->flying == 0 ? 0 : qp->refused;
-}
-
-void work_forget(struct lk_context *context, struct lk_qp *qp)
-{
-    settle(context, qp);
-    qp->waiting = qp->flying = qp->refused = 0;
-    qp->in_card = 0;
-}
-
 /* Gives the card the oldest receive that waits here, if it takes it. */
 static uint32_t give_first(struct lk_context *context, struct lk_qp *qp)
 {
-    const uint32_t result = ask_receive(&context->link, qp->base.qp_num, receive_at(qp, 0));
+    const uint32_t result = ask_receive(&context->link, qp->base.qp_num, qp->receives + qp->first);
     if (lesungkap_answer(result) == LESUNGKAP_DONE) {
-        given(qp, 0);
+        given(qp, 1);
     }
     return result;
 }
 
-/* Whether the card has a receive of the queue pair which no message has taken: others may come to
- * it with the next request. */
-static int may_wait(const struct lk_context *context, const struct lk_qp *qp)
+/* The same with several in one request. */
+static uint32_t give_several(struct lk_context *context, struct lk_qp *qp)
 {
-    const struct lk_cq *cq = (const struct lk_cq *)qp->base.recv_cq;
-    return qp->in_card >= 2 + (int)link_unread(&context->link, cq->cqn);
+    const struct lesungkap_receive *next[LESUNGKAP_QP_MOST_RECEIVES];
+    const unsigned count = next_receives(qp, next);
+    uint32_t result;
+    given(qp, ask_receives(&context->link, qp->base.qp_num, next, count, &result));
+    return result;
 }
 
-/* Moves receives that wait here into the card, as many as it takes; whether the monitor is there.
- */
-static int top_up(struct lk_context *context, struct lk_qp *qp)
+/* Moves receives that wait here into the card, as many as it takes. */
+static uint32_t top_up(struct lk_context *context, struct lk_qp *qp)
 {
-    uint8_t record[LESUNGKAP_RECEIVE_MOST_BYTES];
-    settle(context, qp);
-    while (qp->flying < qp->waiting && qp->refused == 0 && !qp->broken &&
-           qp->in_card + (int)qp->flying < LESUNGKAP_QP_MOST_RECEIVES) {
-        const size_t length =
-            lesungkap_put_receive(record, sizeof record, receive_at(qp, qp->flying));
-        if (!link_post_receive(&context->link, qp->base.qp_num, record, length)) {
-            return 0;
-        }
-        qp->flying++;
+    uint32_t result = LESUNGKAP_DONE;
+    while (qp->waiting > 0 && qp->in_card < LESUNGKAP_QP_MOST_RECEIVES && !qp->broken &&
+           lesungkap_answer(result) == LESUNGKAP_DONE) {
+        result = qp->waiting > 1 && context->link.counters != NULL ? give_several(context, qp)
+                                                                   : give_first(context, qp);
     }
-    if (!may_wait(context, qp)) {
-        link_hurry(&context->link);
-    }
-    return 1;
+    return result;
 }
 
 static int receive_one(struct lk_context *context, struct lk_qp *qp, const struct ibv_recv_wr *wr)
@@ -204,7 +169,7 @@ static int receive_one(struct lk_context *context, struct lk_qp *qp, const struc
         qp->base.state == IBV_QPS_RESET) {
         return EINVAL;
     }
-    if ((int)qp->waiting + qp->in_card >= (int)qp->init.cap.max_recv_wr) {
+    if (qp->waiting + qp->in_card >= qp->init.cap.max_recv_wr) {
         return ENOMEM;
     }
     struct lesungkap_receive *receive =
@@ -214,7 +179,8 @@ static int receive_one(struct lk_context *context, struct lk_qp *qp, const struc
     receive->count = (uint32_t)wr->num_sge;
     copy_entries(receive->sges, wr->sg_list, receive->count);
     qp->waiting++;
-    return top_up(context, qp) ? 0 : EIO;
+    const uint32_t result = top_up(context, qp);
+    return lesungkap_answer(result) == LINK_LOST ? EIO : 0;
 }
 
 int work_post_receive(struct ibv_qp *base, struct ibv_recv_wr *wr, struct ibv_recv_wr **bad)
@@ -298,8 +264,8 @@ static void note(struct lk_context *context, const struct lesungkap_completion *
     if (done->status != LESUNGKAP_SUCCESS) {
         qp->broken = 1;
     }
-    if (is_receive(done)) { /* its own answer may not have been noted yet */
-        qp->in_card -= qp->in_card + (int)qp->flying > 0;
+    if (is_receive(done)) {
+        qp->in_card -= qp->in_card > 0;
     } else {
         qp->limits.seen = 0;
     }
@@ -311,7 +277,6 @@ static uint32_t flush_next(struct lk_context *context, struct lk_qp *qp)
 {
     uint32_t result =
         qp->drained ? (uint32_t)LESUNGKAP_NOTHING : ask_flush(&context->link, qp->base.qp_num);
-    settle(context, qp); /* after an answer, nothing is on its way */
     if (result == LESUNGKAP_NOTHING) {
         qp->drained = 1;
         qp->in_card = 0;
@@ -327,35 +292,90 @@ static uint32_t poll_flushed(struct lk_context *context, const struct lk_cq *cq,
                              struct lesungkap_completion *done)
 {
     unsigned left;
-    for (unsigned n = 0; n < LESUNGKAP_QP_COUNT; n++) {
+    for (unsigned n = 0; n < NUMBERS; n++) {
         struct lk_qp *qp = context->qps[n];
         if (qp != NULL && qp->broken && qp->base.recv_cq == &cq->base &&
             lesungkap_answer(flush_next(context, qp)) == LESUNGKAP_DONE) {
-            return ring_take(&context->link, cq->cqn, done, &left);
+            return ask_poll(&context->link, cq->cqn, done, &left);
         }
     }
     return LESUNGKAP_NOTHING;
 }
 
-/* The next completion, one that is there or is flushed now. */
-static uint32_t poll_next(struct lk_context *context, const struct lk_cq *cq,
-                          struct lesungkap_completion *done)
+/* Takes completions that the monitor shows, several in one request; how many, and the result of the
+ * last. */
+static int poll_shown(struct lk_context *context, const struct lk_cq *cq, int count,
+                      struct ibv_wc *wcs, unsigned *left, uint32_t *result)
 {
-    unsigned left;
-    const uint32_t result = ring_take(&context->link, cq->cqn, done, &left);
-    return result == LESUNGKAP_NOTHING && flushes_into(context, cq)
-               ? poll_flushed(context, cq, done)
-               : result;
+    struct lesungkap_completion done[PACKET_BATCH_MOST];
+    const unsigned shown = link_unread(&context->link, cq->cqn);
+    const unsigned wanted = shown < (unsigned)count ? shown : (unsigned)count;
+    const unsigned most = wanted < PACKET_BATCH_MOST ? wanted : PACKET_BATCH_MOST;
+    if (most < 2) {
+        return 0;
+    }
+    const unsigned got = ask_polls(&context->link, cq->cqn, done, most, left, result);
+    for (unsigned n = 0; n < got; n++) {
+        put_wc(context, done + n, wcs + n);
+        note(context, done + n);
+    }
+    return (int)got;
 }
 
-/* Receives that have completed make room for others. */
-void work_refill(struct lk_context *context)
+/* The next completion, one that is there or is flushed now. */
+static uint32_t poll_next(struct lk_context *context, const struct lk_cq *cq,
+                          struct lesungkap_completion *done, unsigned *left)
 {
-    for (unsigned n = 0; n < LESUNGKAP_QP_COUNT; n++) {
-        if (context->qps[n] != NULL) {
-            top_up(context, context->qps[n]);
+    const uint32_t result = ask_poll(&context->link, cq->cqn, done, left);
+    if (lesungkap_answer(result) != LESUNGKAP_NOTHING) {
+        return result;
+    }
+    *left = 0;
+    return poll_flushed(context, cq, done);
+}
+
+/* Whether a receive that waits here may do so until the next request: the card has another one of
+ * its queue pair, which no message has taken. */
+static int may_wait(const struct lk_context *context, const struct lk_qp *qp)
+{
+    const struct lk_cq *cq = (const struct lk_cq *)qp->base.recv_cq;
+    return context->link.counters != NULL &&
+           qp->in_card >= 2 + link_unread(&context->link, cq->cqn);
+}
+
+/* Receives that have completed make room for others: at once where the card needs them, or all. */
+static void refill(struct lk_context *context, int all)
+{
+    context->deferred = 0;
+    for (unsigned n = 0; n < NUMBERS; n++) {
+        struct lk_qp *qp = context->qps[n];
+        if (qp != NULL && qp->waiting > 0 && !all && may_wait(context, qp)) {
+            context->deferred = 1;
+        } else if (qp != NULL) {
+            top_up(context, qp);
         }
     }
+}
+
+void work_refill(struct lk_context *context)
+{
+    if (context->deferred) {
+        refill(context, 1);
+    }
+}
+
+/* Hands out completions that were taken before. */
+static int take_early(struct lk_context *context, struct lk_cq *cq, int count, struct ibv_wc *wcs)
+{
+    int got = 0;
+    while (got < count && cq->early_count > 0) {
+        const struct lesungkap_completion *done = cq->early + cq->early_first;
+        put_wc(context, done, wcs + got++);
+        note(context, done);
+        cq->early_first = (cq->early_first + 1) % EARLY_MOST;
+        cq->early_count--;
+    }
+    return got;
 }
 
 int work_poll(struct ibv_cq *base, int count, struct ibv_wc *wcs)
@@ -364,22 +384,21 @@ int work_poll(struct ibv_cq *base, int count, struct ibv_wc *wcs)
     struct lk_cq *cq = (struct lk_cq *)base;
     struct lesungkap_completion done;
     uint32_t result = LESUNGKAP_DONE;
-    int got = 0;
     pthread_mutex_lock(&context->lock);
-    if (context->link.ring == NULL) { /* of a child's, it is the parent's */
-        result = LINK_LOST;
-    }
-    while (got < count && result == LESUNGKAP_DONE) {
-        result = poll_next(context, cq, &done);
+    int got = take_early(context, cq, count, wcs);
+    unsigned left = got == 0 || link_unread(&context->link, cq->cqn) > 0;
+    got += poll_shown(context, cq, count - got, wcs + got, &left, &result);
+    while (got < count && result == LESUNGKAP_DONE && (left > 0 || flushes_into(context, cq))) {
+        result = poll_next(context, cq, &done, &left);
         if (result == LESUNGKAP_DONE) {
             put_wc(context, &done, wcs + got++);
             note(context, &done);
         }
     }
     if (got > 0) {
+        refill(context, 0);
+    } else {
         work_refill(context);
-    } else if (result == LESUNGKAP_NOTHING) {
-        result = link_idle(&context->link);
     }
     pthread_mutex_unlock(&context->lock);
     return lesungkap_answer(result) == LINK_LOST ? -1 : got;

@@ -28,8 +28,6 @@ int memory_file(size_t bytes, int seals)
     return file;
 }
 
-int clients_have_rings = 0;
-
 void client_join(struct client *client, const char *path)
 {
     EXPECT(link_open(&client->link, path) == 0);
@@ -38,7 +36,6 @@ void client_join(struct client *client, const char *path)
     client->memory = mmap(NULL, client->bytes, PROT_READ | PROT_WRITE, MAP_SHARED, client->memory_file, 0);
     EXPECT(client->memory != MAP_FAILED);
     EXPECT(ask_join(&client->link, client->memory_file) == LESUNGKAP_DONE);
-    EXPECT(!clients_have_rings || ask_ring(&client->link) == LESUNGKAP_DONE);
 }
 
 void client_open(struct client *client, const char *path, uint32_t places)

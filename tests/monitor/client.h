@@ -24,8 +24,7 @@ void expect(int holds, const char *what, const char *file, int line);
 
 /* A memory file of so many bytes, with these seals. */
 int memory_file(size_t bytes, int seals);
-/* Connects and joins with all of the window; no objects yet. With a ring, where clients have one. */
-extern int clients_have_rings;
+/* Connects and joins with all of the window; no objects yet. */
 void client_join(struct client *client, const char *path);
 /* The same, with a domain, a completion queue of `places`, a region of all of its memory with all rights, and a queue pair. */
 void client_open(struct client *client, const char *path, uint32_t places);

@@ -3,7 +3,6 @@
  * usage: faults SOCKET kills N SEED       N clients killed at random points of random requests
  *        faults SOCKET packets N SEED     N packets: random bytes, broken records, random files
  *        faults SOCKET connects N SEED    N connections, some of which join
- *        faults SOCKET rings N SEED       N times anything is written over a ring, while another thread does so
  */
 #define _GNU_SOURCE
 #include "client.h"
@@ -11,7 +10,6 @@
 #include <fcntl.h>
 #include <inttypes.h>
 #include <poll.h>
-#include <sched.h>
 #include <signal.h>
 #include <stdio.h>
 #include <stdlib.h>
@@ -22,7 +20,6 @@
 
 static const char *path;
 static uint64_t word;
-static atomic_int scribbling_ends;
 
 static uint32_t random_below(uint32_t bound)
 {
@@ -48,12 +45,10 @@ struct side {
 
 static void compare(const struct side *side) { EXPECT(memcmp(side->client.memory, side->wanted, side->client.bytes) == 0); }
 
-static void open_side(struct side *side, int by_ring)
+static void open_side(struct side *side)
 {
-    clients_have_rings = by_ring;
     client_open(&side->client, path, 4);
-    clients_have_rings = 0;
-    EXPECT(by_ring || ask_counters(&side->client.link) == LESUNGKAP_DONE);
+    EXPECT(ask_counters(&side->client.link) == LESUNGKAP_DONE);
     side->wanted = malloc(side->client.bytes);
     EXPECT(side->wanted != NULL);
     random_bytes(side->client.memory, side->client.bytes);
@@ -100,8 +95,8 @@ static void pair(int stop)
     uint64_t messages = 0;
     double longest = 0;
     struct pollfd wait = {.fd = stop, .events = POLLIN};
-    open_side(sides, 1);
-    open_side(sides + 1, 0);
+    open_side(sides);
+    open_side(sides + 1);
     client_ready(&sides[0].client, sides[1].client.qp);
     client_ready(&sides[1].client, sides[0].client.qp);
     while (poll(&wait, 1, 0) == 0) {
@@ -161,15 +156,13 @@ static void any_request(struct client *client)
     }
 }
 
-/* A connection that has joined if there was a seat, and then perhaps has a ring. */
+/* A connection that has joined if there was a seat. */
 static void open_any(struct client *client)
 {
     memset(client, 0, sizeof *client);
     EXPECT(link_open(&client->link, path) == 0 && ask_window(&client->link, &client->bytes) == LESUNGKAP_DONE);
     const int file = memory_file(client->bytes, SEALS);
-    if (ask_join(&client->link, file) == LESUNGKAP_DONE && random_below(2)) {
-        ask_ring(&client->link);
-    }
+    ask_join(&client->link, file);
     close(file);
 }
 
@@ -247,7 +240,7 @@ static size_t any_packet(const struct client *client, uint8_t *bytes)
 {
     static const uint8_t kinds[] = {PACKET_CONTROL, PACKET_SEND, PACKET_RECEIVE, PACKET_POLL, PACKET_FLUSH,
                                     PACKET_WINDOW,  PACKET_JOIN, PACKET_CHANNEL, PACKET_ARM,  PACKET_SHOW,
-                                    PACKET_WAITS,   PACKET_COUNTERS, PACKET_BATCH, PACKET_RING, 0};
+                                    PACKET_WAITS,   PACKET_COUNTERS, PACKET_BATCH, 0};
     uint8_t body[LESUNGKAP_TAPE_MOST_BODY];
     if (random_below(8) == 0) {
         random_bytes(bytes, PACKET_MOST_BYTES);
@@ -269,7 +262,7 @@ static int any_file(uint32_t bytes)
     switch (random_below(400)) {
     case 0: return memory_file(random_below(bytes * 2), random_below(2) ? SEALS : 0);
     case 1:
-    case 2: return memory_file(random_below(4) ? bytes : (uint32_t)RING_BYTES, SEALS);
+    case 2: return memory_file(bytes, SEALS);
     case 3: return open("/dev/null", O_RDWR | O_CLOEXEC);
     case 4:
         EXPECT(socketpair(AF_UNIX, SOCK_SEQPACKET, 0, ends) == 0);
@@ -335,78 +328,6 @@ static void connects(uint32_t count)
     printf("%u connections\n", count);
 }
 
-/* ---- rings */
-
-/* Writes random bytes over the ring until the client has no more; the numbers that end a client, less often. */
-static void *scribbles(void *given)
-{
-    struct ring *ring = given;
-    uint64_t own = 88172645463325252u;
-    for (unsigned n = 0; !scribbling_ends; n++) {
-        own ^= own << 13;
-        own ^= own >> 7;
-        own ^= own << 17;
-        const size_t from = n % 4096 == 0 ? 0 : offsetof(struct ring, answered);
-        ((volatile uint8_t *)ring)[from + own % (RING_BYTES - from)] = (uint8_t)(own >> 56);
-    }
-    return NULL;
-}
-
-/* Puts a packet of any bytes into the ring and says that there are some more. */
-static void put_any(struct client *client)
-{
-    const uint64_t one = 1;
-    struct ring *ring = client->link.ring;
-    uint8_t bytes[PACKET_MOST_BYTES];
-    const size_t length = any_packet(client, bytes);
-    memcpy(ring->requests[client->link.asked % RING_REQUESTS], bytes, length < RING_REQUEST_BYTES ? length : (size_t)RING_REQUEST_BYTES);
-    client->link.asked += 1 + (random_below(16) == 0 ? random_below(RING_REQUESTS) : 0);
-    atomic_store(&ring->asked, client->link.asked);
-    atomic_store(&ring->queues[random_below(LESUNGKAP_CQ_COUNT)].taken, random_below(3) ? random_below(100) : (uint32_t)word);
-    atomic_store(&ring->sleeps, random_below(2));
-    EXPECT(write(client->link.bell, &one, sizeof one) == (ssize_t)sizeof one);
-    while (random_below(8) == 0 && atomic_load(&ring->answered) != client->link.asked && random_below(64) != 0) {
-        sched_yield();
-    }
-}
-
-static int hung_up(const struct client *client)
-{
-    struct pollfd end = {.fd = client->link.fd, .events = POLLRDHUP};
-    return poll(&end, 1, 0) == 1 && (end.revents & (POLLHUP | POLLRDHUP)) != 0;
-}
-
-/* As long as the monitor takes it; how many packets that was. */
-static uint32_t scribble_over(struct client *client, uint32_t most)
-{
-    pthread_t thread;
-    uint32_t done = 0;
-    scribbling_ends = 0;
-    EXPECT(pthread_create(&thread, NULL, scribbles, client->link.ring) == 0);
-    while (done < most && !hung_up(client)) {
-        put_any(client);
-        done++;
-    }
-    scribbling_ends = 1;
-    pthread_join(thread, NULL);
-    return done;
-}
-
-static void rings(uint32_t count)
-{
-    uint32_t clients = 0;
-    for (uint32_t n = 0; n < count; clients++) {
-        struct client client;
-        open_any(&client);
-        if (client.link.ring != NULL || ask_ring(&client.link) == LESUNGKAP_DONE) {
-            any_control(&client);
-            n += scribble_over(&client, count - n);
-        }
-        link_close(&client.link);
-    }
-    printf("%u times anything over the rings of %u clients\n", count, clients);
-}
-
 int main(int count, char **words)
 {
     int ends[2], status;
@@ -426,8 +347,6 @@ int main(int count, char **words)
         kills(times);
     } else if (strcmp(words[2], "packets") == 0) {
         packets(times);
-    } else if (strcmp(words[2], "rings") == 0) {
-        rings(times);
     } else {
         connects(times);
     }

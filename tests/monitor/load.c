@@ -1,9 +1,8 @@
 /* Eight clients, each joined with one other, of which some send as fast as they are answered: unsignaled writes (one request a message) or
- * sends (four: a receive, the send, a poll on each side), by packets; or unsignaled writes by rings, as many at once as there is room for.
- * It prints messages and bytes a second and the mean time of a write's request as its client sees it; the monitor's --times says how much of
- * that is its own and the card's.
+ * sends (four: a receive, the send, a poll on each side). It prints messages and bytes a second and the mean time of a request as its
+ * client sees it; the monitor's --times says how much of that is its own and the card's.
  *
- * usage: load SOCKET SENDERS write|send|post BYTES SECONDS
+ * usage: load SOCKET SENDERS write|send BYTES SECONDS
  */
 #define _GNU_SOURCE
 #include "client.h"
@@ -16,7 +15,7 @@
 #include <time.h>
 #include <unistd.h>
 
-enum { CLIENTS = 8, POSTS = 2 };
+enum { CLIENTS = 8 };
 
 /* What the processes tell each other. */
 struct shared {
@@ -63,28 +62,6 @@ static void writes(struct client *client, int number, uint32_t bytes, double unt
     shared->messages[number] = shared->requests[number] = count;
 }
 
-/* Writes whose answers nobody waits for, until the last. */
-static void posts(struct client *client, int number, uint32_t bytes, double until)
-{
-    uint8_t record[LESUNGKAP_SEND_MOST_BYTES];
-    uint32_t oldest, what;
-    struct lesungkap_send send;
-    memset(&send, 0, sizeof send);
-    send.opcode = LESUNGKAP_WRITE;
-    send.remote_address = CLIENT_VIRT;
-    send.remote_key = shared->keys[number ^ 1];
-    send.count = 1;
-    send.sges[0] = (struct lesungkap_sge){CLIENT_VIRT, bytes, client->mr.lkey};
-    const size_t length = lesungkap_put_send(record, sizeof record, &send);
-    uint64_t count = 0;
-    while (count % 64 != 0 || now() < until) {
-        EXPECT(link_post_send(&client->link, client->qp, record, length));
-        count++;
-    }
-    EXPECT(ask_waits(&client->link, client->qp, &oldest, &what) == LESUNGKAP_DONE && what == PACKET_WAITS_FOR_NOTHING);
-    shared->messages[number] = shared->requests[number] = count;
-}
-
 static void sends(struct client *client, int number, uint32_t bytes, double until)
 {
     uint64_t count = 0;
@@ -119,7 +96,6 @@ static void receives(struct client *client, uint32_t bytes, int senders)
 static void run(const char *path, int number, int senders, int writing, uint32_t bytes, double seconds)
 {
     struct client client;
-    clients_have_rings = writing == POSTS;
     open_quiet(&client, path, writing);
     shared->names[number] = client.qp;
     shared->keys[number] = client.mr.rkey;
@@ -131,7 +107,7 @@ static void run(const char *path, int number, int senders, int writing, uint32_t
     const double since = now();
     const int sends_first = writing ? number < senders : number % 2 == 0 && number / 2 < senders;
     if (sends_first) {
-        (writing == POSTS ? posts : writing ? writes : sends)(&client, number, bytes, since + seconds);
+        (writing ? writes : sends)(&client, number, bytes, since + seconds);
         shared->seconds[number] = now() - since;
         shared->ended++;
     } else if (!writing && number / 2 < senders) {
@@ -144,7 +120,7 @@ static void run(const char *path, int number, int senders, int writing, uint32_t
 int main(int count, char **words)
 {
     EXPECT(count == 6);
-    const int writing = strcmp(words[3], "post") == 0 ? POSTS : strcmp(words[3], "write") == 0, senders = atoi(words[2]);
+    const int writing = strcmp(words[3], "write") == 0, senders = atoi(words[2]);
     const uint32_t bytes = (uint32_t)atoi(words[4]);
     double messages = 0, round_trip = 0;
     EXPECT(senders >= 1 && senders <= (writing ? CLIENTS : CLIENTS / 2) && bytes >= 1 && bytes <= LESUNGKAP_MOST_MESSAGE);
@@ -166,8 +142,9 @@ int main(int count, char **words)
             round_trip += shared->seconds[n] / (double)shared->requests[n] / senders;
         }
     }
-    printf("%d of 8 clients %s %u bytes: %.0f messages/s, %.1f MB/s", senders, words[3], bytes, messages, messages * bytes / 1e6);
-    if (writing == 1) {
+    printf("%d of 8 clients %s %u bytes: %.0f messages/s, %.1f MB/s", senders, writing ? "write" : "send", bytes, messages,
+           messages * bytes / 1e6);
+    if (writing) {
         printf(", a request takes %.0f ns", round_trip * 1e9);
     }
     printf("\n");

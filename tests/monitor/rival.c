@@ -2,7 +2,7 @@
  *
  * usage: rival SOCKET [CASE]                       of a monitor for four clients; all cases, or this one
  *        rival SOCKET "a file that never closes"   passes one, says so, and lives until it is killed
- *        rival SOCKET "until the end"              asks until the monitor has gone; how many calls were answered. Or "until the end, by a ring"
+ *        rival SOCKET "until the end"              asks until the monitor has gone; how many calls were answered
  */
 #define _GNU_SOURCE
 #include "rival.h"
@@ -22,11 +22,6 @@ enum { SHARE_OF_REGIONS = LESUNGKAP_MR_COUNT / 4 / 2, REGISTRATIONS = 3000, TIME
 const char *path;
 
 static const uint32_t all_rights = LESUNGKAP_LOCAL_WRITE | LESUNGKAP_REMOTE_WRITE | LESUNGKAP_REMOTE_READ;
-
-static int is_held_answer(uint32_t result)
-{
-    return lesungkap_answer(result) == LESUNGKAP_HELD_PEER || lesungkap_answer(result) == LESUNGKAP_HELD_PLACE;
-}
 
 static uint32_t join_with(int file)
 {
@@ -100,9 +95,10 @@ static void memory_after_joining(void)
 static void others_objects(void)
 {
     struct client a, b;
+    struct lesungkap_completion done;
     struct lesungkap_register_mr_ack mr;
-    struct asked asked;
     uint32_t name, oldest, what;
+    unsigned left;
     client_open(&a, path, 8);
     client_open(&b, path, 8);
     for (uint32_t n = 0; n < 256; n++) {
@@ -112,7 +108,7 @@ static void others_objects(void)
         EXPECT(n == b.cqn || ask_destroy_cq(&b.link, n) == LESUNGKAP_NOT_LIVE);
         EXPECT(n == b.mr.mrn || ask_deregister_mr(&b.link, n) == LESUNGKAP_NOT_LIVE);
         EXPECT(ask_destroy_qp(&b.link, n | (n == qp_number(b.qp) ? 0 : 1u << PACKET_NAME_SHIFT)) == LESUNGKAP_NOT_LIVE);
-        EXPECT(n == b.cqn || link_ask(&b.link, PACKET_POLL, n, NULL, 0, -1, &asked) == LESUNGKAP_NOT_LIVE);
+        EXPECT(n == b.cqn || ask_poll(&b.link, n, &done, &left) == LESUNGKAP_NOT_LIVE);
         EXPECT(n == b.cqn || ask_arm(&b.link, n) == LESUNGKAP_NOT_LIVE);
         EXPECT(n == b.cqn || ask_channel(&b.link, n, -1) == LESUNGKAP_NOT_LIVE);
         EXPECT(n == qp_number(b.qp) || ask_flush(&b.link, n) == LESUNGKAP_NOT_LIVE);
@@ -207,41 +203,6 @@ static void held_in_order(void)
         EXPECT(client_completion(&a).status == LESUNGKAP_FLUSHED);
     }
     client_close(&a);
-}
-
-/* Whether the monitor's last line of statistics has these words. */
-static int shows(struct client *client, const char *words)
-{
-    struct asked asked;
-    char line[PACKET_MOST_BYTES] = "";
-    for (uint32_t n = 0; link_ask(&client->link, PACKET_SHOW, n, NULL, 0, -1, &asked) == LESUNGKAP_DONE; n++) {
-        memcpy(line, asked.packet.body, asked.packet.length);
-        line[asked.packet.length] = '\0';
-    }
-    return strstr(line, words) != NULL;
-}
-
-/* Held sends wait in the card's queues, eight of each queue pair, the others with the monitor; a reset drops both. One who has gone leaves
- * none. */
-static void queued(void)
-{
-    struct client a, b;
-    client_open(&a, path, 4);
-    client_open(&b, path, 4);
-    for (int round = 0; round < 2; round++) {
-        client_ready(&a, b.qp);
-        client_ready(&b, a.qp);
-        for (unsigned n = 0; n < 20; n++) {
-            EXPECT(is_held_answer(client_send(&a, LESUNGKAP_SEND, 0, 1, 0, 0)) && is_held_answer(client_send(&b, LESUNGKAP_SEND, 0, 1, 0, 0)));
-        }
-        EXPECT(shows(&a, " 40 held sends, 16 of them in the card;"));
-        EXPECT(client_receive(&b, 0, 1) == LESUNGKAP_DONE && client_completion(&a).status == LESUNGKAP_SUCCESS);
-        EXPECT(client_completion(&b).status == LESUNGKAP_SUCCESS && shows(&a, " 39 held sends, 16 of them in the card;"));
-        EXPECT(client_move(&a, LESUNGKAP_QP_RESET, 0) == LESUNGKAP_DONE && shows(&a, " 20 held sends, 8 of them in the card;"));
-        EXPECT(client_move(&b, LESUNGKAP_QP_RESET, 0) == LESUNGKAP_DONE && shows(&a, " 0 held sends, 0 of them in the card;"));
-    }
-    client_close(&a);
-    client_close(&b);
 }
 
 /* A flood of requests whose answers nobody takes ends that client; another is served meanwhile. */
@@ -471,20 +432,6 @@ static void held_and_tried(void)
     client_close(&b);
 }
 
-/* ---- the same, with requests by rings */
-
-static void by_rings(void (*what)(void))
-{
-    clients_have_rings = 1;
-    what();
-    clients_have_rings = 0;
-}
-
-static void others_objects_by_rings(void) { by_rings(others_objects); }
-static void window_and_share_by_rings(void) { by_rings(window_and_share); }
-static void former_number_by_rings(void) { by_rings(former_number); }
-static void held_in_order_by_rings(void) { by_rings(held_in_order); }
-
 /* Asks until nobody answers any more, and says how many calls were answered. */
 static void until_the_end(void)
 {
@@ -514,20 +461,13 @@ int main(int count, char **words)
                  {"bad channels", bad_channels},       {"its own end", own_end},
                  {"filled memory", filled_memory},     {"keys", keys},
                  {"counters", counters},               {"tries", held_and_tried},
-                 {"batches", batches},                 {"bad rings", bad_rings},
-                 {"left rings", left_rings},           {"odd records", odd_records},
-                 {"odd bells", odd_bells},             {"late rings", late_rings},
-                 {"a ring's completions", ring_completions}, {"rings in turn", rings_in_turn},
-                 {"changing records", changing_records}, {"others' objects, by rings", others_objects_by_rings},
-                 {"window and share, by rings", window_and_share_by_rings}, {"a former number, by rings", former_number_by_rings},
-                 {"held sends, by rings", held_in_order_by_rings}, {"queued", queued}};
+                 {"batches", batches}};
     EXPECT(count == 2 || count == 3);
     path = words[1];
     if (count == 3 && strcmp(words[2], "a file that never closes") == 0) {
         never_closes();
     }
-    clients_have_rings = count == 3 && strcmp(words[2], "until the end, by a ring") == 0;
-    if (clients_have_rings || (count == 3 && strcmp(words[2], "until the end") == 0)) {
+    if (count == 3 && strcmp(words[2], "until the end") == 0) {
         until_the_end();
         return 0;
     }

@@ -1,4 +1,4 @@
-/* The cases of rival.c that are about files and connections, and about rings. */
+/* The cases of rival.c that are about files and connections. */
 #ifndef RIVAL_H
 #define RIVAL_H
 
@@ -14,14 +14,5 @@ void stuck_channels(void);
 void bad_channels(void);
 void own_end(void);
 void never_closes(void);
-
-void bad_rings(void);
-void left_rings(void);
-void late_rings(void);
-void odd_records(void);
-void odd_bells(void);
-void ring_completions(void);
-void rings_in_turn(void);
-void changing_records(void);
 
 #endif

@@ -236,8 +236,6 @@ static const struct {
              {"signals", interrupted_waits},
              {"extended", extended_queue_pairs},
              {"extended completions", extended_completion_queues},
-             {"many sends", many_sends},
-             {"many receives", many_receives},
              {"lacks", lacks}};
 
 int main(int argc, char **argv)

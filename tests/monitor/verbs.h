@@ -65,7 +65,5 @@ void limits_by_events(void);
 void interrupted_waits(void);
 void extended_queue_pairs(void);
 void extended_completion_queues(void);
-void many_sends(void);
-void many_receives(void);
 
 #endif

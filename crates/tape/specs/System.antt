@@ -8,9 +8,9 @@ pub data Event : Type 0 where
   words : (count : ℕ) → Event
   -- word i, asked for with room for so many bytes; no bytes where it is missing or longer
   word : (i room : ℕ) → (text : List ℕ) → Event
-  -- opening the file of that name for reading gave the descriptor
+  -- opening the file of that name for reading gave the descriptor; a name that is no text is not asked for, and gives −1
   opened : (name : List ℕ) → (file : ℤ) → Event
-  -- a read of the file gave the answer, and left its buffer so
+  -- a read of the file gave the answer, and left its buffer so; a negative descriptor is not asked for, and its read fails
   read : (file answer : ℤ) → (buffer : List ℕ) → Event
 
 -- The call was made and did that. No contract of the library says so, and this is shut: a proof has it of the function that
