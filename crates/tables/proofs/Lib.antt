@@ -6,3 +6,4 @@ pub mod QueuedLaws
 pub mod ObjectLaws
 pub mod ResetLaws
 pub mod Pins
+pub mod FlagLaws

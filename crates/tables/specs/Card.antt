@@ -3,6 +3,8 @@
 use Rattle.std.specs.Prelude.{Bool, false, List, [], ◌∷◌, ℕ}
 use Rattle.std.proofs.Math.Option.{Option, none}
 use Rattle.tables.specs.Records.{receive_sges, Request}
+use Rattle.tables.specs.declared.Kind.{Kind}
+use Rattle.tables.specs.declared.Kind.TheVariants as kind
 use Rattle.tables.specs.declared.Completion.{Completion}
 use Rattle.tables.specs.declared.ReceiveRecord.{ReceiveRecord}
 use Rattle.tables.specs.declared.Registration.{Registration}
@@ -57,6 +59,13 @@ pub record Card : Type 0 where
 -- the completion queue n is live
 abbrev pub cq_live : Card → ℕ → Bool
 cq_live c n = (c.cq n).live
+
+-- object n of a kind is live
+abbrev pub live_of : Card → Kind → ℕ → Bool
+live_of c kind.Pd n = c.pd n
+live_of c kind.Cq n = cq_live c n
+live_of c kind.Mr n = (c.mr n).live
+live_of c kind.Qp n = (c.qp n).live
 
 abbrev pub with_pd : Card → (ℕ → Bool) → Card
 with_pd c f = record { memory = c.memory; turn = c.turn; pd = f; cq = c.cq; mr = c.mr; qp = c.qp }

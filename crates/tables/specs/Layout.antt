@@ -6,6 +6,8 @@ use Rattle.wire.specs.Parts.{Parts}
 use Rattle.wire.specs.Table.{Table}
 use Rattle.tables.specs.Limits.{pd_count, cq_count, mr_count, qp_count, most_places, most_waiting, most_pages, most_queued, record_size}
 use Rattle.tables.specs.Records.{completion_codec, receive_codec}
+use Rattle.tables.specs.declared.Kind.{Kind}
+use Rattle.tables.specs.declared.Kind.TheVariants.{Pd, Cq, Mr, Qp}
 use Rattle.tables.specs.declared.QueueHead.{QueueHead}
 use Rattle.tables.specs.declared.Completion.{Completion}
 use Rattle.tables.specs.declared.Region.{Region}
@@ -246,3 +248,17 @@ kind_t = record { base = kind_base; count = queued_count; codec = kind_codec }
 -- and their records, each as it was lent; the numbers that stand in the column are not looked at there
 unfoldable pub record_p : Parts
 record_p = record { base = record_base; count = queued_count; size = record_size }
+
+-- ---- the kinds of objects: how many there are of each, and their column of live flags
+
+abbrev pub count_of : Kind → ℕ
+count_of Pd = pd_count
+count_of Cq = cq_count
+count_of Mr = mr_count
+count_of Qp = qp_count
+
+abbrev pub flags_of : Kind → Table ℕ
+flags_of Pd = pd_flag_t
+flags_of Cq = cq_flag_t
+flags_of Mr = mr_flag_t
+flags_of Qp = qp_flag_t

@@ -8,6 +8,15 @@ pub mod reset;
 pub mod rows;
 pub mod sends;
 
+// The kinds of objects.
+#[derive(Clone, Copy)]
+pub enum Kind {
+    Pd,
+    Cq,
+    Mr,
+    Qp,
+}
+
 // A scatter/gather entry, document 01's piece: length bytes from the address on, under the key.
 #[derive(Clone, Copy)]
 pub struct Sge {

@@ -7,6 +7,7 @@ ghost use Rattle.tables.specs.Queue.{pushed_queue, popped_queue, head_of, front_
 ghost use Rattle.tables.specs.State.{no_completion};
 
 use crate::limits::{MOST_PLACES, MOST_WAITING};
+use crate::rows::State;
 use crate::{Completion, CompletionQueue, QueueHead, ReceiveRecord, WaitingHead, rows};
 
 impl CompletionQueue {
@@ -49,8 +50,8 @@ fn no_completion() -> Completion
 }
 
 // The head of a queue, for completion queue n.
-fn store_head(state: &mut [u8], n: usize, q: CompletionQueue)
-    requires { (n < cq_count) × (length state.old ≡ state_size) × (q.first < 256) × (q.count < 256) × (q.places < 256) }
+fn store_head(state: &mut State, n: usize, q: CompletionQueue)
+    requires { (n < cq_count) × (q.first < 256) × (q.count < 256) × (q.places < 256) }
     ensures { state.new ≡ put_row cq_t state.old n (head_of q) }
 {
     let h = QueueHead {
@@ -62,8 +63,8 @@ fn store_head(state: &mut [u8], n: usize, q: CompletionQueue)
 }
 
 // The oldest completion of queue n, which leaves it: only its place is read, only the head is touched.
-pub fn take_front(state: &mut [u8], n: usize) -> Completion
-    requires { (n < cq_count) × (length state.old ≡ state_size) × ((row_at cq_t state.old n).first < most_places) × (0 < (row_at cq_t state.old n).count) }
+pub fn take_front(state: &mut State, n: usize) -> Completion
+    requires { (n < cq_count) × ((row_at cq_t state.old n).first < most_places) × (0 < (row_at cq_t state.old n).count) }
     ensures { (result ≡ front_at state.old n) × (state.new ≡ pop_bytes state.old n) }
 {
     let h = rows::load_cq(state, n);
@@ -81,8 +82,8 @@ pub fn take_front(state: &mut [u8], n: usize) -> Completion
 }
 
 // One completion more in queue n: only its place and the head are touched.
-pub fn push_completion(state: &mut [u8], n: usize, e: Completion)
-    requires { (n < cq_count) × (length state.old ≡ state_size) × ((row_at cq_t state.old n).count < most_places) }
+pub fn push_completion(state: &mut State, n: usize, e: Completion)
+    requires { (n < cq_count) × ((row_at cq_t state.old n).count < most_places) }
     ensures { state.new ≡ push_bytes state.old n e }
 {
     let h = rows::load_cq(state, n);
@@ -101,8 +102,8 @@ pub fn push_completion(state: &mut [u8], n: usize, e: Completion)
 // ---- waiting receives
 
 // One receive more waiting on queue pair q.
-pub fn post_receive(state: &mut [u8], q: usize, w: ReceiveRecord)
-    requires { (q < qp_count) × (length state.old ≡ state_size) × ((row_at waiting_t state.old q).count < most_waiting) }
+pub fn post_receive(state: &mut State, q: usize, w: ReceiveRecord)
+    requires { (q < qp_count) × ((row_at waiting_t state.old q).count < most_waiting) }
     ensures { state.new ≡ post_bytes state.old q w }
 {
     let h = rows::load_waiting(state, q);
@@ -116,8 +117,8 @@ pub fn post_receive(state: &mut [u8], q: usize, w: ReceiveRecord)
 }
 
 // The oldest receive waiting on queue pair q.
-pub fn oldest_receive(state: &[u8], q: usize) -> ReceiveRecord
-    requires { (q < qp_count) × (length state.now ≡ state_size) × ((row_at waiting_t state.now q).first < most_waiting) }
+pub fn oldest_receive(state: &State, q: usize) -> ReceiveRecord
+    requires { (q < qp_count) × ((row_at waiting_t state.now q).first < most_waiting) }
     ensures { result ≡ row_at receive_t state.now (most_waiting * q + (row_at waiting_t state.now q).first) }
 {
     let h = rows::load_waiting(state, q);
@@ -125,8 +126,8 @@ pub fn oldest_receive(state: &[u8], q: usize) -> ReceiveRecord
 }
 
 // Queue pair q without its oldest waiting receive.
-pub fn take_receive(state: &mut [u8], q: usize)
-    requires { (q < qp_count) × (length state.old ≡ state_size) × (0 < (row_at waiting_t state.old q).count) }
+pub fn take_receive(state: &mut State, q: usize)
+    requires { (q < qp_count) × (0 < (row_at waiting_t state.old q).count) }
     ensures { state.new ≡ take_bytes state.old q }
 {
     let h = rows::load_waiting(state, q);

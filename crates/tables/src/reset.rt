@@ -4,21 +4,17 @@ ghost use Rattle.tables.specs.Layout.{state_size};
 ghost use Rattle.tables.specs.Reset.{zeros, reset_bytes};
 
 use crate::rows;
+use crate::rows::State;
 
 // Sets every byte to 0.
 fn clear(state: &mut [u8])
     ensures { state.new ≡ zeros (length state.old) }
 {
-    let mut i = 0;
-    while i < state.len() {
-        state[i] = 0;
-        i += 1;
-    }
+    state.fill(0);
 }
 
 // An empty card over a memory of the given length.
-pub fn reset(state: &mut [u8], memory: u64)
-    requires { length state.old ≡ state_size }
+pub fn reset(state: &mut State, memory: u64)
     ensures { state.new ≡ reset_bytes memory }
 {
     clear(state);

@@ -2,15 +2,15 @@
 ghost use Rattle.std.specs.Prelude.{◌≡◌, ◌<◌, ◌≤◌, ◌+◌, length};
 ghost use Rattle.wire.specs.Parts.{part_at, put_part};
 ghost use Rattle.wire.specs.Table.{row_at, put_row};
-ghost use Rattle.tables.specs.Limits.{pd_count, cq_count, mr_count, qp_count, record_size};
-ghost use Rattle.tables.specs.Layout.{state_size, receive_count, entry_count, page_count, queued_count, memory_t, turn_t, pd_flag_t, cq_flag_t, cq_t, entry_t, mr_flag_t, mr_t, page_t, qp_flag_t, qp_t, waiting_t, receive_t, send_head_t, kind_t, record_p};
+ghost use Rattle.tables.specs.Limits.{cq_count, mr_count, qp_count, record_size};
+ghost use Rattle.tables.specs.Layout.{state_size, receive_count, entry_count, page_count, queued_count, memory_t, turn_t, flags_of, count_of, cq_t, entry_t, mr_t, page_t, qp_t, waiting_t, receive_t, send_head_t, kind_t, record_p};
 
 use crate::limits::{
     CQ_COUNT, MOST_PAGES, MOST_PLACES, MOST_QUEUED, MOST_WAITING, MR_COUNT, PD_COUNT, QP_COUNT,
     RECORD_SIZE,
 };
 use crate::{
-    Completion, QueueHead, QueuePair, ReceiveRecord, Region, SendKind, WaitingHead, records,
+    Completion, Kind, QueueHead, QueuePair, ReceiveRecord, Region, SendKind, WaitingHead, records,
 };
 
 // ---- where each table begins
@@ -65,17 +65,18 @@ pub const RECORDS: usize = KINDS + QP_COUNT * MOST_QUEUED * KIND_SIZE;
 
 pub const STATE_SIZE: usize = RECORDS + QP_COUNT * MOST_QUEUED * RECORD_SIZE;
 
+// The lent state.
+pub type State = [u8; STATE_SIZE];
+
 // ---- the memory length given at reset
 
-pub fn load_memory(state: &[u8]) -> u64
-    requires { length state.now ≡ state_size }
+pub fn load_memory(state: &State) -> u64
     ensures { result ≡ row_at memory_t state.now 0 }
 {
     wire::get64(state, MEMORY)
 }
 
-pub fn store_memory(state: &mut [u8], r: u64)
-    requires { length state.old ≡ state_size }
+pub fn store_memory(state: &mut State, r: u64)
     ensures { state.new ≡ put_row memory_t state.old 0 r }
 {
     wire::put64(state, MEMORY, r);
@@ -83,15 +84,13 @@ pub fn store_memory(state: &mut [u8], r: u64)
 
 // ---- the queue pair that a turn visits first
 
-pub fn load_turn(state: &[u8]) -> u8
-    requires { length state.now ≡ state_size }
+pub fn load_turn(state: &State) -> u8
     ensures { result ≡ row_at turn_t state.now 0 }
 {
     wire::get8(state, TURN)
 }
 
-pub fn store_turn(state: &mut [u8], r: u8)
-    requires { length state.old ≡ state_size }
+pub fn store_turn(state: &mut State, r: u8)
     ensures { state.new ≡ put_row turn_t state.old 0 r }
 {
     wire::put8(state, TURN, r);
@@ -99,66 +98,50 @@ pub fn store_turn(state: &mut [u8], r: u8)
 
 // ---- live flags: 1 where the object is live
 
-pub fn load_pd_flag(state: &[u8], n: usize) -> u8
-    requires { (n < pd_count) × (length state.now ≡ state_size) }
-    ensures { result ≡ row_at pd_flag_t state.now n }
-{
-    wire::get8(state, PD_FLAGS + n)
+impl Kind {
+    // Where its flags begin.
+    fn flags(self) -> usize
+        ensures { result ≡ (flags_of self).base }
+    {
+        match self {
+            Kind::Pd => PD_FLAGS,
+            Kind::Cq => CQ_FLAGS,
+            Kind::Mr => MR_FLAGS,
+            Kind::Qp => QP_FLAGS,
+        }
+    }
+
+    // How many there are.
+    pub fn count(self) -> usize
+        ensures { result ≡ count_of self }
+    {
+        match self {
+            Kind::Pd => PD_COUNT,
+            Kind::Cq => CQ_COUNT,
+            Kind::Mr => MR_COUNT,
+            Kind::Qp => QP_COUNT,
+        }
+    }
 }
 
-pub fn store_pd_flag(state: &mut [u8], n: usize, r: u8)
-    requires { (n < pd_count) × (length state.old ≡ state_size) }
-    ensures { state.new ≡ put_row pd_flag_t state.old n r }
+pub fn load_flag(state: &State, kind: Kind, n: usize) -> u8
+    requires { n < count_of kind }
+    ensures { result ≡ row_at (flags_of kind) state.now n }
 {
-    wire::put8(state, PD_FLAGS + n, r);
+    wire::get8(state, kind.flags() + n)
 }
 
-pub fn load_cq_flag(state: &[u8], n: usize) -> u8
-    requires { (n < cq_count) × (length state.now ≡ state_size) }
-    ensures { result ≡ row_at cq_flag_t state.now n }
+pub fn store_flag(state: &mut State, kind: Kind, n: usize, r: u8)
+    requires { n < count_of kind }
+    ensures { state.new ≡ put_row (flags_of kind) state.old n r }
 {
-    wire::get8(state, CQ_FLAGS + n)
-}
-
-pub fn store_cq_flag(state: &mut [u8], n: usize, r: u8)
-    requires { (n < cq_count) × (length state.old ≡ state_size) }
-    ensures { state.new ≡ put_row cq_flag_t state.old n r }
-{
-    wire::put8(state, CQ_FLAGS + n, r);
-}
-
-pub fn load_mr_flag(state: &[u8], n: usize) -> u8
-    requires { (n < mr_count) × (length state.now ≡ state_size) }
-    ensures { result ≡ row_at mr_flag_t state.now n }
-{
-    wire::get8(state, MR_FLAGS + n)
-}
-
-pub fn store_mr_flag(state: &mut [u8], n: usize, r: u8)
-    requires { (n < mr_count) × (length state.old ≡ state_size) }
-    ensures { state.new ≡ put_row mr_flag_t state.old n r }
-{
-    wire::put8(state, MR_FLAGS + n, r);
-}
-
-pub fn load_qp_flag(state: &[u8], n: usize) -> u8
-    requires { (n < qp_count) × (length state.now ≡ state_size) }
-    ensures { result ≡ row_at qp_flag_t state.now n }
-{
-    wire::get8(state, QP_FLAGS + n)
-}
-
-pub fn store_qp_flag(state: &mut [u8], n: usize, r: u8)
-    requires { (n < qp_count) × (length state.old ≡ state_size) }
-    ensures { state.new ≡ put_row qp_flag_t state.old n r }
-{
-    wire::put8(state, QP_FLAGS + n, r);
+    wire::put8(state, kind.flags() + n, r);
 }
 
 // ---- completion queues
 
-pub fn load_cq(state: &[u8], n: usize) -> QueueHead
-    requires { (n < cq_count) × (length state.now ≡ state_size) }
+pub fn load_cq(state: &State, n: usize) -> QueueHead
+    requires { n < cq_count }
     ensures { result ≡ row_at cq_t state.now n }
 {
     let b = wire::get_bytes4(state, CQS + n * CQ_SIZE);
@@ -169,23 +152,23 @@ pub fn load_cq(state: &[u8], n: usize) -> QueueHead
     }
 }
 
-pub fn store_cq(state: &mut [u8], n: usize, r: QueueHead)
-    requires { (n < cq_count) × (length state.old ≡ state_size) }
+pub fn store_cq(state: &mut State, n: usize, r: QueueHead)
+    requires { n < cq_count }
     ensures { state.new ≡ put_row cq_t state.old n r }
 {
     wire::put_bytes4(state, CQS + n * CQ_SIZE, r.places, r.first, r.count, 0);
 }
 
 // Completion row n: place k of completion queue q is row 16 q + k.
-pub fn load_entry(state: &[u8], n: usize) -> Completion
-    requires { (n < entry_count) × (length state.now ≡ state_size) }
+pub fn load_entry(state: &State, n: usize) -> Completion
+    requires { n < entry_count }
     ensures { result ≡ row_at entry_t state.now n }
 {
     records::get_completion(state, ENTRIES + n * ENTRY_SIZE)
 }
 
-pub fn store_entry(state: &mut [u8], n: usize, r: Completion)
-    requires { (n < entry_count) × (length state.old ≡ state_size) }
+pub fn store_entry(state: &mut State, n: usize, r: Completion)
+    requires { n < entry_count }
     ensures { state.new ≡ put_row entry_t state.old n r }
 {
     records::put_completion(state, ENTRIES + n * ENTRY_SIZE, r);
@@ -193,8 +176,8 @@ pub fn store_entry(state: &mut [u8], n: usize, r: Completion)
 
 // ---- regions
 
-pub fn load_mr(state: &[u8], n: usize) -> Region
-    requires { (n < mr_count) × (length state.now ≡ state_size) }
+pub fn load_mr(state: &State, n: usize) -> Region
+    requires { n < mr_count }
     ensures { result ≡ row_at mr_t state.now n }
 {
     let at = MRS + n * MR_SIZE;
@@ -210,8 +193,8 @@ pub fn load_mr(state: &[u8], n: usize) -> Region
     }
 }
 
-pub fn store_mr(state: &mut [u8], n: usize, r: Region)
-    requires { (n < mr_count) × (length state.old ≡ state_size) }
+pub fn store_mr(state: &mut State, n: usize, r: Region)
+    requires { n < mr_count }
     ensures { state.new ≡ put_row mr_t state.old n r }
 {
     let at = MRS + n * MR_SIZE;
@@ -222,15 +205,15 @@ pub fn store_mr(state: &mut [u8], n: usize, r: Region)
 }
 
 // Page number row n: place k of region slot q is row 16 q + k.
-pub fn load_page(state: &[u8], n: usize) -> u16
-    requires { (n < page_count) × (length state.now ≡ state_size) }
+pub fn load_page(state: &State, n: usize) -> u16
+    requires { n < page_count }
     ensures { result ≡ row_at page_t state.now n }
 {
     wire::get16(state, PAGES + n * PAGE_NUMBER)
 }
 
-pub fn store_page(state: &mut [u8], n: usize, r: u16)
-    requires { (n < page_count) × (length state.old ≡ state_size) }
+pub fn store_page(state: &mut State, n: usize, r: u16)
+    requires { n < page_count }
     ensures { state.new ≡ put_row page_t state.old n r }
 {
     wire::put16(state, PAGES + n * PAGE_NUMBER, r);
@@ -238,8 +221,8 @@ pub fn store_page(state: &mut [u8], n: usize, r: u16)
 
 // ---- queue pairs
 
-pub fn load_qp(state: &[u8], n: usize) -> QueuePair
-    requires { (n < qp_count) × (length state.now ≡ state_size) }
+pub fn load_qp(state: &State, n: usize) -> QueuePair
+    requires { n < qp_count }
     ensures { result ≡ row_at qp_t state.now n }
 {
     let b = wire::get_bytes8(state, QPS + n * QP_SIZE);
@@ -254,8 +237,8 @@ pub fn load_qp(state: &[u8], n: usize) -> QueuePair
     }
 }
 
-pub fn store_qp(state: &mut [u8], n: usize, r: QueuePair)
-    requires { (n < qp_count) × (length state.old ≡ state_size) }
+pub fn store_qp(state: &mut State, n: usize, r: QueuePair)
+    requires { n < qp_count }
     ensures { state.new ≡ put_row qp_t state.old n r }
 {
     let at = QPS + n * QP_SIZE;
@@ -265,8 +248,8 @@ pub fn store_qp(state: &mut [u8], n: usize, r: QueuePair)
 }
 
 // Where the waiting receives of queue pair n stand.
-pub fn load_waiting(state: &[u8], n: usize) -> WaitingHead
-    requires { (n < qp_count) × (length state.now ≡ state_size) }
+pub fn load_waiting(state: &State, n: usize) -> WaitingHead
+    requires { n < qp_count }
     ensures { result ≡ row_at waiting_t state.now n }
 {
     let b = wire::get_bytes2(state, WAITING + n * WAITING_SIZE);
@@ -276,16 +259,16 @@ pub fn load_waiting(state: &[u8], n: usize) -> WaitingHead
     }
 }
 
-pub fn store_waiting(state: &mut [u8], n: usize, r: WaitingHead)
-    requires { (n < qp_count) × (length state.old ≡ state_size) }
+pub fn store_waiting(state: &mut State, n: usize, r: WaitingHead)
+    requires { n < qp_count }
     ensures { state.new ≡ put_row waiting_t state.old n r }
 {
     wire::put_bytes2(state, WAITING + n * WAITING_SIZE, r.first, r.count);
 }
 
 // Receive row n: place k of queue pair q is row 4 q + k.
-pub fn load_receive(state: &[u8], n: usize) -> ReceiveRecord
-    requires { (n < receive_count) × (length state.now ≡ state_size) }
+pub fn load_receive(state: &State, n: usize) -> ReceiveRecord
+    requires { n < receive_count }
     ensures { result ≡ row_at receive_t state.now n }
 {
     let at = RECEIVES + n * RECEIVE_SIZE;
@@ -297,8 +280,8 @@ pub fn load_receive(state: &[u8], n: usize) -> ReceiveRecord
     }
 }
 
-pub fn store_receive(state: &mut [u8], n: usize, r: ReceiveRecord)
-    requires { (n < receive_count) × (length state.old ≡ state_size) }
+pub fn store_receive(state: &mut State, n: usize, r: ReceiveRecord)
+    requires { n < receive_count }
     ensures { state.new ≡ put_row receive_t state.old n r }
 {
     let at = RECEIVES + n * RECEIVE_SIZE;
@@ -313,8 +296,8 @@ pub fn store_receive(state: &mut [u8], n: usize, r: ReceiveRecord)
 // ---- queued sends
 
 // Where the queued sends of queue pair n stand.
-pub fn load_sends(state: &[u8], n: usize) -> WaitingHead
-    requires { (n < qp_count) × (length state.now ≡ state_size) }
+pub fn load_sends(state: &State, n: usize) -> WaitingHead
+    requires { n < qp_count }
     ensures { result ≡ row_at send_head_t state.now n }
 {
     let b = wire::get_bytes2(state, SENDS + n * WAITING_SIZE);
@@ -324,16 +307,16 @@ pub fn load_sends(state: &[u8], n: usize) -> WaitingHead
     }
 }
 
-pub fn store_sends(state: &mut [u8], n: usize, r: WaitingHead)
-    requires { (n < qp_count) × (length state.old ≡ state_size) }
+pub fn store_sends(state: &mut State, n: usize, r: WaitingHead)
+    requires { n < qp_count }
     ensures { state.new ≡ put_row send_head_t state.old n r }
 {
     wire::put_bytes2(state, SENDS + n * WAITING_SIZE, r.first, r.count);
 }
 
 // QueuedSend send n, without its record: place k of queue pair q is row 8 q + k.
-pub fn load_kind(state: &[u8], n: usize) -> SendKind
-    requires { (n < queued_count) × (length state.now ≡ state_size) }
+pub fn load_kind(state: &State, n: usize) -> SendKind
+    requires { n < queued_count }
     ensures { result ≡ row_at kind_t state.now n }
 {
     let w = wire::get32(state, KINDS + n * KIND_SIZE);
@@ -344,8 +327,8 @@ pub fn load_kind(state: &[u8], n: usize) -> SendKind
     }
 }
 
-pub fn store_kind(state: &mut [u8], n: usize, r: SendKind)
-    requires { (n < queued_count) × (length state.old ≡ state_size) }
+pub fn store_kind(state: &mut State, n: usize, r: SendKind)
+    requires { n < queued_count }
     ensures { state.new ≡ put_row kind_t state.old n r }
 {
     let at = KINDS + n * KIND_SIZE;
@@ -355,16 +338,16 @@ pub fn store_kind(state: &mut [u8], n: usize, r: SendKind)
 }
 
 // The bytes of place n, copied out.
-pub fn load_record(state: &[u8], n: usize, out: &mut [u8])
-    requires { (n < queued_count) × (length state.now ≡ state_size) × (length out.old ≡ record_size) }
+pub fn load_record(state: &State, n: usize, out: &mut [u8])
+    requires { (n < queued_count) × (length out.old ≡ record_size) }
     ensures { out.new ≡ part_at record_p state.now n }
 {
     wire::copy_bytes(out, 0, state, RECORDS + n * RECORD_SIZE, RECORD_SIZE);
 }
 
 // A record as it was lent, stored in place n.
-pub fn store_record(state: &mut [u8], n: usize, sent: &[u8])
-    requires { (n < queued_count) × (length state.old ≡ state_size) × (length sent.now ≤ record_size) }
+pub fn store_record(state: &mut State, n: usize, sent: &[u8])
+    requires { (n < queued_count) × (length sent.now ≤ record_size) }
     ensures { state.new ≡ put_part record_p state.old n sent.now }
 {
     wire::copy_bytes(state, RECORDS + n * RECORD_SIZE, sent, 0, sent.len());

@@ -7,6 +7,7 @@ ghost use Rattle.tables.specs.Queue.{place_bytes, queue_bytes, unqueue_bytes, ol
 ghost use Rattle.tables.specs.Records.{kind_of, sent_in};
 
 use crate::limits::MOST_QUEUED;
+use crate::rows::State;
 use crate::{SendKind, SendRecord, WaitingHead, records, rows};
 
 // The numbers of a record that stand in the column of the queued sends.
@@ -21,8 +22,8 @@ fn kind_of(s: SendRecord) -> SendKind
 }
 
 // The record `sent` in place p, with its numbers in the column.
-fn put_place(state: &mut [u8], p: usize, sent: &[u8])
-    requires { (p < queued_count) × (length state.old ≡ state_size) × (576 ≤ length sent.now) × (length sent.now ≤ record_size) }
+fn put_place(state: &mut State, p: usize, sent: &[u8])
+    requires { (p < queued_count) × (576 ≤ length sent.now) × (length sent.now ≤ record_size) }
     ensures { state.new ≡ place_bytes state.old p sent.now }
 {
     rows::store_record(state, p, sent);
@@ -30,8 +31,8 @@ fn put_place(state: &mut [u8], p: usize, sent: &[u8])
 }
 
 // The record `sent` as the newest of queue pair q's queue.
-pub fn push_send(state: &mut [u8], q: usize, sent: &[u8])
-    requires q_lt_qp_count { (q < qp_count) × (length state.old ≡ state_size) × ((row_at send_head_t state.old q).count < most_queued) }
+pub fn push_send(state: &mut State, q: usize, sent: &[u8])
+    requires q_lt_qp_count { (q < qp_count) × ((row_at send_head_t state.old q).count < most_queued) }
     requires in_bounds { (576 ≤ length sent.now) × (length sent.now ≤ record_size) }
     ensures { state.new ≡ queue_bytes state.old q sent.now }
 {
@@ -46,8 +47,8 @@ pub fn push_send(state: &mut [u8], q: usize, sent: &[u8])
 }
 
 // The opcode of the oldest queued send of queue pair q.
-pub fn first_opcode(state: &[u8], q: usize) -> u8
-    requires { (q < qp_count) × (length state.now ≡ state_size) × ((row_at send_head_t state.now q).first < most_queued) }
+pub fn first_opcode(state: &State, q: usize) -> u8
+    requires { (q < qp_count) × ((row_at send_head_t state.now q).first < most_queued) }
     ensures { result ≡ (oldest_send state.now q).kind.opcode }
 {
     let h = rows::load_sends(state, q);
@@ -57,8 +58,8 @@ pub fn first_opcode(state: &[u8], q: usize) -> u8
 
 // The oldest queued send of queue pair q: its numbers, and its record copied out, so that the state can be written while it is
 // read.
-pub fn first_send(state: &[u8], q: usize, out: &mut [u8]) -> SendRecord
-    requires q_lt_qp_count { (q < qp_count) × (length state.now ≡ state_size) × ((row_at send_head_t state.now q).first < most_queued) }
+pub fn first_send(state: &State, q: usize, out: &mut [u8]) -> SendRecord
+    requires q_lt_qp_count { (q < qp_count) × ((row_at send_head_t state.now q).first < most_queued) }
     requires out_len { length out.old ≡ record_size }
     ensures { (result ≡ sent_in (oldest_send state.now q)) × (out.new ≡ (oldest_send state.now q).body) }
 {
@@ -79,8 +80,8 @@ pub fn first_send(state: &[u8], q: usize, out: &mut [u8]) -> SendRecord
 }
 
 // Queue pair q without its oldest queued send.
-pub fn pop_send(state: &mut [u8], q: usize)
-    requires { (q < qp_count) × (length state.old ≡ state_size) × (0 < (row_at send_head_t state.old q).count) }
+pub fn pop_send(state: &mut State, q: usize)
+    requires { (q < qp_count) × (0 < (row_at send_head_t state.old q).count) }
     ensures { state.new ≡ unqueue_bytes state.old q }
 {
     let h = rows::load_sends(state, q);

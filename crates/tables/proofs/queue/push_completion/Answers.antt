@@ -24,7 +24,7 @@ store_head-requires c =
     let f = ap (λ (q : CompletionQueue). q.first) p in
     let k = ap (λ (q : CompletionQueue). q.count) p in
     let z = ap (λ (q : CompletionQueue). q.places) p in
-    (omega arith, search rules, omega arith, omega arith, omega arith)
+    (search rules, omega arith, omega arith, omega arith)
 
 pub returns : goal.returns
 unfolding push_bytes

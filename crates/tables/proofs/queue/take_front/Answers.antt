@@ -14,7 +14,7 @@ use Rattle.tables.proofs.queue.take_front.Goals as goal
 pub load_entry-requires : goal.load_entry-requires
 load_entry-requires c =
     let f = ap (λ (h : QueueHead). h.first) c.load_cq-h.ensures in
-    (omega arith, omega arith)
+    omega arith
 
 pub bounds-q-at : goal.bounds-q-at
 bounds-q-at c =
@@ -37,7 +37,7 @@ store_head-requires c =
     let f = ap (λ (q : CompletionQueue). q.first) p in
     let k = ap (λ (q : CompletionQueue). q.count) p in
     let z = ap (λ (q : CompletionQueue). q.places) p in
-    (omega arith, search rules, omega arith, omega arith, omega arith)
+    (search rules, omega arith, omega arith, omega arith)
 
 pub returns : goal.returns
 unfolding pop_bytes

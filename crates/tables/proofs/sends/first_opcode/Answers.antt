@@ -7,7 +7,7 @@ use Rattle.tables.proofs.sends.first_opcode.Goals as goal
 pub load_kind-k-requires : goal.load_kind-k-requires
 load_kind-k-requires c =
     let e = ap (λ (h : WaitingHead). h.first) c.load_sends-h.ensures in
-    (omega arith, omega arith)
+    omega arith
 
 pub returns : goal.returns
 returns c = cc
