@@ -1,13 +1,19 @@
--- A live flag is one byte of its kind's column. Assumes nothing.
-use Rattle.std.specs.Prelude.{◌≡◌, refl, ℕ, ◌+◌, ◌≤◌, ◌<◌, List}
+-- A live flag is one byte of its kind's column, a head two bytes of its queue's. Assumes nothing.
+use Rattle.std.specs.Prelude.{◌≡◌, refl, ℕ, ◌+◌, ◌*◌, ◌≤◌, ◌<◌, List, [], ◌∷◌, slice_index_or, ◌-◌}
 use native.Mathlib.Omega.{arith}
 use native.Mathlib.Nat.{add-zero, mul-one}
 use Rattle.wire.specs.Le.{le_at, put_le}
+use Rattle.wire.specs.Ring.{ring_place}
 use Rattle.wire.specs.Table.{row_at, put_row, place}
-use Rattle.wire.specs.Codec.{fields_at, put_fields}
-use Rattle.tables.specs.Layout.{state_size, flag_codec, count_of, flags_of, pd_flag_t, cq_flag_t, mr_flag_t, qp_flag_t}
+use Rattle.tables.specs.Queue.{drop_bytes, take_bytes, unqueue_bytes}
+use Rattle.wire.specs.Codec.{fields_at, put_fields, bytes_from}
+use Rattle.tables.specs.Limits.{qp_count}
+use Rattle.tables.specs.Layout.{state_size, flag_codec, waiting_codec, count_of, flags_of, heads_of, places_of, waiting_t, send_head_t, pd_flag_t, cq_flag_t, mr_flag_t, qp_flag_t}
 use Rattle.tables.specs.declared.Kind.{Kind}
 use Rattle.tables.specs.declared.Kind.TheVariants.{Pd, Cq, Mr, Qp}
+use Rattle.tables.specs.declared.WaitingHead.{WaitingHead}
+use Rattle.tables.specs.declared.WorkQueue.{WorkQueue}
+use Rattle.tables.specs.declared.WorkQueue.TheVariants.{Receive, Send}
 
 pub flag_within : (k : Kind) (n : ℕ) → n < count_of k → (flags_of k).base + n + 1 ≤ state_size
 unfolding pd_flag_t cq_flag_t mr_flag_t qp_flag_t
@@ -29,3 +35,31 @@ flag_put Pd l n v = rw (mul-one, add-zero) refl
 flag_put Cq l n v = rw (mul-one, add-zero) refl
 flag_put Mr l n v = rw (mul-one, add-zero) refl
 flag_put Qp l n v = rw (mul-one, add-zero) refl
+
+pub head_within : (k : WorkQueue) (n : ℕ) → n < qp_count → (heads_of k).base + n * 2 + 2 ≤ state_size
+unfolding waiting_t send_head_t
+head_within Receive n h = omega arith
+head_within Send n h = omega arith
+
+abbrev head_in : List ℕ → WaitingHead
+head_in b = record { first = slice_index_or b 0 0; count = slice_index_or b 1 0 }
+
+pub head_read : (k : WorkQueue) (l : List ℕ) (n : ℕ) → head_in (fields_at (bytes_from 2 0) l ((heads_of k).base + n * 2)) ≡ row_at (heads_of k) l n
+unfolding row_at waiting_codec place bytes_from waiting_t send_head_t
+head_read Receive l n = refl
+head_read Send l n = refl
+
+pub head_put : (k : WorkQueue) (l : List ℕ) (n : ℕ) (r : WaitingHead)
+    → put_fields (bytes_from 2 0) l ((heads_of k).base + n * 2) (r.first ∷ r.count ∷ []) ≡ put_row (heads_of k) l n r
+unfolding put_row waiting_codec place bytes_from waiting_t send_head_t
+head_put Receive l n r = refl
+head_put Send l n r = refl
+
+abbrev shorter_head : (places : ℕ) → WaitingHead → WaitingHead
+shorter_head n h = record { first = ring_place n h.first 1; count = h.count - 1 }
+
+pub head_dropped : (k : WorkQueue) (l : List ℕ) (q : ℕ)
+    → put_row (heads_of k) l q (shorter_head (places_of k) (row_at (heads_of k) l q)) ≡ drop_bytes k l q
+unfolding take_bytes unqueue_bytes
+head_dropped Receive l q = refl
+head_dropped Send l q = refl

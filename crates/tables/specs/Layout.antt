@@ -15,6 +15,8 @@ use Rattle.tables.specs.declared.QueuePair.{QueuePair}
 use Rattle.tables.specs.declared.WaitingHead.{WaitingHead}
 use Rattle.tables.specs.declared.ReceiveRecord.{ReceiveRecord}
 use Rattle.tables.specs.declared.SendKind.{SendKind}
+use Rattle.tables.specs.declared.WorkQueue.{WorkQueue}
+use Rattle.tables.specs.declared.WorkQueue.TheVariants.{Receive, Send}
 
 -- ---- rows
 
@@ -262,3 +264,13 @@ flags_of Pd = pd_flag_t
 flags_of Cq = cq_flag_t
 flags_of Mr = mr_flag_t
 flags_of Qp = qp_flag_t
+
+-- ---- the two queues of a queue pair: their places, and their column of heads
+
+abbrev pub places_of : WorkQueue → ℕ
+places_of Receive = most_waiting
+places_of Send = most_queued
+
+abbrev pub heads_of : WorkQueue → Table WaitingHead
+heads_of Receive = waiting_t
+heads_of Send = send_head_t

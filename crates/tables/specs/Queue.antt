@@ -14,6 +14,8 @@ use Rattle.tables.specs.declared.CompletionQueue.{CompletionQueue}
 use Rattle.tables.specs.declared.QueueHead.{QueueHead}
 use Rattle.tables.specs.declared.ReceiveRecord.{ReceiveRecord}
 use Rattle.tables.specs.declared.WaitingHead.{WaitingHead}
+use Rattle.tables.specs.declared.WorkQueue.{WorkQueue}
+use Rattle.tables.specs.declared.WorkQueue.TheVariants.{Receive, Send}
 
 -- ---- "a completion queue struct holds its ring of entries as an array, with first place and count"
 
@@ -93,3 +95,8 @@ shrunk_sends h = record { first = ring_place most_queued h.first 1; count = h.co
 
 unfoldable pub unqueue_bytes : List ℕ → (q : ℕ) → List ℕ
 unqueue_bytes l q = put_row send_head_t l q (shrunk_sends (row_at send_head_t l q))
+
+-- either queue without its oldest
+abbrev pub drop_bytes : WorkQueue → List ℕ → (q : ℕ) → List ℕ
+drop_bytes Receive l q = take_bytes l q
+drop_bytes Send l q = unqueue_bytes l q

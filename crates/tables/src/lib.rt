@@ -26,7 +26,7 @@ pub struct Sge {
 }
 
 // A completion; wr is the work request's wr_id, owner the number of the queue pair.
-#[derive(Clone, Copy)]
+#[derive(Clone, Copy, Default)]
 pub struct Completion {
     pub wr: u64,
     pub status: u8,
@@ -67,7 +67,14 @@ pub struct QueuePair {
     pub rights: u8,
 }
 
-// Where a queue pair's waiting receives stand among its 4 places, or its queued sends among its 8: the oldest, and how many.
+// The two queues of a queue pair: its waiting receives, of 4 places, and its queued sends, of 8.
+#[derive(Clone, Copy)]
+pub enum WorkQueue {
+    Receive,
+    Send,
+}
+
+// Where those of a queue stand among its places: the oldest, and how many.
 #[derive(Clone, Copy)]
 pub struct WaitingHead {
     pub first: u8,

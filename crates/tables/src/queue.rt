@@ -1,14 +1,13 @@
 // Completion queues and waiting receives in the lent state. Definitions: specs/Queue.antt.
 ghost use Rattle.std.specs.Prelude.{◌≡◌, ◌<◌, ◌+◌, ◌*◌, ◌-◌, length};
 ghost use Rattle.wire.specs.Table.{row_at, put_row};
-ghost use Rattle.tables.specs.Layout.{state_size, cq_t, waiting_t, receive_t};
+ghost use Rattle.tables.specs.Layout.{cq_t, heads_of, waiting_t, receive_t};
 ghost use Rattle.tables.specs.Limits.{cq_count, qp_count, most_places, most_waiting};
-ghost use Rattle.tables.specs.Queue.{pushed_queue, popped_queue, head_of, front_at, push_bytes, pop_bytes, post_bytes, take_bytes};
-ghost use Rattle.tables.specs.State.{no_completion};
+ghost use Rattle.tables.specs.Queue.{pushed_queue, popped_queue, head_of, front_at, push_bytes, pop_bytes, post_bytes, drop_bytes};
 
 use crate::limits::{MOST_PLACES, MOST_WAITING};
 use crate::rows::State;
-use crate::{Completion, CompletionQueue, QueueHead, ReceiveRecord, WaitingHead, rows};
+use crate::{Completion, CompletionQueue, QueueHead, ReceiveRecord, WaitingHead, WorkQueue, rows};
 
 impl CompletionQueue {
     // The queue with one completion more, as its newest.
@@ -35,20 +34,6 @@ impl CompletionQueue {
 
 // ---- completion queues in the state
 
-// A place of a ring that no call looks at.
-fn no_completion() -> Completion
-    ensures { result ≡ no_completion }
-{
-    Completion {
-        wr: 0,
-        status: 0,
-        opcode: 0,
-        length: 0,
-        imm: 0,
-        owner: 0,
-    }
-}
-
 // The head of a queue, for completion queue n.
 fn store_head(state: &mut State, n: usize, q: CompletionQueue)
     requires { (n < cq_count) × (q.first < 256) × (q.count < 256) × (q.places < 256) }
@@ -69,7 +54,7 @@ pub fn take_front(state: &mut State, n: usize) -> Completion
 {
     let h = rows::load_cq(state, n);
     let mut q = CompletionQueue {
-        ring: [no_completion(); 16],
+        ring: [Completion::default(); 16],
         first: h.first as usize,
         count: h.count as usize,
         places: h.places as usize,
@@ -88,7 +73,7 @@ pub fn push_completion(state: &mut State, n: usize, e: Completion)
 {
     let h = rows::load_cq(state, n);
     let q = CompletionQueue {
-        ring: [no_completion(); 16],
+        ring: [Completion::default(); 16],
         first: h.first as usize,
         count: h.count as usize,
         places: h.places as usize,
@@ -106,14 +91,14 @@ pub fn post_receive(state: &mut State, q: usize, w: ReceiveRecord)
     requires { (q < qp_count) × ((row_at waiting_t state.old q).count < most_waiting) }
     ensures { state.new ≡ post_bytes state.old q w }
 {
-    let h = rows::load_waiting(state, q);
+    let h = rows::load_head(state, WorkQueue::Receive, q);
     let at = wire::ring_place(MOST_WAITING, h.first as usize, h.count as usize);
     rows::store_receive(state, MOST_WAITING * q + at, w);
     let next = WaitingHead {
-        first: h.first,
         count: h.count + 1,
+        ..h
     };
-    rows::store_waiting(state, q, next);
+    rows::store_head(state, WorkQueue::Receive, q, next);
 }
 
 // The oldest receive waiting on queue pair q.
@@ -121,20 +106,19 @@ pub fn oldest_receive(state: &State, q: usize) -> ReceiveRecord
     requires { (q < qp_count) × ((row_at waiting_t state.now q).first < most_waiting) }
     ensures { result ≡ row_at receive_t state.now (most_waiting * q + (row_at waiting_t state.now q).first) }
 {
-    let h = rows::load_waiting(state, q);
+    let h = rows::load_head(state, WorkQueue::Receive, q);
     rows::load_receive(state, MOST_WAITING * q + h.first as usize)
 }
 
-// Queue pair q without its oldest waiting receive.
-pub fn take_receive(state: &mut State, q: usize)
-    requires { (q < qp_count) × (0 < (row_at waiting_t state.old q).count) }
-    ensures { state.new ≡ take_bytes state.old q }
+// Queue pair q without the oldest of one of its queues.
+pub fn drop_oldest(state: &mut State, queue: WorkQueue, q: usize)
+    requires { (q < qp_count) × (0 < (row_at (heads_of queue) state.old q).count) }
+    ensures { state.new ≡ drop_bytes queue state.old q }
 {
-    let h = rows::load_waiting(state, q);
-    let first = wire::ring_place(MOST_WAITING, h.first as usize, 1);
+    let h = rows::load_head(state, queue, q);
     let next = WaitingHead {
-        first: first as u8,
+        first: wire::ring_place(queue.places(), h.first as usize, 1) as u8,
         count: h.count - 1,
     };
-    rows::store_waiting(state, q, next);
+    rows::store_head(state, queue, q, next);
 }

@@ -3,14 +3,15 @@ ghost use Rattle.std.specs.Prelude.{◌≡◌, ◌<◌, ◌≤◌, ◌+◌, leng
 ghost use Rattle.wire.specs.Parts.{part_at, put_part};
 ghost use Rattle.wire.specs.Table.{row_at, put_row};
 ghost use Rattle.tables.specs.Limits.{cq_count, mr_count, qp_count, record_size};
-ghost use Rattle.tables.specs.Layout.{state_size, receive_count, entry_count, page_count, queued_count, memory_t, turn_t, flags_of, count_of, cq_t, entry_t, mr_t, page_t, qp_t, waiting_t, receive_t, send_head_t, kind_t, record_p};
+ghost use Rattle.tables.specs.Layout.{state_size, receive_count, entry_count, page_count, queued_count, memory_t, turn_t, flags_of, count_of, cq_t, entry_t, mr_t, page_t, qp_t, heads_of, places_of, receive_t, kind_t, record_p};
 
 use crate::limits::{
     CQ_COUNT, MOST_PAGES, MOST_PLACES, MOST_QUEUED, MOST_WAITING, MR_COUNT, PD_COUNT, QP_COUNT,
     RECORD_SIZE,
 };
 use crate::{
-    Completion, Kind, QueueHead, QueuePair, ReceiveRecord, Region, SendKind, WaitingHead, records,
+    Completion, Kind, QueueHead, QueuePair, ReceiveRecord, Region, SendKind, WaitingHead,
+    WorkQueue, records,
 };
 
 // ---- where each table begins
@@ -247,23 +248,42 @@ pub fn store_qp(state: &mut State, n: usize, r: QueuePair)
     );
 }
 
-// Where the waiting receives of queue pair n stand.
-pub fn load_waiting(state: &State, n: usize) -> WaitingHead
-    requires { n < qp_count }
-    ensures { result ≡ row_at waiting_t state.now n }
-{
-    let b = wire::get_bytes2(state, WAITING + n * WAITING_SIZE);
-    WaitingHead {
-        first: b[0],
-        count: b[1],
+impl WorkQueue {
+    // Where its heads begin.
+    fn heads(self) -> usize
+        ensures { result ≡ (heads_of self).base }
+    {
+        match self {
+            WorkQueue::Receive => WAITING,
+            WorkQueue::Send => SENDS,
+        }
+    }
+
+    // How many places it has.
+    pub fn places(self) -> usize
+        ensures { result ≡ places_of self }
+    {
+        match self {
+            WorkQueue::Receive => MOST_WAITING,
+            WorkQueue::Send => MOST_QUEUED,
+        }
     }
 }
 
-pub fn store_waiting(state: &mut State, n: usize, r: WaitingHead)
+// Where those of a queue of queue pair n stand.
+pub fn load_head(state: &State, queue: WorkQueue, n: usize) -> WaitingHead
     requires { n < qp_count }
-    ensures { state.new ≡ put_row waiting_t state.old n r }
+    ensures { result ≡ row_at (heads_of queue) state.now n }
 {
-    wire::put_bytes2(state, WAITING + n * WAITING_SIZE, r.first, r.count);
+    let [first, count] = wire::get_bytes2(state, queue.heads() + n * WAITING_SIZE);
+    WaitingHead { first, count }
+}
+
+pub fn store_head(state: &mut State, queue: WorkQueue, n: usize, r: WaitingHead)
+    requires { n < qp_count }
+    ensures { state.new ≡ put_row (heads_of queue) state.old n r }
+{
+    wire::put_bytes2(state, queue.heads() + n * WAITING_SIZE, r.first, r.count);
 }
 
 // Receive row n: place k of queue pair q is row 4 q + k.
@@ -295,26 +315,7 @@ pub fn store_receive(state: &mut State, n: usize, r: ReceiveRecord)
 
 // ---- queued sends
 
-// Where the queued sends of queue pair n stand.
-pub fn load_sends(state: &State, n: usize) -> WaitingHead
-    requires { n < qp_count }
-    ensures { result ≡ row_at send_head_t state.now n }
-{
-    let b = wire::get_bytes2(state, SENDS + n * WAITING_SIZE);
-    WaitingHead {
-        first: b[0],
-        count: b[1],
-    }
-}
-
-pub fn store_sends(state: &mut State, n: usize, r: WaitingHead)
-    requires { n < qp_count }
-    ensures { state.new ≡ put_row send_head_t state.old n r }
-{
-    wire::put_bytes2(state, SENDS + n * WAITING_SIZE, r.first, r.count);
-}
-
-// QueuedSend send n, without its record: place k of queue pair q is row 8 q + k.
+// Queued send n, without its record: place k of queue pair q is row 8 q + k.
 pub fn load_kind(state: &State, n: usize) -> SendKind
     requires { n < queued_count }
     ensures { result ≡ row_at kind_t state.now n }

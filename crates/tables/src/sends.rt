@@ -1,14 +1,14 @@
-// QueuedSend sends in the lent state. Definitions: specs/Queue.antt.
+// Queued sends in the lent state. Definitions: specs/Queue.antt.
 ghost use Rattle.std.specs.Prelude.{◌≡◌, ◌<◌, ◌≤◌, length};
 ghost use Rattle.wire.specs.Table.{row_at};
 ghost use Rattle.tables.specs.Layout.{state_size, queued_count, send_head_t};
 ghost use Rattle.tables.specs.Limits.{qp_count, most_queued, record_size};
-ghost use Rattle.tables.specs.Queue.{place_bytes, queue_bytes, unqueue_bytes, oldest_send};
+ghost use Rattle.tables.specs.Queue.{place_bytes, queue_bytes, oldest_send};
 ghost use Rattle.tables.specs.Records.{kind_of, sent_in};
 
 use crate::limits::MOST_QUEUED;
 use crate::rows::State;
-use crate::{SendKind, SendRecord, WaitingHead, records, rows};
+use crate::{SendKind, SendRecord, WaitingHead, WorkQueue, records, rows};
 
 // The numbers of a record that stand in the column of the queued sends.
 fn kind_of(s: SendRecord) -> SendKind
@@ -36,14 +36,14 @@ pub fn push_send(state: &mut State, q: usize, sent: &[u8])
     requires in_bounds { (576 ≤ length sent.now) × (length sent.now ≤ record_size) }
     ensures { state.new ≡ queue_bytes state.old q sent.now }
 {
-    let h = rows::load_sends(state, q);
+    let h = rows::load_head(state, WorkQueue::Send, q);
     let at = wire::ring_place(MOST_QUEUED, h.first as usize, h.count as usize);
     put_place(state, MOST_QUEUED * q + at, sent);
     let next = WaitingHead {
-        first: h.first,
         count: h.count + 1,
+        ..h
     };
-    rows::store_sends(state, q, next);
+    rows::store_head(state, WorkQueue::Send, q, next);
 }
 
 // The opcode of the oldest queued send of queue pair q.
@@ -51,7 +51,7 @@ pub fn first_opcode(state: &State, q: usize) -> u8
     requires { (q < qp_count) × ((row_at send_head_t state.now q).first < most_queued) }
     ensures { result ≡ (oldest_send state.now q).kind.opcode }
 {
-    let h = rows::load_sends(state, q);
+    let h = rows::load_head(state, WorkQueue::Send, q);
     let k = rows::load_kind(state, MOST_QUEUED * q + h.first as usize);
     k.opcode
 }
@@ -63,32 +63,15 @@ pub fn first_send(state: &State, q: usize, out: &mut [u8]) -> SendRecord
     requires out_len { length out.old ≡ record_size }
     ensures { (result ≡ sent_in (oldest_send state.now q)) × (out.new ≡ (oldest_send state.now q).body) }
 {
-    let h = rows::load_sends(state, q);
+    let h = rows::load_head(state, WorkQueue::Send, q);
     let at = MOST_QUEUED * q + h.first as usize;
     rows::load_record(state, at, out);
     let s = records::send_head(out);
     let k = rows::load_kind(state, at);
     SendRecord {
-        wr: s.wr,
         opcode: k.opcode,
         flags: k.flags,
-        imm: s.imm,
-        address: s.address,
-        key: s.key,
         count: k.count as u32,
+        ..s
     }
-}
-
-// Queue pair q without its oldest queued send.
-pub fn pop_send(state: &mut State, q: usize)
-    requires { (q < qp_count) × (0 < (row_at send_head_t state.old q).count) }
-    ensures { state.new ≡ unqueue_bytes state.old q }
-{
-    let h = rows::load_sends(state, q);
-    let first = wire::ring_place(MOST_QUEUED, h.first as usize, 1);
-    let next = WaitingHead {
-        first: first as u8,
-        count: h.count - 1,
-    };
-    rows::store_sends(state, q, next);
 }

@@ -5,7 +5,7 @@ use Rattle.tables.proofs.queue.oldest_receive.Goals as goal
 
 pub load_receive-requires : goal.load_receive-requires
 load_receive-requires c =
-    let e = ap (λ (h : WaitingHead). h.first) c.load_waiting-h.ensures in
+    let e = ap (λ (h : WaitingHead). h.first) c.load_head-h.ensures in
     omega arith
 
 pub returns : goal.returns

@@ -6,7 +6,7 @@ use Rattle.tables.proofs.queue.post_receive.Goals as goal
 
 pub overflow_add-next : goal.overflow_add-next
 overflow_add-next c =
-    let e = ap (λ (h : WaitingHead). h.count) c.load_waiting-h.ensures in
+    let e = ap (λ (h : WaitingHead). h.count) c.load_head-h.ensures in
     omega arith
 
 pub returns : goal.returns

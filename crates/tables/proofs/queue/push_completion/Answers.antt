@@ -36,7 +36,7 @@ returns c =
     let at = c3.ring_place-at in
     let h = c4.load_cq-h in
     let e = c4.args.e in
-    let none = c4.no_completion.result in
+    let none = c4.default.result in
     let b : at.result < length (replicate most_places none) =
     rw (at.ensures, length-replicate most_places none) (mod-lt (h.result.first + h.result.count) (omega arith)) in
     let stored : get_or c3.push-longer.result.ring at.result no_completion ≡ e =

@@ -46,8 +46,8 @@ returns c =
     let c2 = c1 in
     let c3 = c2 in
     let h = c3.load_cq-h in
-    let ring = replicate most_places c3.no_completion.result in
+    let ring = replicate most_places c3.default.result in
     let f = ap (λ (x : QueueHead). x.first) h.ensures in
-    let b : h.result.first < length ring = rw (length-replicate most_places c3.no_completion.result) (omega arith) in
+    let b : h.result.first < length ring = rw (length-replicate most_places no_completion) (omega arith) in
     let front = get_or-set_same ring h.result.first c2.load_entry.result no_completion b in
     (front ∙ rw (c2.load_entry.ensures, h.ensures), rw (c1.store_head.ensures, c1.pop.ensures, h.ensures))

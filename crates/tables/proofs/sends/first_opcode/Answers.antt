@@ -6,7 +6,7 @@ use Rattle.tables.proofs.sends.first_opcode.Goals as goal
 
 pub load_kind-k-requires : goal.load_kind-k-requires
 load_kind-k-requires c =
-    let e = ap (λ (h : WaitingHead). h.first) c.load_sends-h.ensures in
+    let e = ap (λ (h : WaitingHead). h.first) c.load_head-h.ensures in
     omega arith
 
 pub returns : goal.returns

@@ -6,12 +6,12 @@ use Rattle.tables.proofs.sends.first_send.Goals as goal
 
 pub load_record-requires : goal.load_record-requires
 load_record-requires c =
-    let e = ap (λ (h : WaitingHead). h.first) c.load_sends-h.ensures in
+    let e = ap (λ (h : WaitingHead). h.first) c.load_head-h.ensures in
     (omega arith, omega arith)
 
 pub load_kind-k-requires : goal.load_kind-k-requires
 load_kind-k-requires c =
-    let e = ap (λ (h : WaitingHead). h.first) c.load_sends-h.ensures in
+    let e = ap (λ (h : WaitingHead). h.first) c.load_head-h.ensures in
     omega arith
 
 pub returns : goal.returns
