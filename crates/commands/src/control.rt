@@ -23,7 +23,6 @@ use rules::numbers::{
     SHORT_BUFFER, UNKNOWN, WRONG_LENGTH,
 };
 use tables::limits::{CQ_COUNT, FLAT, MOST_ADDRESS, MOST_PLACES, MR_COUNT, PD_COUNT};
-use tables::rows::State;
 use tables::{
     Ack, HeadRead, NumberRead, QueueHead, Region, RegisterRead, Registration, records, rows,
 };
@@ -45,8 +44,8 @@ fn places_fine(n: u32) -> bool
 }
 
 // The free number n is a completion queue with no completion.
-fn put_queue(state: &mut State, n: usize, places: u8)
-    requires { (n < cq_count) × (n ≡ free_cqn (card state.old)) }
+fn put_queue(state: &mut [u8], n: usize, places: u8)
+    requires { (n < cq_count) × (length state.old ≡ state_size) × (n ≡ free_cqn (card state.old)) }
     ensures { state.new ≡ command_bytes state.old (Command.create_cq places) }
 {
     let head = QueueHead {
@@ -58,7 +57,8 @@ fn put_queue(state: &mut State, n: usize, places: u8)
     rows::store_cq_flag(state, n, 1);
 }
 
-fn create_cq(state: &mut State, read: NumberRead) -> Outcome
+fn create_cq(state: &mut [u8], read: NumberRead) -> Outcome
+    requires { length state.old ≡ state_size }
     ensures { Ran state.old (numbered Command.create_cq read) result state.new }
 {
     let NumberRead::Value(places) = read else {
@@ -77,7 +77,8 @@ fn create_cq(state: &mut State, read: NumberRead) -> Outcome
 
 // ---- domains
 
-fn create_pd(state: &mut State, command: &[u8]) -> Outcome
+fn create_pd(state: &mut [u8], command: &[u8]) -> Outcome
+    requires { length state.old ≡ state_size }
     ensures { Ran state.old (bare Command.create_pd command.now) result state.new }
 {
     if command.len() != HEAD_SIZE {
@@ -110,8 +111,9 @@ pub fn key_of(n: usize, variant: u8) -> u32
 }
 
 // The free slot n holds the region, of either kind, under the slot's next variant, which is returned.
-pub fn put_region(state: &mut State, n: usize, g: Registration, kind: u8) -> u8
-    requires { (n < mr_count) × (n ≡ free_mrn (card state.old)) × (access_ok g.access ≡ true) × ((card state.old).pd g.pd ≡ true) }
+pub fn put_region(state: &mut [u8], n: usize, g: Registration, kind: u8) -> u8
+    requires { (n < mr_count) × (length state.old ≡ state_size) × (n ≡ free_mrn (card state.old))
+        × (access_ok g.access ≡ true) × ((card state.old).pd g.pd ≡ true) }
     ensures { (result ≡ new_variant (card state.old)) × (state.new ≡ region_bytes state.old kind g) }
 {
     let variant = rows::load_mr(state, n).variant + 1;
@@ -129,7 +131,8 @@ pub fn put_region(state: &mut State, n: usize, g: Registration, kind: u8) -> u8
     variant
 }
 
-fn register(state: &mut State, read: RegisterRead) -> Outcome
+fn register(state: &mut [u8], read: RegisterRead) -> Outcome
+    requires { length state.old ≡ state_size }
     ensures { Ran state.old (registering read) result state.new }
 {
     let RegisterRead::Value(g) = read else {
@@ -155,8 +158,8 @@ fn register(state: &mut State, read: RegisterRead) -> Outcome
 // ---- any command
 
 // The command number chooses the reader and the rules.
-fn run(state: &mut State, command: &[u8], number: u8) -> Outcome
-    requires { number ≡ le_at 1 command.now 1 }
+fn run(state: &mut [u8], command: &[u8], number: u8) -> Outcome
+    requires { (length state.old ≡ state_size) × (number ≡ le_at 1 command.now 1) }
     ensures { Chosen state.old command.now result state.new }
 {
     match number {
@@ -175,7 +178,8 @@ fn run(state: &mut State, command: &[u8], number: u8) -> Outcome
     }
 }
 
-fn dispatch(state: &mut State, command: &[u8]) -> Outcome
+fn dispatch(state: &mut [u8], command: &[u8]) -> Outcome
+    requires { length state.old ≡ state_size }
     ensures { Classed state.old command.now result state.new }
 {
     match records::read_head(command) {

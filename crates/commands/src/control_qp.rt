@@ -14,7 +14,6 @@ use crate::Outcome;
 use crate::destroy::qp_live;
 use rules::numbers::{BAD_FIELD, FULL, NOT_LIVE, WRONG_LENGTH, WRONG_STATE};
 use tables::limits::{ERROR, MOST_ACCESS, QP_COUNT, RESET, RTR, RTS};
-use tables::rows::State;
 use tables::{Ack, CreateQp, CreateQpRead, ModifyQp, ModifyQpRead, QueuePair, WaitingHead, rows};
 use validate::{accept, find};
 
@@ -38,7 +37,8 @@ fn create_fine(r: CreateQp) -> bool
 }
 
 // Whether the objects that a new queue pair names are live.
-fn create_live(state: &State, r: CreateQp) -> bool
+fn create_live(state: &[u8], r: CreateQp) -> bool
+    requires { length state.now ≡ state_size }
     ensures { result ≡ create_live (card state.now) r }
 {
     let pd = accept::pd_live(state, r.pd);
@@ -63,8 +63,8 @@ fn new_pair(r: CreateQp) -> QueuePair
 }
 
 // Where the waiting receives and the queued sends of queue pair n stand.
-fn store_heads(state: &mut State, n: usize, waiting: WaitingHead, sends: WaitingHead)
-    requires { n < qp_count }
+fn store_heads(state: &mut [u8], n: usize, waiting: WaitingHead, sends: WaitingHead)
+    requires { (n < qp_count) × (length state.old ≡ state_size) }
     ensures { state.new ≡ put_row send_head_t (put_row waiting_t state.old n waiting) n sends }
 {
     rows::store_waiting(state, n, waiting);
@@ -72,8 +72,8 @@ fn store_heads(state: &mut State, n: usize, waiting: WaitingHead, sends: Waiting
 }
 
 // The free number n is a new queue pair, on which no receive waits and which has no queued send.
-fn put_pair(state: &mut State, n: usize, r: CreateQp)
-    requires { (n < qp_count) × (n ≡ free_qpn (card state.old)) × (create_live (card state.old) r ≡ true) }
+fn put_pair(state: &mut [u8], n: usize, r: CreateQp)
+    requires { (n < qp_count) × (length state.old ≡ state_size) × (n ≡ free_qpn (card state.old)) × (create_live (card state.old) r ≡ true) }
     ensures { state.new ≡ command_bytes state.old (Command.create_qp r) }
 {
     let none = WaitingHead { first: 0, count: 0 };
@@ -82,7 +82,8 @@ fn put_pair(state: &mut State, n: usize, r: CreateQp)
     rows::store_qp_flag(state, n, 1);
 }
 
-pub fn create_qp(state: &mut State, read: CreateQpRead) -> Outcome
+pub fn create_qp(state: &mut [u8], read: CreateQpRead) -> Outcome
+    requires { length state.old ≡ state_size }
     ensures { Ran state.old (creating read) result state.new }
 {
     let CreateQpRead::Value(r) = read else {
@@ -171,8 +172,8 @@ fn moved_head(h: WaitingHead, to: u8) -> WaitingHead
 
 // The live queue pair in the state that it moves to; a move to 0 drops its receives, its queued sends, its destination and its
 // access flags.
-fn move_pair(state: &mut State, r: ModifyQp)
-    requires { (r.qpn < qp_count) × (modify_bad r ≡ false) }
+fn move_pair(state: &mut [u8], r: ModifyQp)
+    requires { (r.qpn < qp_count) × (length state.old ≡ state_size) × (modify_bad r ≡ false) }
     ensures { state.new ≡ command_bytes state.old (Command.modify_qp r) }
 {
     let n = r.qpn as usize;
@@ -183,7 +184,8 @@ fn move_pair(state: &mut State, r: ModifyQp)
     store_heads(state, n, w, s);
 }
 
-pub fn modify_qp(state: &mut State, read: ModifyQpRead) -> Outcome
+pub fn modify_qp(state: &mut [u8], read: ModifyQpRead) -> Outcome
+    requires { length state.old ≡ state_size }
     ensures { Ran state.old (modifying read) result state.new }
 {
     let ModifyQpRead::Value(r) = read else {

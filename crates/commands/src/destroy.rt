@@ -8,12 +8,12 @@ ghost use Rattle.commands.specs.Control.{Ran, numbered, destroy_of, live_of, use
 use crate::{Kind, Outcome};
 use rules::numbers::{IN_USE, NOT_LIVE, WRONG_LENGTH};
 use tables::limits::{MR_COUNT, QP_COUNT};
-use tables::rows::State;
 use tables::{Ack, NumberRead, rows};
 use validate::{accept, find};
 
 // Whether region n is live.
-fn mr_live(state: &State, n: u32) -> bool
+fn mr_live(state: &[u8], n: u32) -> bool
+    requires { length state.now ≡ state_size }
     ensures { result ≡ ((card state.now).mr n).live }
 {
     let i = n as usize;
@@ -24,7 +24,8 @@ fn mr_live(state: &State, n: u32) -> bool
 }
 
 // Whether queue pair n is live.
-pub fn qp_live(state: &State, n: u32) -> bool
+pub fn qp_live(state: &[u8], n: u32) -> bool
+    requires { length state.now ≡ state_size }
     ensures { result ≡ ((card state.now).qp n).live }
 {
     let i = n as usize;
@@ -34,7 +35,8 @@ pub fn qp_live(state: &State, n: u32) -> bool
     false
 }
 
-fn is_live(state: &State, kind: Kind, n: u32) -> bool
+fn is_live(state: &[u8], kind: Kind, n: u32) -> bool
+    requires { length state.now ≡ state_size }
     ensures { result ≡ live_of (card state.now) kind n }
 {
     match kind {
@@ -46,7 +48,8 @@ fn is_live(state: &State, kind: Kind, n: u32) -> bool
 }
 
 // Regions and queue pairs are never in use.
-fn in_use(state: &State, kind: Kind, n: u32) -> bool
+fn in_use(state: &[u8], kind: Kind, n: u32) -> bool
+    requires { length state.now ≡ state_size }
     ensures { result ≡ used_of (card state.now) kind n }
 {
     match kind {
@@ -58,8 +61,8 @@ fn in_use(state: &State, kind: Kind, n: u32) -> bool
 }
 
 // Object n is no longer live.
-fn clear(state: &mut State, kind: Kind, n: u32)
-    requires { live_of (card state.old) kind n ≡ true }
+fn clear(state: &mut [u8], kind: Kind, n: u32)
+    requires { (live_of (card state.old) kind n ≡ true) × (length state.old ≡ state_size) }
     ensures { state.new ≡ command_bytes state.old (destroy_of kind n) }
 {
     let i = n as usize;
@@ -71,7 +74,8 @@ fn clear(state: &mut State, kind: Kind, n: u32)
     }
 }
 
-pub fn destroy(state: &mut State, kind: Kind, read: NumberRead) -> Outcome
+pub fn destroy(state: &mut [u8], kind: Kind, read: NumberRead) -> Outcome
+    requires { length state.old ≡ state_size }
     ensures { Ran state.old (numbered (destroy_of kind) read) result state.new }
 {
     let NumberRead::Value(n) = read else {

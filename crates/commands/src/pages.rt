@@ -17,7 +17,6 @@ use rules::numbers::{
     WRONG_LENGTH,
 };
 use tables::limits::{MOST_ADDRESS, MOST_PAGED, MOST_PAGES, MR_COUNT, PAGE_SIZE, PAGED};
-use tables::rows::State;
 use tables::{Ack, HeadRead, RegisterRead, Registration, records, rows};
 use validate::{accept, find, regions};
 
@@ -68,8 +67,8 @@ fn in_pages(memory: u64, g: Registration, pages: &[u64]) -> bool
 }
 
 // Stores the pages' numbers in slot n.
-fn put_pages(state: &mut State, n: usize, pages: &[u64])
-    requires { (n < mr_count) × (length pages.now ≤ most_pages) × (entries_ok most_memory pages.now ≡ true) }
+fn put_pages(state: &mut [u8], n: usize, pages: &[u64])
+    requires { (n < mr_count) × (length state.old ≡ state_size) × (length pages.now ≤ most_pages) × (entries_ok most_memory pages.now ≡ true) }
     ensures { state.new ≡ put_pages state.old n 0 pages.now }
 {
     let mut k = 0;
@@ -82,8 +81,8 @@ fn put_pages(state: &mut State, n: usize, pages: &[u64])
 
 // ---- the registration
 
-fn register_paged(state: &mut State, read: RegisterRead, pages: &[u64]) -> Outcome
-    requires { accepts state.old ≡ true }
+fn register_paged(state: &mut [u8], read: RegisterRead, pages: &[u64]) -> Outcome
+    requires { (accepts state.old ≡ true) × (length state.old ≡ state_size) }
     ensures { Listed state.old read pages.now result state.new }
 {
     let RegisterRead::Value(g) = read else {
@@ -108,8 +107,8 @@ fn register_paged(state: &mut State, read: RegisterRead, pages: &[u64]) -> Outco
 }
 
 // Command 7, and no other.
-fn choose(state: &mut State, command: &[u8], pages: &[u64]) -> Outcome
-    requires { accepts state.old ≡ true }
+fn choose(state: &mut [u8], command: &[u8], pages: &[u64]) -> Outcome
+    requires { (accepts state.old ≡ true) × (length state.old ≡ state_size) }
     ensures { Recorded state.old command.now pages.now result state.new }
 {
     match records::read_head(command) {

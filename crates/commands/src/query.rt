@@ -13,12 +13,12 @@ use tables::limits::{
     MOST_MESSAGE, MOST_PLACES, MOST_RECEIVE_SGES, MOST_SGES, MOST_WAITING, MR_COUNT, PAGE_SIZE,
     PD_COUNT,
 };
-use tables::rows::State;
 use tables::{Ack, Device, DeviceCaps, DeviceObjects, DeviceWork, Port, rows};
 
 const VERSION: u32 = 1;
 
-fn device_of(state: &State) -> Device
+fn device_of(state: &[u8]) -> Device
+    requires { length state.now ≡ state_size }
     ensures { result ≡ device_of (card state.now) }
 {
     Device {
@@ -46,7 +46,8 @@ fn device_of(state: &State) -> Device
     }
 }
 
-pub fn query_device(state: &State, command: &[u8]) -> Outcome
+pub fn query_device(state: &[u8], command: &[u8]) -> Outcome
+    requires { length state.now ≡ state_size }
     ensures { Ran state.now (bare Command.query_device command.now) result state.now }
 {
     if command.len() != HEAD_SIZE {

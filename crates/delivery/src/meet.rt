@@ -11,7 +11,6 @@ ghost use Rattle.delivery.specs.Meet.{answers, places_by, peer_meeting, has_plac
 
 use rules::{Answer, Cause};
 use tables::limits::{ERROR, QP_COUNT, RTR, RTS, SEND, SEND_IMM, WRITE_IMM};
-use tables::rows::State;
 use tables::{QueueHead, QueuePair, rows};
 
 // A sender and its peer: their numbers and rows.
@@ -45,8 +44,8 @@ pub fn fills_receive(opcode: u8) -> bool
 }
 
 // Whether queue pair n is live.
-pub fn is_live(state: &State, n: usize) -> bool
-    requires { n < qp_count }
+pub fn is_live(state: &[u8], n: usize) -> bool
+    requires { (n < qp_count) × (length state.now ≡ state_size) }
     ensures { result ≡ is_live (row_at qp_flag_t state.now n) }
 {
     rows::load_qp_flag(state, n) == 1
@@ -78,8 +77,8 @@ fn places_needed(both: bool) -> u32
 }
 
 // A place for each completion: in the send queue s, and where a receive is taken in the receive queue r, which may be the same.
-fn has_places(state: &State, s: u8, r: u8, opcode: u8) -> bool
-    requires { (s < cq_count) × (r < cq_count) }
+fn has_places(state: &[u8], s: u8, r: u8, opcode: u8) -> bool
+    requires { (s < cq_count) × (r < cq_count) × (length state.now ≡ state_size) }
     ensures { result ≡ places_by (row_at cq_t state.now s) (row_at cq_t state.now r) (eqb s r) opcode }
 {
     let first = rows::load_cq(state, s as usize);
@@ -94,8 +93,8 @@ fn has_places(state: &State, s: u8, r: u8, opcode: u8) -> bool
 }
 
 // The tests of a peer that is ready: a receive that waits, and places for the completions.
-fn meet_peer(state: &State, e: Ends, opcode: u8) -> Meeting
-    requires { (e.own.scq < cq_count) × (e.far.rcq < cq_count) × (e.d < qp_count) }
+fn meet_peer(state: &[u8], e: Ends, opcode: u8) -> Meeting
+    requires { (e.own.scq < cq_count) × (e.far.rcq < cq_count) × (e.d < qp_count) × (length state.now ≡ state_size) }
     ensures { result ≡ peer_meeting state.now e opcode }
 {
     let h = rows::load_waiting(state, e.d);
@@ -109,7 +108,7 @@ fn meet_peer(state: &State, e: Ends, opcode: u8) -> Meeting
 }
 
 // The tests that hold a request of queue pair q, which is not in error: those of its peer.
-pub fn meet(state: &State, q: usize, own: QueuePair, opcode: u8) -> Meeting
+pub fn meet(state: &[u8], q: usize, own: QueuePair, opcode: u8) -> Meeting
     requires { Sender state.now q own × (own.state ≡ 6 → ⊥) }
     ensures { result ≡ holding state.now q opcode }
 {
@@ -127,8 +126,8 @@ pub fn meet(state: &State, q: usize, own: QueuePair, opcode: u8) -> Meeting
 }
 
 // The test of a queue pair in error, whose row is own: a place for its completion. No peer is looked at.
-pub fn has_place(state: &State, own: QueuePair) -> bool
-    requires { own.scq < cq_count }
+pub fn has_place(state: &[u8], own: QueuePair) -> bool
+    requires { (own.scq < cq_count) × (length state.now ≡ state_size) }
     ensures { result ≡ has_place state.now own }
 {
     let h = rows::load_cq(state, own.scq as usize);
@@ -136,8 +135,8 @@ pub fn has_place(state: &State, own: QueuePair) -> bool
 }
 
 // Whether a peer that is ready has a receive that waits, where one is taken, and there are places for the completions.
-fn peer_passes(state: &State, e: Ends, opcode: u8) -> bool
-    requires { (e.own.scq < cq_count) × (e.far.rcq < cq_count) × (e.d < qp_count) }
+fn peer_passes(state: &[u8], e: Ends, opcode: u8) -> bool
+    requires { (e.own.scq < cq_count) × (e.far.rcq < cq_count) × (e.d < qp_count) × (length state.now ≡ state_size) }
     ensures { result ≡ is_pairs (peer_meeting state.now e opcode) }
 {
     let h = rows::load_waiting(state, e.d);
@@ -148,7 +147,7 @@ fn peer_passes(state: &State, e: Ends, opcode: u8) -> bool
 }
 
 // Whether nothing holds a request of queue pair q, which is not in error. The tests are those of meet; there the one caller gets the two rows.
-fn peer_free(state: &State, q: usize, own: QueuePair, opcode: u8) -> bool
+fn peer_free(state: &[u8], q: usize, own: QueuePair, opcode: u8) -> bool
     requires { Sender state.now q own × (own.state ≡ 6 → ⊥) }
     ensures { result ≡ is_free state.now q opcode }
 {
@@ -166,8 +165,8 @@ fn peer_free(state: &State, q: usize, own: QueuePair, opcode: u8) -> bool
 }
 
 // Whether nothing holds a request of queue pair q, which is live.
-pub fn is_free(state: &State, q: usize, opcode: u8) -> bool
-    requires { (accepts state.now ≡ true) × (((card state.now).qp q).live ≡ true) }
+pub fn is_free(state: &[u8], q: usize, opcode: u8) -> bool
+    requires { (accepts state.now ≡ true) × (length state.now ≡ state_size) × (((card state.now).qp q).live ≡ true) }
     ensures { result ≡ is_free state.now q opcode }
 {
     let own = rows::load_qp(state, q);

@@ -7,7 +7,6 @@ ghost use Rattle.dma.specs.Grants.{region_of, admits, allows_all, spans};
 
 use rules::Party;
 use tables::limits::{LOCAL_WRITE, MR_COUNT};
-use tables::rows::State;
 use tables::{Region, Sge, rows};
 
 // The live region that has exactly a key, if there is one; who may touch it does not depend on its kind, which is left out.
@@ -17,7 +16,8 @@ enum Found {
     Nothing,
 }
 
-fn region_of(state: &State, key: u32) -> Found
+fn region_of(state: &[u8], key: u32) -> Found
+    requires { length state.now ≡ state_size }
     ensures { result ≡ region_of (card state.now).mr key }
 {
     let slot = (key / 256) as usize;
@@ -62,7 +62,8 @@ fn holds_ends(r: Region, address: u64, n: u64) -> bool
 }
 
 // Whether each of the n bytes from an address on is permitted: it looks at the two ends only, and of an empty range at no key and no flags.
-pub fn range_permitted(state: &State, p: Party, mask: u8, address: u64, n: u64, key: u32) -> bool
+pub fn range_permitted(state: &[u8], p: Party, mask: u8, address: u64, n: u64, key: u32) -> bool
+    requires { length state.now ≡ state_size }
     ensures { result ≡ allows_all (card state.now) p mask (range address key n) }
 {
     if n == 0 {
@@ -75,8 +76,8 @@ pub fn range_permitted(state: &State, p: Party, mask: u8, address: u64, n: u64, 
 }
 
 // Whether each byte of the first count entries is permitted.
-pub fn sges_permitted(state: &State, p: Party, mask: u8, sges: [Sge; 4], count: usize) -> bool
-    requires { count ≤ 4 }
+pub fn sges_permitted(state: &[u8], p: Party, mask: u8, sges: [Sge; 4], count: usize) -> bool
+    requires { (count ≤ 4) × (length state.now ≡ state_size) }
     ensures { result ≡ allows_all (card state.now) p mask (sge_bytes (take count sges)) }
 {
     let mut i = 0;

@@ -11,12 +11,11 @@ ghost use Rattle.rules.specs.Lists.{stored};
 ghost use Rattle.dma.specs.Moves.{Ready, mapped_all, places, place_of, Lies, Splits, read_bytes, moved, Message};
 
 use tables::limits::{FLAT, MOST_PAGES, PAGE_SIZE};
-use tables::rows::State;
 use tables::{Sge, rows};
 
 // The place in memory where an entry begins; 0 for an empty one.
-fn place_of(state: &State, s: Sge) -> usize
-    requires { (accepts state.now ≡ true) × (mapped_all (card state.now) (sge_bytes (s ∷ [])) ≡ true) }
+fn place_of(state: &[u8], s: Sge) -> usize
+    requires { (accepts state.now ≡ true) × (length state.now ≡ state_size) × (mapped_all (card state.now) (sge_bytes (s ∷ [])) ≡ true) }
     ensures { result ≡ place_of (card state.now) s }
 {
     if s.length == 0 {
@@ -33,7 +32,7 @@ fn place_of(state: &State, s: Sge) -> usize
 }
 
 // How many bytes of an entry, from its first on, stand one after the other in memory: all, or those up to the page's end.
-fn run_of(state: &State, memory: &[u8], s: Sge) -> u32
+fn run_of(state: &[u8], memory: &[u8], s: Sge) -> u32
     requires ready { Ready state.now memory.now }
     requires s_value { (mapped_all (card state.now) (sge_bytes (s ∷ [])) ≡ true) × (s.length ≤ most_message) }
     ensures { Splits (card state.now) (length memory.now) s result }
@@ -53,7 +52,7 @@ fn run_of(state: &State, memory: &[u8], s: Sge) -> u32
 }
 
 // Copies an entry's bytes to staging, from index at on.
-fn copy_out(state: &State, memory: &[u8], s: Sge, staging: &mut [u8], at: usize)
+fn copy_out(state: &[u8], memory: &[u8], s: Sge, staging: &mut [u8], at: usize)
     requires ready { Ready state.now memory.now }
     requires s_value { (mapped_all (card state.now) (sge_bytes (s ∷ [])) ≡ true) × (s.length ≤ most_message) × (at + s.length ≤ length staging.old) }
     ensures { take (at + s.length) staging.new ≡ take at staging.old ++ read_bytes memory.now (places (card state.now) (s ∷ [])) }
@@ -78,7 +77,7 @@ fn copy_out(state: &State, memory: &[u8], s: Sge, staging: &mut [u8], at: usize)
 }
 
 // Copies staging, from index at on, to an entry's bytes.
-fn copy_in(state: &State, memory: &mut [u8], s: Sge, staging: &[u8], at: usize)
+fn copy_in(state: &[u8], memory: &mut [u8], s: Sge, staging: &[u8], at: usize)
     requires ready { Ready state.now memory.old }
     requires s_value { (mapped_all (card state.now) (sge_bytes (s ∷ [])) ≡ true) × (s.length ≤ most_message) × (at + s.length ≤ length staging.now) }
     ensures { memory.new ≡ stored memory.old (places (card state.now) (s ∷ [])) (drop at staging.now) }
@@ -103,7 +102,7 @@ fn copy_in(state: &State, memory: &mut [u8], s: Sge, staging: &[u8], at: usize)
 }
 
 // Gathers the first count entries, one after the other, into staging.
-fn gather(state: &State, memory: &[u8], sges: [Sge; 4], count: usize, staging: &mut [u8])
+fn gather(state: &[u8], memory: &[u8], sges: [Sge; 4], count: usize, staging: &mut [u8])
     requires ready { Ready state.now memory.now }
     requires count_bound { (count ≤ 4) × (mapped_all (card state.now) (sge_bytes (take count sges)) ≡ true) × (sge_total (take count sges) ≤ length staging.old) × (sge_total (take count sges) ≤ most_message) }
     ensures { take (sge_total (take count sges)) staging.new ≡ read_bytes memory.now (places (card state.now) (take count sges)) }
@@ -119,7 +118,7 @@ fn gather(state: &State, memory: &[u8], sges: [Sge; 4], count: usize, staging: &
 }
 
 // Scatters staging to the first count entries, one after the other.
-fn scatter(state: &State, memory: &mut [u8], sges: [Sge; 4], count: usize, staging: &[u8])
+fn scatter(state: &[u8], memory: &mut [u8], sges: [Sge; 4], count: usize, staging: &[u8])
     requires ready { Ready state.now memory.old }
     requires count_bound { (count ≤ 4) × (mapped_all (card state.now) (sge_bytes (take count sges)) ≡ true) × (sge_total (take count sges) ≤ length staging.now) × (sge_total (take count sges) ≤ most_message) }
     ensures { memory.new ≡ stored memory.old (places (card state.now) (take count sges)) staging.now }
@@ -157,7 +156,7 @@ fn deliver_between(memory: &mut [u8], a: usize, b: usize, n: usize, back: bool)
 }
 
 // Moves one entry's bytes to one entry, each of which lies in one run of memory.
-fn transfer_one(state: &State, memory: &mut [u8], from: Sge, to: Sge)
+fn transfer_one(state: &[u8], memory: &mut [u8], from: Sge, to: Sge)
     requires ready { Ready state.now memory.old }
     requires message { Message (card state.now) (from ∷ []) (to ∷ []) × Lies (card state.now) (length memory.old) from × Lies (card state.now) (length memory.old) to }
     ensures { memory.new ≡ moved memory.old (places (card state.now) (from ∷ [])) (places (card state.now) (to ∷ [])) }
@@ -169,7 +168,7 @@ fn transfer_one(state: &State, memory: &mut [u8], from: Sge, to: Sge)
 
 // Moves the bytes of the first nf entries of from to the first nt entries of to.
 fn transfer_many(
-    state: &State,
+    state: &[u8],
     memory: &mut [u8],
     from: [Sge; 4],
     nf: usize,
@@ -186,7 +185,7 @@ fn transfer_many(
 }
 
 // Moves one entry's bytes to one entry: one move where no page ends in between.
-pub fn transfer_single(state: &State, memory: &mut [u8], from: Sge, to: Sge)
+pub fn transfer_single(state: &[u8], memory: &mut [u8], from: Sge, to: Sge)
     requires ready { Ready state.now memory.old }
     requires message { Message (card state.now) (from ∷ []) (to ∷ []) }
     ensures { memory.new ≡ moved memory.old (places (card state.now) (from ∷ [])) (places (card state.now) (to ∷ [])) }
@@ -212,7 +211,7 @@ pub fn transfer_single(state: &State, memory: &mut [u8], from: Sge, to: Sge)
 
 // Moves the bytes of the entry a to the entry b, or where back holds those of b to a: one move where no page ends in between. Called from one
 // place, so that the compiler has the regions' rows at hand.
-pub fn transfer_between(state: &State, memory: &mut [u8], a: Sge, b: Sge, back: bool)
+pub fn transfer_between(state: &[u8], memory: &mut [u8], a: Sge, b: Sge, back: bool)
     requires ready { Ready state.now memory.old }
     requires message { Message (card state.now) (a ∷ []) (b ∷ []) }
     ensures { memory.new ≡ cond back (moved memory.old (places (card state.now) (b ∷ [])) (places (card state.now) (a ∷ []))) (moved memory.old (places (card state.now) (a ∷ [])) (places (card state.now) (b ∷ []))) }
@@ -238,14 +237,7 @@ pub fn transfer_between(state: &State, memory: &mut [u8], a: Sge, b: Sge, back: 
 }
 
 // Moves the bytes of the first nf entries of from to the first nt entries of to, of one entry to one entry by themselves.
-pub fn transfer(
-    state: &State,
-    memory: &mut [u8],
-    from: [Sge; 4],
-    nf: usize,
-    to: [Sge; 4],
-    nt: usize,
-)
+pub fn transfer(state: &[u8], memory: &mut [u8], from: [Sge; 4], nf: usize, to: [Sge; 4], nt: usize)
     requires ready { Ready state.now memory.old }
     requires nf_bound { (nf ≤ 4) × (nt ≤ 4) × Message (card state.now) (take nf from) (take nt to) }
     ensures { memory.new ≡ moved memory.old (places (card state.now) (take nf from)) (places (card state.now) (take nt to)) }
@@ -271,7 +263,7 @@ fn deliver_inline(memory: &mut [u8], bytes: &[u8], to: usize)
 }
 
 // Writes inline bytes to one entry that lies in one run of memory.
-fn inline_one(state: &State, memory: &mut [u8], bytes: &[u8], to: Sge)
+fn inline_one(state: &[u8], memory: &mut [u8], bytes: &[u8], to: Sge)
     requires ready { Ready state.now memory.old }
     requires lies { Lies (card state.now) (length memory.old) to }
     requires to_value { (mapped_all (card state.now) (sge_bytes (to ∷ [])) ≡ true) × (sge_total (to ∷ []) ≡ length bytes.now) × (length bytes.now ≤ most_inline) }
@@ -282,7 +274,7 @@ fn inline_one(state: &State, memory: &mut [u8], bytes: &[u8], to: Sge)
 }
 
 // Writes inline bytes to the first nt entries of to.
-fn inline_many(state: &State, memory: &mut [u8], bytes: &[u8], to: [Sge; 4], nt: usize)
+fn inline_many(state: &[u8], memory: &mut [u8], bytes: &[u8], to: [Sge; 4], nt: usize)
     requires ready { Ready state.now memory.old }
     requires nt_bound { (nt ≤ 4) × (mapped_all (card state.now) (sge_bytes (take nt to)) ≡ true) × (sge_total (take nt to) ≡ length bytes.now) × (length bytes.now ≤ most_inline) }
     ensures { memory.new ≡ stored memory.old (places (card state.now) (take nt to)) bytes.now }
@@ -294,7 +286,7 @@ fn inline_many(state: &State, memory: &mut [u8], bytes: &[u8], to: [Sge; 4], nt:
 }
 
 // Writes inline bytes, which stand in the caller's record, to the first nt entries of to; those of one entry are one move where no page ends in between.
-pub fn scatter_inline(state: &State, memory: &mut [u8], bytes: &[u8], to: [Sge; 4], nt: usize)
+pub fn scatter_inline(state: &[u8], memory: &mut [u8], bytes: &[u8], to: [Sge; 4], nt: usize)
     requires ready { Ready state.now memory.old }
     requires nt_bound { (nt ≤ 4) × (mapped_all (card state.now) (sge_bytes (take nt to)) ≡ true) × (sge_total (take nt to) ≡ length bytes.now) × (length bytes.now ≤ most_inline) }
     ensures { memory.new ≡ stored memory.old (places (card state.now) (take nt to)) bytes.now }

@@ -15,13 +15,12 @@ use delivery::meet;
 use rules::Answer;
 use rules::numbers::{BAD_STATE, IN_USE, NOT_LIVE, OTHER_MEMORY, WRONG_STATE};
 use tables::limits::{ERROR, QP_COUNT, RTS};
-use tables::rows::State;
 use tables::{QueuePair, SendRead, SendRecord, Sge, records, rows};
 use validate::accept;
 
 // 02, M-108: "A direct send answers 10 .. while its QP's queue isn't empty"
-fn is_queued(state: &State, q: usize) -> bool
-    requires { q < qp_count }
+fn is_queued(state: &[u8], q: usize) -> bool
+    requires { (q < qp_count) × (length state.now ≡ state_size) }
     ensures { result ≡ not (eqb (row_at send_head_t state.now q).count 0) }
 {
     let h = rows::load_sends(state, q);
@@ -29,7 +28,7 @@ fn is_queued(state: &State, q: usize) -> bool
 }
 
 // A request on the queue pair q in error, whose row is own: 10, or the request flushed.
-fn direct_error(state: &mut State, q: usize, own: QueuePair, s: SendRecord) -> Answer
+fn direct_error(state: &mut [u8], q: usize, own: QueuePair, s: SendRecord) -> Answer
     requires { Sender state.old q own × (own.state ≡ 6) }
     ensures { (sges : List Sge) (b m : List ℕ) → Ran delivery_checks state.old q (request_by s sges b) m result state.new m }
 {
@@ -41,7 +40,7 @@ fn direct_error(state: &mut State, q: usize, own: QueuePair, s: SendRecord) -> A
 
 // "QP 2; QP not in RTS 3", 10, and then the request run on the queue pair.
 fn direct(
-    state: &mut State,
+    state: &mut [u8],
     memory: &mut [u8],
     qpn: u32,
     s: SendRecord,

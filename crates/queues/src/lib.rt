@@ -17,7 +17,6 @@ use rules::numbers::{
 };
 use rules::{Answer, Cause};
 use tables::limits::{FLUSHED, MOST_MEMORY};
-use tables::rows::State;
 use tables::{ReceiveRead, ReceiveRecord, queue, records, reset as fresh, rows};
 use validate::accept;
 
@@ -43,7 +42,7 @@ pub fn reset(state: &mut [u8], memory: u64) -> Answer
 // ---- poll
 
 // A poll of a live completion queue into a buffer that has room.
-fn poll_live(state: &mut State, n: usize, buffer: &mut [u8]) -> Answer
+fn poll_live(state: &mut [u8], n: usize, buffer: &mut [u8]) -> Answer
     requires { LiveQueue state.old n × (24 ≤ length buffer.old) }
     ensures { Owes state.old
         (Call.poll n buffer.old) result state.new [] buffer.new }
@@ -77,7 +76,7 @@ pub fn poll(state: &mut [u8], cqn: u32, buffer: &mut [u8]) -> Answer
 // ---- post receive
 
 // The receive of a record on a queue pair in error on which none waits: it is flushed.
-fn flush_new(state: &mut State, q: usize, w: ReceiveRecord) -> Answer
+fn flush_new(state: &mut [u8], q: usize, w: ReceiveRecord) -> Answer
     requires { Flushing state.old q }
     ensures { Posts state.old q w result state.new }
 {
@@ -89,7 +88,7 @@ fn flush_new(state: &mut State, q: usize, w: ReceiveRecord) -> Answer
 }
 
 // The receive of a record on a live queue pair: it is flushed, or it waits behind the others.
-fn post_live(state: &mut State, q: usize, w: ReceiveRecord) -> Answer
+fn post_live(state: &mut [u8], q: usize, w: ReceiveRecord) -> Answer
     requires { LivePair state.old q }
     ensures { Posts state.old q w result state.new }
 {
@@ -107,7 +106,7 @@ fn post_live(state: &mut State, q: usize, w: ReceiveRecord) -> Answer
 }
 
 // The same on any queue pair of an accepted state.
-fn post_record(state: &mut State, qpn: u32, w: ReceiveRecord) -> Answer
+fn post_record(state: &mut [u8], qpn: u32, w: ReceiveRecord) -> Answer
     requires { accepts state.old ≡ true }
     ensures { Posts state.old qpn w result state.new }
 {
@@ -133,7 +132,7 @@ pub fn post_receive(state: &mut [u8], qpn: u32, posted: &[u8]) -> Answer
 // ---- flush
 
 // A flush of a live queue pair.
-fn flush_live(state: &mut State, q: usize) -> Answer
+fn flush_live(state: &mut [u8], q: usize) -> Answer
     requires { LivePair state.old q }
     ensures { Owes state.old (Call.flush q) result state.new [] [] }
 {

@@ -11,11 +11,11 @@ ghost use Rattle.rules.specs.Send.{room};
 ghost use Rattle.queues.specs.Live.{LivePair, PlacedPair, Flushable};
 
 use tables::limits::{ERROR, FLUSHED, MOST_QUEUED, MOST_WAITING, QP_COUNT, RECEIVED, RESET, RTS};
-use tables::rows::State;
 use tables::{Completion, queue, rows};
 
 // Whether queue pair qpn is live.
-pub fn live(state: &State, qpn: u32) -> bool
+pub fn live(state: &[u8], qpn: u32) -> bool
+    requires { length state.now ≡ state_size }
     ensures { result ≡ ((card state.now).qp qpn).live }
 {
     let q = qpn as usize;
@@ -25,7 +25,7 @@ pub fn live(state: &State, qpn: u32) -> bool
     false
 }
 
-pub fn in_reset(state: &State, q: usize) -> bool
+pub fn in_reset(state: &[u8], q: usize) -> bool
     requires { LivePair state.now q }
     ensures { result ≡ eqb ((card state.now).qp q).state 0 }
 {
@@ -34,7 +34,7 @@ pub fn in_reset(state: &State, q: usize) -> bool
 }
 
 // Whether a receive posted on it is flushed: it is in error, and none waits.
-pub fn flushes_at_once(state: &State, q: usize) -> bool
+pub fn flushes_at_once(state: &[u8], q: usize) -> bool
     requires { LivePair state.now q }
     ensures { result ≡ flushes_at_once (card state.now) q }
 {
@@ -43,7 +43,7 @@ pub fn flushes_at_once(state: &State, q: usize) -> bool
     (p.state == ERROR) & (h.count == 0)
 }
 
-pub fn receives_full(state: &State, q: usize) -> bool
+pub fn receives_full(state: &[u8], q: usize) -> bool
     requires { LivePair state.now q }
     ensures { result ≡ leb most_waiting (length ((card state.now).qp q).waiting) }
 {
@@ -51,7 +51,7 @@ pub fn receives_full(state: &State, q: usize) -> bool
     MOST_WAITING <= h.count as usize
 }
 
-pub fn in_error(state: &State, q: usize) -> bool
+pub fn in_error(state: &[u8], q: usize) -> bool
     requires { LivePair state.now q }
     ensures { result ≡ eqb ((card state.now).qp q).state 6 }
 {
@@ -59,7 +59,7 @@ pub fn in_error(state: &State, q: usize) -> bool
     p.state == ERROR
 }
 
-pub fn none_waiting(state: &State, q: usize) -> bool
+pub fn none_waiting(state: &[u8], q: usize) -> bool
     requires { LivePair state.now q }
     ensures { result ≡ is_empty ((card state.now).qp q).waiting }
 {
@@ -68,7 +68,7 @@ pub fn none_waiting(state: &State, q: usize) -> bool
 }
 
 // Whether it may have a queue of sends: it is ready to send, or in error.
-pub fn may_queue(state: &State, q: usize) -> bool
+pub fn may_queue(state: &[u8], q: usize) -> bool
     requires { LivePair state.now q }
     ensures { result ≡ may_queue ((card state.now).qp q).state }
 {
@@ -76,7 +76,7 @@ pub fn may_queue(state: &State, q: usize) -> bool
     (p.state == RTS) | (p.state == ERROR)
 }
 
-pub fn queue_full(state: &State, q: usize) -> bool
+pub fn queue_full(state: &[u8], q: usize) -> bool
     requires { LivePair state.now q }
     ensures { result ≡ leb most_queued (length ((card state.now).qp q).queue) }
 {
@@ -85,7 +85,7 @@ pub fn queue_full(state: &State, q: usize) -> bool
 }
 
 // Whether its receive completion queue has a free place.
-pub fn has_place(state: &State, q: usize) -> bool
+pub fn has_place(state: &[u8], q: usize) -> bool
     requires { LivePair state.now q }
     ensures { result ≡ room ((card state.now).cq ((card state.now).qp q).rcq) 1 }
 {
@@ -95,7 +95,7 @@ pub fn has_place(state: &State, q: usize) -> bool
 }
 
 // The completion of a flushed receive of queue pair q.
-pub fn put_flushed(state: &mut State, q: usize, wr: u64)
+pub fn put_flushed(state: &mut [u8], q: usize, wr: u64)
     requires { PlacedPair state.old q }
     ensures { state.new ≡ flushed_bytes state.old q wr }
 {
@@ -112,7 +112,7 @@ pub fn put_flushed(state: &mut State, q: usize, wr: u64)
 }
 
 // The oldest receive of queue pair q completes as flushed.
-pub fn complete_oldest(state: &mut State, q: usize)
+pub fn complete_oldest(state: &mut [u8], q: usize)
     requires { Flushable state.old q }
     ensures { state.new ≡ flush_bytes state.old q }
 {

@@ -9,12 +9,11 @@ ghost use Rattle.queues.specs.Enqueue.{Sent, Enqueues};
 use crate::pair;
 use rules::Answer;
 use rules::numbers::{BAD_STATE, FULL, NOT_LIVE, OTHER_MEMORY, WRONG_STATE};
-use tables::rows::State;
 use tables::{SendRead, records, rows, sends};
 use validate::accept;
 
 // A record that passed its own tests, on a live queue pair.
-fn enqueue_live(state: &mut State, q: usize, sent: &[u8]) -> Answer
+fn enqueue_live(state: &mut [u8], q: usize, sent: &[u8]) -> Answer
     requires { LivePair state.old q × Sent sent.now }
     ensures { Enqueues state.old q sent.now result state.new }
 {
@@ -29,7 +28,7 @@ fn enqueue_live(state: &mut State, q: usize, sent: &[u8]) -> Answer
 }
 
 // The same on any queue pair of an accepted state.
-fn enqueue_record(state: &mut State, qpn: u32, sent: &[u8]) -> Answer
+fn enqueue_record(state: &mut [u8], qpn: u32, sent: &[u8]) -> Answer
     requires { (accepts state.old ≡ true) × Sent sent.now }
     ensures { Enqueues state.old qpn sent.now result state.new }
 {

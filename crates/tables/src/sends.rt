@@ -11,13 +11,15 @@ use crate::rows::State;
 use crate::{SendKind, SendRecord, WaitingHead, WorkQueue, records, rows};
 
 // The numbers of a record that stand in the column of the queued sends.
-fn kind_of(s: SendRecord) -> SendKind
-    ensures { result ≡ kind_of s }
-{
-    SendKind {
-        opcode: s.opcode,
-        flags: s.flags,
-        count: (s.count % 65536) as u16,
+impl From<SendRecord> for SendKind {
+    ghost from_gives = { λ s k. k ≡ kind_of s };
+
+    fn from(s: SendRecord) -> SendKind {
+        SendKind {
+            opcode: s.opcode,
+            flags: s.flags,
+            count: (s.count % 65536) as u16,
+        }
     }
 }
 
@@ -27,7 +29,7 @@ fn put_place(state: &mut State, p: usize, sent: &[u8])
     ensures { state.new ≡ place_bytes state.old p sent.now }
 {
     rows::store_record(state, p, sent);
-    rows::store_kind(state, p, kind_of(records::send_head(sent)));
+    rows::store_kind(state, p, records::send_head(sent).into());
 }
 
 // The record `sent` as the newest of queue pair q's queue.

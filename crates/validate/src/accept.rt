@@ -15,11 +15,11 @@ use tables::limits::{
     MOST_MESSAGE, MOST_PLACES, MOST_RECEIVE_SGES, MOST_WAITING, PD_COUNT, QP_COUNT, RECEIVED_WRITE,
     REMOTE_ACCESS, REMOTE_INVALID, RTS, SUCCESS,
 };
-use tables::rows::State;
 use tables::{Completion, QueueHead, QueuePair, WaitingHead, rows};
 
 // Whether protection domain n is live.
-pub fn pd_live(state: &State, n: u32) -> bool
+pub fn pd_live(state: &[u8], n: u32) -> bool
+    requires { length state.now ≡ state_size }
     ensures { result ≡ (card state.now).pd n }
 {
     let i = n as usize;
@@ -30,7 +30,8 @@ pub fn pd_live(state: &State, n: u32) -> bool
 }
 
 // Whether completion queue n is live.
-pub fn cq_live(state: &State, n: u32) -> bool
+pub fn cq_live(state: &[u8], n: u32) -> bool
+    requires { length state.now ≡ state_size }
     ensures { result ≡ cq_live (card state.now) n }
 {
     let i = n as usize;
@@ -103,8 +104,8 @@ fn pair_ok(n: usize, p: QueuePair) -> bool
 }
 
 // The unread completions of queue n, whose head is h.
-fn entries_ok(state: &State, n: usize, h: QueueHead) -> bool
-    requires { (n < cq_count) × (h.first < most_places) }
+fn entries_ok(state: &[u8], n: usize, h: QueueHead) -> bool
+    requires { (n < cq_count) × (h.first < most_places) × (length state.now ≡ state_size) }
     ensures { result ≡ all completion_ok (ring_list no_completion most_places (ring_at state.now n) h.first h.count) }
 {
     if together::completions_pass(state, n, h.count) {
@@ -123,8 +124,8 @@ fn entries_ok(state: &State, n: usize, h: QueueHead) -> bool
 }
 
 // The waiting receives of queue pair n, whose head is h.
-fn receives_ok(state: &State, n: usize, h: WaitingHead) -> bool
-    requires { (n < qp_count) × (h.first < most_waiting) }
+fn receives_ok(state: &[u8], n: usize, h: WaitingHead) -> bool
+    requires { (n < qp_count) × (h.first < most_waiting) × (length state.now ≡ state_size) }
     ensures { result ≡ all receive_ok (ring_list no_record most_waiting (receives_at state.now n) h.first h.count) }
 {
     if together::receives_pass(state, n, h.count) {
@@ -151,8 +152,8 @@ fn queue_ok(h: QueueHead) -> bool
     (1 <= h.places) & (places <= MOST_PLACES) & (first < MOST_PLACES) & (h.count <= h.places)
 }
 
-fn cq_ok(state: &State, n: usize) -> bool
-    requires { n < cq_count }
+fn cq_ok(state: &[u8], n: usize) -> bool
+    requires { (n < cq_count) × (length state.now ≡ state_size) }
     ensures { result ≡ cq_ok state.now n }
 {
     let live = rows::load_cq_flag(state, n);
@@ -170,7 +171,8 @@ fn cq_ok(state: &State, n: usize) -> bool
 }
 
 // The domain and the completion queues that a queue pair names are live.
-fn names_ok(state: &State, p: QueuePair) -> bool
+fn names_ok(state: &[u8], p: QueuePair) -> bool
+    requires { length state.now ≡ state_size }
     ensures { result ≡ names_ok (card state.now).pd (cq_live (card state.now)) p }
 {
     if !pd_live(state, p.pd as u32) {
@@ -183,8 +185,8 @@ fn names_ok(state: &State, p: QueuePair) -> bool
 }
 
 // The waiting receives of queue pair n.
-fn waiting_ok(state: &State, n: usize) -> bool
-    requires { n < qp_count }
+fn waiting_ok(state: &[u8], n: usize) -> bool
+    requires { (n < qp_count) × (length state.now ≡ state_size) }
     ensures { result ≡ receives_ok (pair_at state.now n) }
 {
     let h = rows::load_waiting(state, n);
@@ -199,8 +201,8 @@ fn waiting_ok(state: &State, n: usize) -> bool
     receives_ok(state, n, h)
 }
 
-fn qp_ok(state: &State, n: usize) -> bool
-    requires { n < qp_count }
+fn qp_ok(state: &[u8], n: usize) -> bool
+    requires { (n < qp_count) × (length state.now ≡ state_size) }
     ensures { result ≡ qp_ok state.now n }
 {
     let live = rows::load_qp_flag(state, n);
@@ -224,7 +226,8 @@ fn qp_ok(state: &State, n: usize) -> bool
 }
 
 // The memory length, and the queue pair that a turn visits first.
-fn header_ok(state: &State) -> bool
+fn header_ok(state: &[u8]) -> bool
+    requires { length state.now ≡ state_size }
     ensures { result ≡ (memory_ok (row_at memory_t state.now 0) && turn_ok (row_at turn_t state.now 0)) }
 {
     let memory = rows::load_memory(state);
@@ -232,7 +235,8 @@ fn header_ok(state: &State) -> bool
     (1 <= memory) & (memory <= MOST_MEMORY) & (turn < QP_COUNT)
 }
 
-fn pds_ok(state: &State) -> bool
+fn pds_ok(state: &[u8]) -> bool
+    requires { length state.now ≡ state_size }
     ensures { result ≡ all_below pd_count (pd_ok state.now) }
 {
     let mut n = 0;
@@ -245,7 +249,8 @@ fn pds_ok(state: &State) -> bool
     true
 }
 
-fn cqs_ok(state: &State) -> bool
+fn cqs_ok(state: &[u8]) -> bool
+    requires { length state.now ≡ state_size }
     ensures { result ≡ all_below cq_count (cq_ok state.now) }
 {
     let mut n = 0;
@@ -258,7 +263,8 @@ fn cqs_ok(state: &State) -> bool
     true
 }
 
-fn qps_ok(state: &State) -> bool
+fn qps_ok(state: &[u8]) -> bool
+    requires { length state.now ≡ state_size }
     ensures { result ≡ all_below qp_count (qp_ok state.now) }
 {
     let mut n = 0;

@@ -11,7 +11,6 @@ ghost use Rattle.validate.specs.Accept.{may_queue, queued_ok, sends_ok};
 ghost use Rattle.validate.specs.Together.{Enough};
 
 use tables::limits::{ERROR, MOST_QUEUED, RTS};
-use tables::rows::State;
 use tables::{SendKind, SendRecord, WaitingHead, records, rows};
 
 // The tests of answer 4, of a queued send's numbers in the column.
@@ -30,8 +29,8 @@ fn kind_bad(k: SendKind) -> bool
 }
 
 // All places of queue pair n, also those that hold nothing, tested together: enough where they pass.
-fn kinds_pass(state: &State, n: usize) -> bool
-    requires { n < qp_count }
+fn kinds_pass(state: &[u8], n: usize) -> bool
+    requires { (n < qp_count) × (length state.now ≡ state_size) }
     ensures { Enough result (all_below most_queued (λ k. queued_ok (place_at state.now (most_queued * n + k)))) }
 {
     let mut bad = false;
@@ -45,8 +44,8 @@ fn kinds_pass(state: &State, n: usize) -> bool
 }
 
 // The queued records of queue pair n, whose head is h.
-fn records_ok(state: &State, n: usize, h: WaitingHead) -> bool
-    requires { (n < qp_count) × (h.first < most_queued) }
+fn records_ok(state: &[u8], n: usize, h: WaitingHead) -> bool
+    requires { (n < qp_count) × (h.first < most_queued) × (length state.now ≡ state_size) }
     ensures { result ≡ all queued_ok (ring_list no_queued most_queued (queued_at state.now n) h.first h.count) }
 {
     if kinds_pass(state, n) {
@@ -71,8 +70,8 @@ fn may_queue(s: u8) -> bool
 }
 
 // The queued sends of queue pair n, whose state is s; an empty queue is its head alone.
-pub fn sends_ok(state: &State, n: usize, s: u8) -> bool
-    requires { (n < qp_count) × (s ≡ (row_at qp_t state.now n).state) }
+pub fn sends_ok(state: &[u8], n: usize, s: u8) -> bool
+    requires { (n < qp_count) × (length state.now ≡ state_size) × (s ≡ (row_at qp_t state.now n).state) }
     ensures { result ≡ sends_ok (pair_at state.now n) }
 {
     let h = rows::load_sends(state, n);
