@@ -13,24 +13,24 @@ use Rattle.wire.specs.Codec.{decode}
 use Rattle.wire.specs.Le.{le_at}
 use Rattle.tables.specs.Commands.{Command, command_of, number_codec, register_codec, create_qp_codec, modify_qp_codec, control_class, ack_least, ack_need, room_by}
 use Rattle.tables.specs.Queries.{device_codec, device_read, port_codec, port_read}
-use Rattle.tables.specs.declared.DeviceRead.TheVariants as device
-use Rattle.tables.specs.declared.PortRead.TheVariants as port
+use Rattle.std.specs.Prelude.{Err}
+use Rattle.tables.specs.declared.refusal.Refusal.TheVariants.{WrongLength, BadField}
 use Rattle.tables.proofs.AckLaws.{query_short, query_error, device_back, port_back}
 use Rattle.acks.specs.Acks.{ReadBack, Needs}
 
-device_short : (a : List ℕ) → length a < 129 → device_read a ≡ device.Refused 1
+device_short : (a : List ℕ) → length a < 129 → device_read a ≡ Err WrongLength
 unfolding device_read device_codec
 device_short a h = rw (query_short 128 a h)
 
-device_error : (a : List ℕ) → 129 ≤ length a → le_at 1 a 0 ≢ 0 → device_read a ≡ device.Refused 4
+device_error : (a : List ℕ) → 129 ≤ length a → le_at 1 a 0 ≢ 0 → device_read a ≡ Err BadField
 unfolding device_read device_codec
 device_error a h e = rw (query_error 128 a h e)
 
-port_short : (a : List ℕ) → length a < 33 → port_read a ≡ port.Refused 1
+port_short : (a : List ℕ) → length a < 33 → port_read a ≡ Err WrongLength
 unfolding port_read port_codec
 port_short a h = rw (query_short 32 a h)
 
-port_error : (a : List ℕ) → 33 ≤ length a → le_at 1 a 0 ≢ 0 → port_read a ≡ port.Refused 4
+port_error : (a : List ℕ) → 33 ≤ length a → le_at 1 a 0 ≢ 0 → port_read a ≡ Err BadField
 unfolding port_read port_codec
 port_error a h e = rw (query_error 32 a h e)
 

@@ -3,7 +3,8 @@ ghost use Rattle.std.specs.Prelude.{◌≡◌, ◌+◌, ◌≤◌, length};
 ghost use Rattle.wire.specs.Codec.{decode, encode, fields_of, values_of, put_fields};
 ghost use Rattle.tables.specs.Queries.{caps_lines, work_lines, objects_lines, device_codec, device_read, port_codec, port_read};
 
-use tables::{Device, DeviceCaps, DeviceObjects, DeviceRead, DeviceWork, Port, PortRead};
+use tables::refusal::Refusal;
+use tables::{Device, DeviceCaps, DeviceObjects, DeviceWork, Port};
 
 // An ack of command 0 and of command 1, with the ack byte.
 pub const DEVICE_ACK: usize = 129;
@@ -108,16 +109,16 @@ fn get_objects(ack: &[u8]) -> DeviceObjects
 }
 
 // Reads an ack of command 0.
-pub fn read_device(ack: &[u8]) -> DeviceRead
+pub fn read_device(ack: &[u8]) -> Result<Device, Refusal>
     ensures { result ≡ device_read ack.now }
 {
     if ack.len() < DEVICE_ACK {
-        return DeviceRead::Refused(1);
+        return Err(Refusal::WrongLength);
     }
     if wire::get8(ack, 0) != 0 {
-        return DeviceRead::Refused(4);
+        return Err(Refusal::BadField);
     }
-    DeviceRead::Value(Device {
+    Ok(Device {
         caps: get_caps(ack),
         work: get_work(ack),
         objects: get_objects(ack),
@@ -125,16 +126,16 @@ pub fn read_device(ack: &[u8]) -> DeviceRead
 }
 
 // Reads an ack of command 1.
-pub fn read_port(ack: &[u8]) -> PortRead
+pub fn read_port(ack: &[u8]) -> Result<Port, Refusal>
     ensures { result ≡ port_read ack.now }
 {
     if ack.len() < PORT_ACK {
-        return PortRead::Refused(1);
+        return Err(Refusal::WrongLength);
     }
     if wire::get8(ack, 0) != 0 {
-        return PortRead::Refused(4);
+        return Err(Refusal::BadField);
     }
-    PortRead::Value(Port {
+    Ok(Port {
         gids: wire::get32(ack, 1),
         message: wire::get32(ack, 5),
     })

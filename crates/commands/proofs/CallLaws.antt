@@ -10,7 +10,6 @@ use lib.ListN.{length}
 use native.Mathlib.Omega.{arith}
 use borrow.Author.Tests.{lt-ltb, le-ltb, le-leb, leb-true, ltb-false, ne_eqb, not-false}
 use Rattle.wire.specs.Checks.{Check, refusal}
-use Rattle.wire.specs.Codec.{decode}
 use Rattle.wire.proofs.CheckLaws.{passed}
 use Rattle.wire.specs.Le.{le_at}
 use Rattle.wire.specs.Scan.{all}
@@ -18,24 +17,14 @@ use Rattle.validate.specs.Accept.{accepts}
 use Rattle.validate.proofs.AcceptedLaws.{Accepted, accepted}
 use Rattle.tables.specs.Card.{Card}
 use Rattle.tables.specs.State.{card}
-use Rattle.tables.specs.Commands.{head_checks, number_read, register_read, create_qp_read, modify_qp_read, encode_ack, ack_size, ack_need, room_by, control_class, Command, number_codec, register_codec, create_qp_codec, modify_qp_codec, ack_least, data_size, command_of}
+use Rattle.tables.specs.Commands.{head_checks, head_read, data_read, encode_ack, ack_size, ack_need, room_by, control_class, Command, ack_least, data_size, command_of}
 use Rattle.tables.specs.declared.Ack.{Ack}
 use Rattle.tables.specs.declared.Ack.TheVariants as ack
 use Rattle.tables.proofs.AckLaws.{need_least}
-use Rattle.tables.specs.declared.CreateQp.{CreateQp}
-use Rattle.tables.specs.declared.ModifyQp.{ModifyQp}
-use Rattle.tables.specs.declared.Registration.{Registration}
-use Rattle.tables.specs.declared.CreateQpRead.{CreateQpRead}
-use Rattle.tables.specs.declared.CreateQpRead.TheVariants as create
-use Rattle.tables.specs.declared.ModifyQpRead.{ModifyQpRead}
-use Rattle.tables.specs.declared.ModifyQpRead.TheVariants as modify
-use Rattle.tables.specs.declared.NumberRead.{NumberRead}
-use Rattle.tables.specs.declared.NumberRead.TheVariants as number
-use Rattle.tables.specs.declared.RegisterRead.{RegisterRead}
-use Rattle.tables.specs.declared.RegisterRead.TheVariants as register
 use Rattle.rules.proofs.Answers.{command_tests}
 use Rattle.rules.proofs.Exported.{refused_owes, done_owes}
 use Rattle.rules.proofs.Tests.{first_of, refusal_append}
+use Rattle.rules.specs.Answer.{outcome_answer}
 use Rattle.rules.specs.Bytes.{command_bytes, effect_bytes}
 use Rattle.rules.specs.Call.{Call}
 use Rattle.rules.specs.Calls.{checks, control_checks, owed_checks, status_of, effect, memory_after, buffer_after}
@@ -44,9 +33,12 @@ use Rattle.rules.specs.Control.{command_checks, command_ack, command_effect}
 use Rattle.rules.specs.Lists.{is_some, maybe}
 use Rattle.rules.specs.declared.Answer.{Answer}
 use Rattle.rules.specs.declared.Answer.TheVariants as answer
-use Rattle.commands.specs.Control.{Ran, Chosen, Classed, number_checks, class_checks, numbered, registering, creating, modifying, bare, outcome_ack, outcome_answer}
-use Rattle.commands.specs.declared.Outcome.{Outcome}
-use Rattle.commands.specs.declared.Outcome.TheVariants.{Refused, Done}
+use Rattle.commands.specs.Control.{Ran, Chosen, Classed, number_checks, class_checks, read_as, bare, outcome_ack}
+use Rattle.std.specs.Prelude.{Result, Ok, Err, Some, None}
+use Rattle.std.specs.Prelude.{Option as Read}
+use Rattle.tables.specs.Refusal.{refusal_of, result_by}
+use Rattle.tables.specs.declared.refusal.Refusal.{Refusal}
+use Rattle.tables.specs.declared.refusal.Refusal.TheVariants.{Unknown}
 use Rattle.commands.proofs.EndLaws.{quiet, ended}
 use Rattle.commands.proofs.EffectLaws as effect
 use Rattle.commands.proofs.EffectLaws.{Kept}
@@ -56,14 +48,17 @@ use Rattle.commands.proofs.RegionEffectLaws as regions
 -- ---- the command number chooses
 
 -- a reading by the data's length, made into a command
-made : {A : Type 0} (f : A → Option Command) (b : Bool) (right wrong : A) → f (cond b right wrong) ≡ cond b (f right) (f wrong)
-made f true right wrong = refl
-made f false right wrong = refl
+made : {A : Type 0} (f : A → Command) (n : ℕ) (of : List ℕ → A) (k : List ℕ) → read_as f (data_read n of k) ≡ cond (eqb (length k) n) (some (f (of k))) none
+made f n of k = go (eqb (length k) n)
+  where
+    go : (b : Bool) → read_as f (cond b (Some (of k)) None) ≡ cond b (some (f (of k))) none
+    go true = refl
+    go false = refl
 
 module _ (l k : List ℕ) where
   -- the number says that it is the command q; o is q where its data has its length
   chosen : (q : Command) → command_of k ≡ some q → (o : Option Command) → o ≡ cond (eqb (length k) (2 + data_size q)) (some q) none
-      → (r : Outcome) (l' : List ℕ) → Ran l o r l' → Chosen l k r l'
+      → (r : Result Ack Refusal) (l' : List ℕ) → Ran l o r l' → Chosen l k r l'
   chosen q c o is r l' x = go (eqb (length k) (2 + data_size q)) refl (rw is at x)
     where
       go : (b : Bool) → eqb (length k) (2 + data_size q) ≡ b → Ran l (cond b (some q) none) r l' → Chosen l k r l'
@@ -71,52 +66,26 @@ module _ (l k : List ℕ) where
       go false e y = record { outcome = rw (c, e) y.outcome; bytes = rw (c, e) y.bytes }
 
   -- by the data of the command
-  module _ (r : Outcome) (l' : List ℕ) where
-    pub by_number : (f : ℕ → Command) → command_of k ≡ some (f (decode number_codec k 2)) → ((n : ℕ) → data_size (f n) ≡ number_codec.size)
-        → (x : NumberRead) → x ≡ number_read k → Ran l (numbered f x) r l' → Chosen l k r l'
-    by_number f c s x is =
-        let d : ℕ = decode number_codec k 2 in
-        chosen (f d) c (numbered f x) (rw (s d, is) (made (numbered f) (eqb (length k) (2 + number_codec.size)) (number.Value d) number.Wrong)) r l'
+  module _ (r : Result Ack Refusal) (l' : List ℕ) where
+    pub by_data : {A : Type 0} (f : A → Command) (n : ℕ) (of : List ℕ → A) → command_of k ≡ some (f (of k)) → 2 + data_size (f (of k)) ≡ n
+        → (x : Read A) → x ≡ data_read n of k → Ran l (read_as f x) r l' → Chosen l k r l'
+    by_data f n of c s x is = chosen (f (of k)) c (read_as f x) (rw (s, is) (made f n of k)) r l'
 
     pub by_nothing : (q : Command) → command_of k ≡ some q → data_size q ≡ 0 → Ran l (bare q k) r l' → Chosen l k r l'
     by_nothing q c s = chosen q c (bare q k) (rw s) r l'
 
-    pub by_registration : command_of k ≡ some (Command.register (decode register_codec k 2)) → (x : RegisterRead) → x ≡ register_read k
-        → Ran l (registering x) r l' → Chosen l k r l'
-    unfolding data_size
-    by_registration c x is =
-        let d : Registration = decode register_codec k 2 in
-        chosen (Command.register d) c (registering x)
-        (rw is (made registering (eqb (length k) (2 + register_codec.size)) (register.Value d) register.Wrong)) r l'
-
-    pub by_creation : command_of k ≡ some (Command.create_qp (decode create_qp_codec k 2)) → (x : CreateQpRead) → x ≡ create_qp_read k
-        → Ran l (creating x) r l' → Chosen l k r l'
-    unfolding data_size
-    by_creation c x is =
-        let d : CreateQp = decode create_qp_codec k 2 in
-        chosen (Command.create_qp d) c (creating x)
-        (rw is (made creating (eqb (length k) (2 + create_qp_codec.size)) (create.Value d) create.Wrong)) r l'
-
-    pub by_move : command_of k ≡ some (Command.modify_qp (decode modify_qp_codec k 2)) → (x : ModifyQpRead) → x ≡ modify_qp_read k
-        → Ran l (modifying x) r l' → Chosen l k r l'
-    unfolding data_size
-    by_move c x is =
-        let d : ModifyQp = decode modify_qp_codec k 2 in
-        chosen (Command.modify_qp d) c (modifying x)
-        (rw is (made modifying (eqb (length k) (2 + modify_qp_codec.size)) (modify.Value d) modify.Wrong)) r l'
-
   -- no command has the number
-  by_none : command_of k ≡ none → Chosen l k (Refused 13) l
+  by_none : command_of k ≡ none → Chosen l k (Err Unknown) l
   by_none e = record { outcome = rw e; bytes = rw e }
 
   module _ (n : ℕ) (is : n ≡ le_at 1 k 1) where
-    pub run_gap : (n ≡ 6) ⊎ (n ≡ 11) → Chosen l k (Refused 13) l
+    pub run_gap : (n ≡ 6) ⊎ (n ≡ 11) → Chosen l k (Err Unknown) l
     unfolding command_of
     run_gap (inl e) = by_none (rw (← is, e))
     run_gap (inr e) = by_none (rw (← is, e))
 
     pub run_unknown : (n ≡ 0 → ⊥) → (n ≡ 1 → ⊥) → (n ≡ 2 → ⊥) → (n ≡ 3 → ⊥) → (n ≡ 4 → ⊥) → (n ≡ 5 → ⊥) → (n ≡ 7 → ⊥) → (n ≡ 8 → ⊥) → (n ≡ 9 → ⊥)
-        → (n ≡ 10 → ⊥) → (n ≡ 12 → ⊥) → Chosen l k (Refused 13) l
+        → (n ≡ 10 → ⊥) → (n ≡ 12 → ⊥) → Chosen l k (Err Unknown) l
     unfolding command_of
     run_unknown x y a b c d e f g h i =
         by_none
@@ -125,13 +94,18 @@ module _ (l k : List ℕ) where
 
   -- ---- the tests before: the length, and the class
   -- the head is refused
-  pub dispatch_stopped : (n : ℕ) → refusal (head_checks k) ≡ some n → Classed l k (Refused n) l
-  dispatch_stopped n e =
-      let z : refusal (class_checks (card l) k) ≡ some n = refusal_append (head_checks k) (number_checks (card l) k) ∙ rw e in
-      record { outcome = rw z; bytes = rw z }
+  pub dispatch_stopped : (r : Refusal) → head_read k ≡ Err r → Classed l k (Err r) l
+  dispatch_stopped r e = go (refusal (head_checks k)) refl e
+    where
+      go : (o : Option ℕ) → refusal (head_checks k) ≡ o → result_by o (le_at 1 k 1) ≡ Err r → Classed l k (Err r) l
+      go none i e = cc
+      go (some n) i e =
+          let z : refusal (class_checks (card l) k) ≡ some n = refusal_append (head_checks k) (number_checks (card l) k) ∙ rw i in
+          let q : refusal_of n ≡ r = cc in
+          record { outcome = rw (z, q); bytes = rw z }
 
   -- it is not
-  pub dispatch_passed : refusal (head_checks k) ≡ none → (r : Outcome) (l' : List ℕ) → Chosen l k r l' → Classed l k r l'
+  pub dispatch_passed : refusal (head_checks k) ≡ none → (r : Result Ack Refusal) (l' : List ℕ) → Chosen l k r l' → Classed l k r l'
   dispatch_passed e r l' x =
       let z : refusal (class_checks (card l) k) ≡ refusal (number_checks (card l) k) =
       refusal_append (head_checks k) (number_checks (card l) k) ∙ rw e in
@@ -196,15 +170,15 @@ ack_room_lem c (some (Command.create_qp r)) = omega arith
 ack_room_lem c (some (Command.modify_qp r)) = omega arith
 ack_room_lem c (some (Command.destroy_qp q)) = omega arith
 
-pub outcome_room : (l k : List ℕ) (p : Outcome) (l' : List ℕ) → Classed l k p l' → ack_size (outcome_ack p) ≤ ack_need k
+pub outcome_room : (l k : List ℕ) (p : Result Ack Refusal) (l' : List ℕ) → Classed l k p l' → ack_size (outcome_ack p) ≤ ack_need k
 outcome_room l k p l' d = go (refusal (class_checks (card l) k)) refl
   where
     go : (m : Option ℕ) → refusal (class_checks (card l) k) ≡ m → ack_size (outcome_ack p) ≤ ack_need k
     go none e =
-        let eo : p ≡ Done (maybe ack.Done (command_ack (card l)) (command_of k)) = d.outcome ∙ rw e in
+        let eo : p ≡ Ok (maybe ack.Done (command_ack (card l)) (command_of k)) = d.outcome ∙ rw e in
         rw (eo, need_named k (first_none (head_checks k) (number_checks (card l) k) e)) (ack_room_lem (card l) (command_of k))
     go (some n) e =
-        let eo : p ≡ Refused n = d.outcome ∙ rw e in
+        let eo : p ≡ Err (refusal_of n) = d.outcome ∙ rw e in
         let h : ack_least ≤ ack_need k = need_least k in
         rw eo (omega arith)
 
@@ -270,7 +244,7 @@ module _ (l k a : List ℕ) where
           let p = passed (class_checks (card l) k) e in
           rw (← said (card l) a o (not-false (is_some o) p.1.1.0)) (done_owes l call refl (tests ∙ e) s.0 s.1 (maybe l (command_bytes l) o) refl)
 
-      pub control_done : (p : Outcome) (l' : List ℕ) → Classed l k p l' → (x : Ack) → x ≡ outcome_ack p → (r : Answer) → r ≡ outcome_answer p
+      pub control_done : (p : Result Ack Refusal) (l' : List ℕ) → Classed l k p l' → (x : Ack) → x ≡ outcome_ack p → (r : Answer) → r ≡ outcome_answer p
           → (a' : List ℕ) → a' ≡ encode_ack x a → Owes l call r l' [] a'
       control_done =
           ended l a call refl (λ n. refl) (class_checks (card l) k) tests (class_quiet (card l) k)

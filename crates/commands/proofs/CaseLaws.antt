@@ -18,6 +18,7 @@ use Rattle.tables.proofs.ObjectLaws.{memory_is, mr_variant}
 use Rattle.tables.specs.Commands.{Command}
 use Rattle.validate.specs.Accept.{access_ok}
 use Rattle.validate.specs.Search.{last_variant, free_pdn, free_cqn, free_mrn}
+use Rattle.tables.specs.declared.Ack.{Ack}
 use Rattle.tables.specs.declared.Ack.TheVariants as ack
 use Rattle.tables.specs.declared.Device.{Device}
 use Rattle.tables.specs.declared.Port.{Port}
@@ -29,8 +30,10 @@ use Rattle.rules.specs.Bytes.{command_bytes, region_bytes}
 use Rattle.commands.specs.Control.{Ran, bare, in_range, destroy_of, live_of, used_of}
 use Rattle.commands.specs.declared.Kind.{Kind}
 use Rattle.commands.specs.declared.Kind.TheVariants.{Pd, Cq, Mr, Qp}
-use Rattle.commands.specs.declared.Outcome.{Outcome}
-use Rattle.commands.specs.declared.Outcome.TheVariants.{Refused, Done}
+use Rattle.std.specs.Prelude.{Result, Ok, Err}
+use Rattle.tables.specs.Refusal.{refusal_of}
+use Rattle.tables.specs.declared.refusal.Refusal.{Refusal}
+use Rattle.tables.specs.declared.refusal.Refusal.TheVariants.{BadField, BadRange, Full, InUse, NotLive, WrongLength}
 
 -- what a call of a test has shown, where its result r let the command pass, and where it did not
 pub passes : {r b : Bool} → r ≡ b → r ≡ true → b ≡ true
@@ -41,20 +44,20 @@ fails e f = sym e ∙ f
 
 -- a command that a test refuses, and one that passes all
 module _ (l : List ℕ) (q : Command) where
-  pub ran_refused : (n : ℕ) → refusal (command_checks (card l) q) ≡ some n → Ran l (some q) (Refused n) l
+  pub ran_refused : (n : ℕ) → refusal (command_checks (card l) q) ≡ some n → Ran l (some q) (Err (refusal_of n)) l
   ran_refused n e = record { outcome = rw e; bytes = rw e }
 
-  pub ran_done : refusal (command_checks (card l) q) ≡ none → (r : Outcome) (l' : List ℕ)
-      → r ≡ Done (command_ack (card l) q) → l' ≡ command_bytes l q → Ran l (some q) r l'
+  pub ran_done : refusal (command_checks (card l) q) ≡ none → (r : Result Ack Refusal) (l' : List ℕ)
+      → r ≡ Ok (command_ack (card l) q) → l' ≡ command_bytes l q → Ran l (some q) r l'
   ran_done e r l' a b = record { outcome = rw e a; bytes = rw e b }
 
 -- one whose data has not its length
-pub ran_wrong : (l : List ℕ) → Ran l none (Refused 1) l
+pub ran_wrong : (l : List ℕ) → Ran l none (Err WrongLength) l
 ran_wrong l = record { outcome = refl; bytes = refl }
 
 -- a command without data
 module _ (l k : List ℕ) (q : Command) where
-  pub bare_wrong : (length k ≡ 2 → ⊥) → Ran l (bare q k) (Refused 1) l
+  pub bare_wrong : (length k ≡ 2 → ⊥) → Ran l (bare q k) (Err WrongLength) l
   bare_wrong h = let e = ne_eqb (length k) 2 h in record { outcome = rw e; bytes = rw e }
 
   pub bare_right : length k ≡ 2 → bare q k ≡ some q
@@ -94,58 +97,58 @@ module _ (l : List ℕ) where
         by Mr = refl
         by Qp = refl
 
-    pub destroy_dead : live_of (card l) kind n ≡ false → Ran l (some (destroy_of kind n)) (Refused 2) l
+    pub destroy_dead : live_of (card l) kind n ≡ false → Ran l (some (destroy_of kind n)) (Err NotLive) l
     destroy_dead e = ran_refused l (destroy_of kind n) 2 (destroy_tests ∙ rw e)
 
     module _ (live : live_of (card l) kind n ≡ true) where
-      pub destroy_used : used_of (card l) kind n ≡ true → Ran l (some (destroy_of kind n)) (Refused 10) l
+      pub destroy_used : used_of (card l) kind n ≡ true → Ran l (some (destroy_of kind n)) (Err InUse) l
       destroy_used e = ran_refused l (destroy_of kind n) 10 (destroy_tests ∙ rw (live, e))
 
       pub destroy_done : used_of (card l) kind n ≡ false → (l' : List ℕ) → l' ≡ command_bytes l (destroy_of kind n)
-          → Ran l (some (destroy_of kind n)) (Done ack.Done) l'
-      destroy_done e l' s = ran_done l (destroy_of kind n) (destroy_tests ∙ rw (live, e)) (Done ack.Done) l' (rw no_data) s
+          → Ran l (some (destroy_of kind n)) (Ok ack.Done) l'
+      destroy_done e l' s = ran_done l (destroy_of kind n) (destroy_tests ∙ rw (live, e)) (Ok ack.Done) l' (rw no_data) s
 
   -- ---- queries: no test, and nothing is stored
-  pub device_done : (d : Device) → d ≡ device_of (card l) → Ran l (some Command.query_device) (Done (ack.Device d)) l
+  pub device_done : (d : Device) → d ≡ device_of (card l) → Ran l (some Command.query_device) (Ok (ack.Device d)) l
   unfolding command_checks command_ack command_bytes
-  device_done d e = ran_done l Command.query_device refl (Done (ack.Device d)) l (ap (λ (x : Device). Done (ack.Device x)) e) refl
+  device_done d e = ran_done l Command.query_device refl (Ok (ack.Device d)) l (ap (λ (x : Device). Ok (ack.Device x)) e) refl
 
-  pub port_done : (p : Port) → p ≡ port_of (card l) → Ran l (some Command.query_port) (Done (ack.Port p)) l
+  pub port_done : (p : Port) → p ≡ port_of (card l) → Ran l (some Command.query_port) (Ok (ack.Port p)) l
   unfolding command_checks command_ack command_bytes
-  port_done p e = ran_done l Command.query_port refl (Done (ack.Port p)) l (ap (λ (x : Port). Done (ack.Port x)) e) refl
+  port_done p e = ran_done l Command.query_port refl (Ok (ack.Port p)) l (ap (λ (x : Port). Ok (ack.Port x)) e) refl
 
   -- ---- create CQ
   module _ (p : ℕ) where
     abbrev fine : Bool
     fine = leb 1 p && leb p most_places
 
-    pub create_cq_fields : fine ≡ false → Ran l (some (Command.create_cq p)) (Refused 4) l
+    pub create_cq_fields : fine ≡ false → Ran l (some (Command.create_cq p)) (Err BadField) l
     unfolding command_checks
     create_cq_fields e = ran_refused l (Command.create_cq p) 4 (rw e)
 
     module _ (passed : fine ≡ true) (n : ℕ) (is : n ≡ free_cqn (card l)) where
-      pub create_cq_full : cq_count ≤ n → Ran l (some (Command.create_cq p)) (Refused 8) l
+      pub create_cq_full : cq_count ≤ n → Ran l (some (Command.create_cq p)) (Err Full) l
       unfolding command_checks
       create_cq_full h = ran_refused l (Command.create_cq p) 8 (rw (passed, le-leb cq_count (free_cqn (card l)) (omega arith)))
 
       pub create_cq_done : n < cq_count → (l' : List ℕ) → l' ≡ command_bytes l (Command.create_cq p)
-          → Ran l (some (Command.create_cq p)) (Done (ack.Number n)) l'
+          → Ran l (some (Command.create_cq p)) (Ok (ack.Number n)) l'
       unfolding command_checks command_ack
       create_cq_done h l' s =
-          ran_done l (Command.create_cq p) (rw (passed, lt-leb cq_count (free_cqn (card l)) (omega arith))) (Done (ack.Number n)) l'
-          (ap (λ (x : ℕ). Done (ack.Number x)) is) s
+          ran_done l (Command.create_cq p) (rw (passed, lt-leb cq_count (free_cqn (card l)) (omega arith))) (Ok (ack.Number n)) l'
+          (ap (λ (x : ℕ). Ok (ack.Number x)) is) s
 
   -- ---- create PD
   module _ (n : ℕ) (is : n ≡ free_pdn (card l)) where
-    pub create_pd_full : pd_count ≤ n → Ran l (some Command.create_pd) (Refused 8) l
+    pub create_pd_full : pd_count ≤ n → Ran l (some Command.create_pd) (Err Full) l
     unfolding command_checks
     create_pd_full h = ran_refused l Command.create_pd 8 (rw (le-leb pd_count (free_pdn (card l)) (omega arith)))
 
-    pub create_pd_done : n < pd_count → (l' : List ℕ) → l' ≡ put_row pd_flag_t l n 1 → Ran l (some Command.create_pd) (Done (ack.Number n)) l'
+    pub create_pd_done : n < pd_count → (l' : List ℕ) → l' ≡ put_row pd_flag_t l n 1 → Ran l (some Command.create_pd) (Ok (ack.Number n)) l'
     unfolding command_checks command_ack command_bytes
     create_pd_done h l' s =
-        ran_done l Command.create_pd (rw (lt-leb pd_count (free_pdn (card l)) (omega arith))) (Done (ack.Number n)) l'
-        (ap (λ (x : ℕ). Done (ack.Number x)) is) (s ∙ ap (λ (x : ℕ). put_row pd_flag_t l x 1) is)
+        ran_done l Command.create_pd (rw (lt-leb pd_count (free_pdn (card l)) (omega arith))) (Ok (ack.Number n)) l'
+        (ap (λ (x : ℕ). Ok (ack.Number x)) is) (s ∙ ap (λ (x : ℕ). put_row pd_flag_t l x 1) is)
 
   -- ---- register
   pub new_variant_lem : (n : ℕ) → n ≡ free_mrn (card l) → n < mr_count → (row_at mr_t l n).variant + 1 ≡ new_variant (card l)
@@ -170,12 +173,12 @@ module _ (l : List ℕ) where
         three false true false = refl
         three false true true = refl
 
-    pub register_access : access_ok g.access ≡ false → Ran l (some (Command.register g)) (Refused 4) l
+    pub register_access : access_ok g.access ≡ false → Ran l (some (Command.register g)) (Err BadField) l
     unfolding command_checks
     register_access e = ran_refused l (Command.register g) 4 (rw e)
 
     module _ (known : access_ok g.access ≡ true) where
-      pub register_dead : (card l).pd g.pd ≡ false → Ran l (some (Command.register g)) (Refused 2) l
+      pub register_dead : (card l).pd g.pd ≡ false → Ran l (some (Command.register g)) (Err NotLive) l
       unfolding command_checks
       register_dead e = ran_refused l (Command.register g) 2 (rw (known, e))
 
@@ -185,16 +188,16 @@ module _ (l : List ℕ) where
         unfolding command_checks
         register_tests = rw (known, live) (range_tests (8 if leb mr_count (free_mrn (card l)) ∷ []))
 
-        pub register_range : in_range (row_at memory_t l 0) g ≡ false → Ran l (some (Command.register g)) (Refused 11) l
+        pub register_range : in_range (row_at memory_t l 0) g ≡ false → Ran l (some (Command.register g)) (Err BadRange) l
         register_range e = ran_refused l (Command.register g) 11 (register_tests ∙ rw e)
 
         module _ (inside : in_range (row_at memory_t l 0) g ≡ true) (n : ℕ) (is : n ≡ free_mrn (card l)) where
-          pub register_full : mr_count ≤ n → Ran l (some (Command.register g)) (Refused 8) l
+          pub register_full : mr_count ≤ n → Ran l (some (Command.register g)) (Err Full) l
           register_full h = ran_refused l (Command.register g) 8 (register_tests ∙ rw (inside, le-leb mr_count (free_mrn (card l)) (omega arith)))
 
           pub register_done : n < mr_count → (v : ℕ) → v ≡ new_variant (card l) → (key : ℕ) → key ≡ key_of n v → (l' : List ℕ)
-              → l' ≡ region_bytes l 0 g → Ran l (some (Command.register g)) (Done (ack.Keys n key)) l'
+              → l' ≡ region_bytes l 0 g → Ran l (some (Command.register g)) (Ok (ack.Keys n key)) l'
           unfolding command_ack command_bytes
           register_done h v e key f l' s =
               ran_done l (Command.register g) (register_tests ∙ rw (inside, lt-leb mr_count (free_mrn (card l)) (omega arith)))
-              (Done (ack.Keys n key)) l' (ap (λ (x : ℕ). Done (ack.Keys n x)) f ∙ ap₂ (λ (x z : ℕ). Done (ack.Keys x (key_of x z))) is e) s
+              (Ok (ack.Keys n key)) l' (ap (λ (x : ℕ). Ok (ack.Keys n x)) f ∙ ap₂ (λ (x z : ℕ). Ok (ack.Keys x (key_of x z))) is e) s

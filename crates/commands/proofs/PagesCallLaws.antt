@@ -16,6 +16,7 @@ use Rattle.tables.specs.Commands.{encode_ack, ack_size, ack_least}
 use Rattle.tables.specs.declared.Ack.{Ack}
 use Rattle.rules.proofs.Exported.{refused_owes, done_owes}
 use Rattle.rules.specs.Bytes.{effect_bytes, paged_bytes}
+use Rattle.rules.specs.Answer.{outcome_answer}
 use Rattle.rules.specs.Call.{Call, registration_in}
 use Rattle.rules.specs.Calls.{checks, owed_checks, status_of, effect, memory_after, buffer_after}
 use Rattle.rules.specs.Contract.{Owes}
@@ -23,21 +24,22 @@ use Rattle.rules.specs.Control.{command_ack, new_keys}
 use Rattle.rules.specs.Pages.{page_record_checks, page_list_checks}
 use Rattle.rules.specs.declared.Answer.{Answer}
 use Rattle.rules.specs.declared.Answer.TheVariants as answer
-use Rattle.commands.specs.Control.{outcome_ack, outcome_answer}
+use Rattle.commands.specs.Control.{outcome_ack}
 use Rattle.commands.specs.Pages.{record_checks, Recorded}
-use Rattle.commands.specs.declared.Outcome.{Outcome}
-use Rattle.commands.specs.declared.Outcome.TheVariants.{Refused, Done}
+use Rattle.std.specs.Prelude.{Result, Ok, Err}
+use Rattle.tables.specs.Refusal.{refusal_of}
+use Rattle.tables.specs.declared.refusal.Refusal.{Refusal}
 use Rattle.commands.proofs.CallLaws.{rest_none}
 use Rattle.commands.proofs.EndLaws.{quiet, ended}
 use Rattle.commands.proofs.RegionEffectLaws.{register_paged}
 
 -- its ack fits the buffer
-pub pages_room : (l k ps : List ℕ) (p : Outcome) (l' : List ℕ) → Recorded l k ps p l' → ack_size (outcome_ack p) ≤ ack_least
+pub pages_room : (l k ps : List ℕ) (p : Result Ack Refusal) (l' : List ℕ) → Recorded l k ps p l' → ack_size (outcome_ack p) ≤ ack_least
 pages_room l k ps p l' d = go (refusal (record_checks (card l) k ps)) refl
   where
     go : (m : Option ℕ) → refusal (record_checks (card l) k ps) ≡ m → ack_size (outcome_ack p) ≤ ack_least
-    go none e = let eo : p ≡ Done (new_keys (card l)) = d.outcome ∙ rw e in rw eo (omega arith)
-    go (some n) e = let eo : p ≡ Refused n = d.outcome ∙ rw e in rw eo (omega arith)
+    go none e = let eo : p ≡ Ok (new_keys (card l)) = d.outcome ∙ rw e in rw eo (omega arith)
+    go (some n) e = let eo : p ≡ Err (refusal_of n) = d.outcome ∙ rw e in rw eo (omega arith)
 
 module _ (l k ps a : List ℕ) where
   abbrev call : Call
@@ -71,7 +73,7 @@ module _ (l k ps a : List ℕ) where
       unfolding all page_list_checks
       quiets = refl
 
-      pub pages_done : (p : Outcome) (l' : List ℕ) → Recorded l k ps p l' → (x : Ack) → x ≡ outcome_ack p → (r : Answer) → r ≡ outcome_answer p
+      pub pages_done : (p : Result Ack Refusal) (l' : List ℕ) → Recorded l k ps p l' → (x : Ack) → x ≡ outcome_ack p → (r : Answer) → r ≡ outcome_answer p
           → (a' : List ℕ) → a' ≡ encode_ack x a → Owes l call r l' [] a'
       pages_done =
           ended l a call refl (λ n. refl) (record_checks (card l) k ps) tests quiets (new_keys (card l)) (paged_bytes l (registration_in k) ps) done

@@ -2,7 +2,7 @@
 use mathlib.Core.Path.{◌≡◌, refl, sym, ap, ap₂, ◌∙◌}
 use mathlib.Core.Bool.{Bool, true, false, cond, not, ◌&&◌}
 use mathlib.Core.List.{List, [], ◌∷◌}
-use mathlib.Core.Option.{none, some}
+use mathlib.Core.Option.{Option as Maybe, none, some}
 use Prim.Native.Nat.{ℕ, ◌+◌, ◌*◌, ◌≤◌, ◌<◌}
 use native.Mathlib.Omega.{arith}
 use lib.Dec.{eqb, leb}
@@ -12,13 +12,12 @@ use Rattle.wire.specs.Checks.{Check, ◌if◌, refusal}
 use Rattle.wire.specs.Le.{le_at}
 use Rattle.wire.specs.Table.{row_at}
 use Rattle.wire.proofs.ScanLaws.{and_left, and_right, leb_same}
-use Rattle.tables.specs.Commands.{head_checks, register_codec, register_read}
+use Rattle.tables.specs.Commands.{head_checks, head_read, register_codec, register_read}
 use Rattle.tables.specs.Layout.{memory_t}
 use Rattle.tables.specs.Limits.{mr_count, most_memory, most_address, page_size, most_pages}
 use Rattle.tables.specs.State.{card, pages_needed}
+use Rattle.tables.specs.declared.Ack.{Ack}
 use Rattle.tables.specs.declared.Ack.TheVariants as ack
-use Rattle.tables.specs.declared.RegisterRead.{RegisterRead}
-use Rattle.tables.specs.declared.RegisterRead.TheVariants as register
 use Rattle.tables.specs.declared.Registration.{Registration}
 use Rattle.tables.proofs.ObjectLaws.{memory_is}
 use Rattle.validate.specs.Accept.{accepts, access_ok}
@@ -31,8 +30,11 @@ use Rattle.rules.specs.Pages.{entries_ok, page_list_checks}
 use Rattle.rules.specs.Permit.{key_of}
 use Rattle.rules.proofs.Tests.{refusal_append}
 use Rattle.commands.specs.Pages.{count_ok, in_pages, Listed, Recorded, record_checks}
-use Rattle.commands.specs.declared.Outcome.{Outcome}
-use Rattle.commands.specs.declared.Outcome.TheVariants.{Refused, Done}
+use Rattle.std.specs.Prelude.{Result, Ok, Err, Some, None}
+use Rattle.std.specs.Prelude.{Option as Read}
+use Rattle.tables.specs.Refusal.{refusal_of, result_by}
+use Rattle.tables.specs.declared.refusal.Refusal.{Refusal}
+use Rattle.tables.specs.declared.refusal.Refusal.TheVariants.{BadField, BadRange, Full, NotLive, Unknown, WrongLength}
 use Rattle.commands.proofs.CaseLaws.{over}
 use Rattle.commands.proofs.PagesEffectLaws.{entries_most}
 
@@ -90,14 +92,14 @@ list_fits l ps g ok e =
 -- ---- the tests in order
 
 module _ (l ps : List ℕ) where
-  pub listed_wrong : Listed l register.Wrong ps (Refused 1) l
+  pub listed_wrong : Listed l None ps (Err WrongLength) l
   listed_wrong = record { outcome = refl; bytes = refl }
 
   module _ (g : Registration) where
-    refused : (n : ℕ) → refusal (page_list_checks (card l) g ps) ≡ some n → Listed l (register.Value g) ps (Refused n) l
+    refused : (n : ℕ) → refusal (page_list_checks (card l) g ps) ≡ some n → Listed l (Some g) ps (Err (refusal_of n)) l
     refused n e = record { outcome = rw e; bytes = rw e }
 
-    pub listed_access : access_ok g.access ≡ false → Listed l (register.Value g) ps (Refused 4) l
+    pub listed_access : access_ok g.access ≡ false → Listed l (Some g) ps (Err BadField) l
     unfolding page_list_checks
     listed_access e = refused 4 (rw e)
 
@@ -114,7 +116,7 @@ module _ (l ps : List ℕ) where
     six false true false true true true cs = refl
 
     module _ (known : access_ok g.access ≡ true) where
-      pub listed_dead : (card l).pd g.pd ≡ false → Listed l (register.Value g) ps (Refused 2) l
+      pub listed_dead : (card l).pd g.pd ≡ false → Listed l (Some g) ps (Err NotLive) l
       unfolding page_list_checks
       listed_dead e = refused 2 (rw (known, e))
 
@@ -129,20 +131,20 @@ module _ (l ps : List ℕ) where
             (six (eqb g.length 0) (leb (g.virt + g.length) most_address) (leb page_size g.start) (leb (need g ps) most_pages) (eqb (length ps) (need g ps))
             (entries_ok memory ps) (8 if leb mr_count (free_mrn (card l)) ∷ []))
 
-        pub listed_range : in_pages memory g ps ≡ false → Listed l (register.Value g) ps (Refused 11) l
+        pub listed_range : in_pages memory g ps ≡ false → Listed l (Some g) ps (Err BadRange) l
         listed_range e = refused 11 (tests ∙ rw e)
 
         module _ (inside : in_pages memory g ps ≡ true) (n : ℕ) (is : n ≡ free_mrn (card l)) where
-          pub listed_full : mr_count ≤ n → Listed l (register.Value g) ps (Refused 8) l
+          pub listed_full : mr_count ≤ n → Listed l (Some g) ps (Err Full) l
           listed_full h = refused 8 (tests ∙ rw (inside, le-leb mr_count (free_mrn (card l)) (omega arith)))
 
           pub listed_done : n < mr_count → (v : ℕ) → v ≡ new_variant (card l) → (key : ℕ) → key ≡ key_of n v → (x l' : List ℕ)
-              → x ≡ region_bytes l 1 g → l' ≡ put_pages x n 0 ps → Listed l (register.Value g) ps (Done (ack.Keys n key)) l'
+              → x ≡ region_bytes l 1 g → l' ≡ put_pages x n 0 ps → Listed l (Some g) ps (Ok (ack.Keys n key)) l'
           unfolding paged_bytes
           listed_done h v e key f x l' s t =
               let p : refusal (page_list_checks (card l) g ps) ≡ none = tests ∙ rw (inside, lt-leb mr_count (free_mrn (card l)) (omega arith)) in
               record {
-                outcome = rw p (ap (λ (y : ℕ). Done (ack.Keys n y)) f ∙ ap₂ (λ (y z : ℕ). Done (ack.Keys y (key_of y z))) is e);
+                outcome = rw p (ap (λ (y : ℕ). Ok (ack.Keys n y)) f ∙ ap₂ (λ (y z : ℕ). Ok (ack.Keys y (key_of y z))) is e);
                 bytes = rw p (t ∙ ap₂ (λ (y : List ℕ) (i : ℕ). put_pages y i 0 ps) s is);
               }
 
@@ -152,25 +154,30 @@ module _ (l ps : List ℕ) where
     abbrev later : (number : ℕ) → List Check
     later n = 13 if not (eqb n 7) ∷ 1 if not (eqb (length k) (2 + register_codec.size)) ∷ page_list_checks (card l) (registration_in k) ps
 
-    pub recorded_stopped : (n : ℕ) → refusal (head_checks k) ≡ some n → Recorded l k ps (Refused n) l
-    recorded_stopped n e =
-        let z : refusal (record_checks (card l) k ps) ≡ some n = refusal_append (head_checks k) (later (le_at 1 k 1)) ∙ rw e in
-        record { outcome = rw z; bytes = rw z }
+    pub recorded_stopped : (r : Refusal) → head_read k ≡ Err r → Recorded l k ps (Err r) l
+    recorded_stopped r e = go (refusal (head_checks k)) refl e
+      where
+        go : (o : Maybe ℕ) → refusal (head_checks k) ≡ o → result_by o (le_at 1 k 1) ≡ Err r → Recorded l k ps (Err r) l
+        go none i e = cc
+        go (some n) i e =
+            let z : refusal (record_checks (card l) k ps) ≡ some n = refusal_append (head_checks k) (later (le_at 1 k 1)) ∙ rw i in
+            let q : refusal_of n ≡ r = cc in
+            record { outcome = rw (z, q); bytes = rw z }
 
     module _ (head : refusal (head_checks k) ≡ none) (n : ℕ) (is : n ≡ le_at 1 k 1) where
       rest : refusal (record_checks (card l) k ps) ≡ refusal (later n)
       rest = refusal_append (head_checks k) (later (le_at 1 k 1)) ∙ rw (head, is)
 
-      pub recorded_other : (n ≡ 7 → ⊥) → Recorded l k ps (Refused 13) l
+      pub recorded_other : (n ≡ 7 → ⊥) → Recorded l k ps (Err Unknown) l
       recorded_other h =
           let z : refusal (record_checks (card l) k ps) ≡ some 13 = rest ∙ rw (ne_eqb n 7 h) in
           record { outcome = rw z; bytes = rw z }
 
-      pub recorded_seven : n ≡ 7 → (x : RegisterRead) → x ≡ register_read k → (r : Outcome) (l' : List ℕ) → Listed l x ps r l' → Recorded l k ps r l'
+      pub recorded_seven : n ≡ 7 → (x : Read Registration) → x ≡ register_read k → (r : Result Ack Refusal) (l' : List ℕ) → Listed l x ps r l' → Recorded l k ps r l'
       recorded_seven h x e r l' d = go (eqb (length k) (2 + register_codec.size)) refl (rw e at d)
         where
           go : (b : Bool) → eqb (length k) (2 + register_codec.size) ≡ b
-              → Listed l (cond b (register.Value (registration_in k)) register.Wrong) ps r l' → Recorded l k ps r l'
+              → Listed l (cond b (Some (registration_in k)) None) ps r l' → Recorded l k ps r l'
           go true q y =
               let z : refusal (record_checks (card l) k ps) ≡ refusal (page_list_checks (card l) (registration_in k) ps) = rest ∙ rw (eq-eqb n 7 h, q) in
               record { outcome = rw z y.outcome; bytes = rw z y.bytes }

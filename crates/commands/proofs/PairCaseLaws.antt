@@ -26,7 +26,8 @@ use Rattle.validate.proofs.AcceptedLaws.{only_most}
 use Rattle.rules.specs.Control.{command_checks, command_ack, is_move, state_bit, rights_bit, dest_bit}
 use Rattle.rules.specs.Bytes.{command_bytes}
 use Rattle.commands.specs.Control.{Ran, create_fine, create_live, modify_bad}
-use Rattle.commands.specs.declared.Outcome.TheVariants.{Refused, Done}
+use Rattle.std.specs.Prelude.{Ok, Err}
+use Rattle.tables.specs.declared.refusal.Refusal.TheVariants.{BadField, Full, NotLive, WrongState}
 use Rattle.commands.proofs.CaseLaws.{ran_refused, ran_done, over}
 
 -- ---- the fields of modify QP that pass their tests
@@ -84,22 +85,22 @@ module _ (l : List ℕ) where
         five true true true true false cs = refl
         five true true true true true cs = refl
 
-    pub create_qp_fields : create_fine r ≡ false → Ran l (some (Command.create_qp r)) (Refused 4) l
+    pub create_qp_fields : create_fine r ≡ false → Ran l (some (Command.create_qp r)) (Err BadField) l
     create_qp_fields e = ran_refused l (Command.create_qp r) 4 (create_tests ∙ rw e)
 
     module _ (good : create_fine r ≡ true) where
-      pub create_qp_dead : create_live (card l) r ≡ false → Ran l (some (Command.create_qp r)) (Refused 2) l
+      pub create_qp_dead : create_live (card l) r ≡ false → Ran l (some (Command.create_qp r)) (Err NotLive) l
       create_qp_dead e = ran_refused l (Command.create_qp r) 2 (create_tests ∙ rw (good, e))
 
       module _ (live : create_live (card l) r ≡ true) (n : ℕ) (is : n ≡ free_qpn (card l)) where
-        pub create_qp_full : qp_count ≤ n → Ran l (some (Command.create_qp r)) (Refused 8) l
+        pub create_qp_full : qp_count ≤ n → Ran l (some (Command.create_qp r)) (Err Full) l
         create_qp_full h = ran_refused l (Command.create_qp r) 8 (create_tests ∙ rw (good, live, le-leb qp_count (free_qpn (card l)) (omega arith)))
 
-        pub create_qp_done : n < qp_count → (l' : List ℕ) → l' ≡ command_bytes l (Command.create_qp r) → Ran l (some (Command.create_qp r)) (Done (ack.Number n)) l'
+        pub create_qp_done : n < qp_count → (l' : List ℕ) → l' ≡ command_bytes l (Command.create_qp r) → Ran l (some (Command.create_qp r)) (Ok (ack.Number n)) l'
         unfolding command_ack
         create_qp_done h l' s =
-            ran_done l (Command.create_qp r) (create_tests ∙ rw (good, live, lt-leb qp_count (free_qpn (card l)) (omega arith))) (Done (ack.Number n)) l'
-            (ap (λ (x : ℕ). Done (ack.Number x)) is) s
+            ran_done l (Command.create_qp r) (create_tests ∙ rw (good, live, lt-leb qp_count (free_qpn (card l)) (omega arith))) (Ok (ack.Number n)) l'
+            (ap (λ (x : ℕ). Ok (ack.Number x)) is) s
 
     -- the numbers that a new queue pair names
     pub create_small : create_live (card l) r ≡ true → (r.pd < 256) × (r.scq < 256) × (r.rcq < 256)
@@ -140,11 +141,11 @@ module _ (l : List ℕ) where
         eight false false false false false false false true cs = refl
         eight false false false false false false false false cs = refl
 
-    pub modify_fields : modify_bad r ≡ true → Ran l (some (Command.modify_qp r)) (Refused 4) l
+    pub modify_fields : modify_bad r ≡ true → Ran l (some (Command.modify_qp r)) (Err BadField) l
     modify_fields e = ran_refused l (Command.modify_qp r) 4 (modify_tests ∙ rw e)
 
     module _ (good : modify_bad r ≡ false) where
-      pub modify_dead : ((card l).qp q).live ≡ false → Ran l (some (Command.modify_qp r)) (Refused 2) l
+      pub modify_dead : ((card l).qp q).live ≡ false → Ran l (some (Command.modify_qp r)) (Err NotLive) l
       modify_dead e = ran_refused l (Command.modify_qp r) 2 (modify_tests ∙ rw (good, e))
 
       module _ (live : ((card l).qp q).live ≡ true) where
@@ -152,10 +153,10 @@ module _ (l : List ℕ) where
         unfolding pair_at
         state_is = ap (λ (x : Qp). x.state) (qp_row l q (qp_below l q live) (qp_flag l q live))
 
-        pub modify_stays : is_move (row_at qp_t l q).state r.state ≡ false → Ran l (some (Command.modify_qp r)) (Refused 3) l
+        pub modify_stays : is_move (row_at qp_t l q).state r.state ≡ false → Ran l (some (Command.modify_qp r)) (Err WrongState) l
         modify_stays e = ran_refused l (Command.modify_qp r) 3 (modify_tests ∙ rw (good, live, state_is, e))
 
         pub modify_done : is_move (row_at qp_t l q).state r.state ≡ true → (l' : List ℕ) → l' ≡ command_bytes l (Command.modify_qp r)
-            → Ran l (some (Command.modify_qp r)) (Done ack.Done) l'
+            → Ran l (some (Command.modify_qp r)) (Ok ack.Done) l'
         unfolding command_ack
-        modify_done e l' s = ran_done l (Command.modify_qp r) (modify_tests ∙ rw (good, live, state_is, e)) (Done ack.Done) l' refl s
+        modify_done e l' s = ran_done l (Command.modify_qp r) (modify_tests ∙ rw (good, live, state_is, e)) (Ok ack.Done) l' refl s

@@ -1,42 +1,29 @@
 -- Document 01, "Control commands", over the lent state: what the functions that run a command owe. The rules are rules/specs/Control.antt.
 -- Assumes nothing.
-use Rattle.std.specs.Prelude.{◌≡◌, Bool, true, false, cond, not, ◌&&◌, ◌||◌, List, [], ◌∷◌, ◌++◌, ℕ, ◌+◌, eqb, leb, length}
+use Rattle.std.specs.Prelude.{◌≡◌, Bool, true, false, cond, not, ◌&&◌, ◌||◌, List, [], ◌∷◌, ◌++◌, ℕ, ◌+◌, eqb, leb, length, Result, Ok, Err, Some, None}
+use Rattle.std.specs.Prelude.{Option as Read}
 use Rattle.std.proofs.Math.Option.{Option, none, some}
 use Rattle.wire.specs.Checks.{Check, ◌if◌, refusal, has, only}
 use Rattle.tables.specs.Card.{cq_live, Card}
 use Rattle.tables.specs.State.{card}
 use Rattle.tables.specs.Limits.{qp_count, most_address, most_access}
 use Rattle.tables.specs.Commands.{head_checks, Command, data_size, command_of}
+use Rattle.tables.specs.Refusal.{result_by}
 use Rattle.tables.specs.declared.Ack.{Ack}
 use Rattle.tables.specs.declared.Ack.TheVariants as ack
 use Rattle.tables.specs.declared.CreateQp.{CreateQp}
-use Rattle.tables.specs.declared.CreateQpRead.{CreateQpRead}
-use Rattle.tables.specs.declared.CreateQpRead.TheVariants as create
 use Rattle.tables.specs.declared.ModifyQp.{ModifyQp}
-use Rattle.tables.specs.declared.ModifyQpRead.{ModifyQpRead}
-use Rattle.tables.specs.declared.ModifyQpRead.TheVariants as modify
-use Rattle.tables.specs.declared.NumberRead.{NumberRead}
-use Rattle.tables.specs.declared.NumberRead.TheVariants as number
-use Rattle.tables.specs.declared.RegisterRead.{RegisterRead}
-use Rattle.tables.specs.declared.RegisterRead.TheVariants as register
 use Rattle.tables.specs.declared.Registration.{Registration}
+use Rattle.tables.specs.declared.refusal.Refusal.{Refusal}
 use Rattle.validate.specs.Accept.{is_state}
 use Rattle.validate.specs.Search.{pd_in_use, cq_in_use}
 use Rattle.rules.specs.Bytes.{command_bytes}
 use Rattle.rules.specs.Control.{command_checks, command_ack, state_bit, rights_bit, dest_bit}
 use Rattle.rules.specs.Lists.{is_some, maybe}
-use Rattle.rules.specs.declared.Answer.{Answer}
-use Rattle.rules.specs.declared.Answer.TheVariants as answer
 use Rattle.commands.specs.declared.Kind.{Kind}
 use Rattle.commands.specs.declared.Kind.TheVariants.{Pd, Cq, Mr, Qp}
-use Rattle.commands.specs.declared.Outcome.{Outcome}
-use Rattle.commands.specs.declared.Outcome.TheVariants.{Refused, Done}
 
 -- ---- outcomes
-
-abbrev pub outcome_by : (refused : Option ℕ) (said : Ack) → Outcome
-outcome_by none a = Done a
-outcome_by (some n) a = Refused n
 
 -- "Any answer but 0 leaves memory, tables and lent bytes unchanged"
 abbrev pub left_by : (refused : Option ℕ) (before after : List ℕ) → List ℕ
@@ -44,23 +31,19 @@ left_by none l l' = l'
 left_by (some n) l l' = l
 
 -- "ack 0 is OK, 1 is error"
-abbrev pub outcome_ack : Outcome → Ack
-outcome_ack (Refused n) = ack.Error
-outcome_ack (Done a) = a
-
-abbrev pub outcome_answer : Outcome → Answer
-outcome_answer (Refused n) = answer.Refused n
-outcome_answer (Done a) = answer.Done 0
+abbrev pub outcome_ack : Result Ack Refusal → Ack
+outcome_ack (Err r) = ack.Error
+outcome_ack (Ok a) = a
 
 -- ---- what a function owes that runs a command on the state l after these tests: its outcome r, done with what the ack says, and the state's
 -- bytes l', those after the command where it is done
 
-pub record Ends (tests : List Check) (said : Ack) (l after : List ℕ) (r : Outcome) (l' : List ℕ) : Type 0 where
-  pub outcome : r ≡ outcome_by (refusal tests) said
+pub record Ends (tests : List Check) (said : Ack) (l after : List ℕ) (r : Result Ack Refusal) (l' : List ℕ) : Type 0 where
+  pub outcome : r ≡ result_by (refusal tests) said
   pub bytes : l' ≡ left_by (refusal tests) l after
 
 -- the command o
-abbrev pub Runs : (tests : List Check) → (l : List ℕ) → Option Command → Outcome → (l' : List ℕ) → Type 0
+abbrev pub Runs : (tests : List Check) → (l : List ℕ) → Option Command → Result Ack Refusal → (l' : List ℕ) → Type 0
 Runs tests l o r l' = Ends tests (maybe ack.Done (command_ack (card l)) o) l (maybe l (command_bytes l) o) r l'
 
 -- "Check order: .. data length 1; then 4, 2, 11, 3, 10, 8": a command whose data has not its length is none
@@ -68,7 +51,7 @@ abbrev pub data_checks : Card → Option Command → List Check
 data_checks c none = 1 if true ∷ []
 data_checks c (some q) = command_checks c q
 
-abbrev pub Ran : (l : List ℕ) → Option Command → Outcome → (l' : List ℕ) → Type 0
+abbrev pub Ran : (l : List ℕ) → Option Command → Result Ack Refusal → (l' : List ℕ) → Type 0
 Ran l o r l' = Runs (data_checks (card l) o) l o r l'
 
 -- "13; data length 1; ..": the tests from the command number on
@@ -83,29 +66,17 @@ abbrev pub class_checks : Card → List ℕ → List Check
 class_checks c k = head_checks k ++ number_checks c k
 
 -- the command that the bytes k are, from its number on, and from its length on
-abbrev pub Chosen : (l k : List ℕ) → Outcome → (l' : List ℕ) → Type 0
+abbrev pub Chosen : (l k : List ℕ) → Result Ack Refusal → (l' : List ℕ) → Type 0
 Chosen l k r l' = Runs (number_checks (card l) k) l (command_of k) r l'
 
-abbrev pub Classed : (l k : List ℕ) → Outcome → (l' : List ℕ) → Type 0
+abbrev pub Classed : (l k : List ℕ) → Result Ack Refusal → (l' : List ℕ) → Type 0
 Classed l k r l' = Runs (class_checks (card l) k) l (command_of k) r l'
 
 -- ---- the command that its data makes; none where the data has not its length
 
-abbrev pub numbered : (ℕ → Command) → NumberRead → Option Command
-numbered f (number.Value n) = some (f n)
-numbered f number.Wrong = none
-
-abbrev pub registering : RegisterRead → Option Command
-registering (register.Value g) = some (Command.register g)
-registering register.Wrong = none
-
-abbrev pub creating : CreateQpRead → Option Command
-creating (create.Value r) = some (Command.create_qp r)
-creating create.Wrong = none
-
-abbrev pub modifying : ModifyQpRead → Option Command
-modifying (modify.Value r) = some (Command.modify_qp r)
-modifying modify.Wrong = none
+abbrev pub read_as : {A : Type 0} → (A → Command) → Read A → Option Command
+read_as f (Some v) = some (f v)
+read_as f None = none
 
 -- "4 create PD | none", and a query: a command without data is two bytes long
 abbrev pub bare : Command → List ℕ → Option Command

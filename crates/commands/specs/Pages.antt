@@ -1,19 +1,19 @@
 -- Document 02, M-105, over the lent state: what the functions that register a region over pages owe. The rules are rules/specs/Pages.antt.
 -- Assumes nothing.
-use Rattle.std.specs.Prelude.{Bool, true, not, ◌&&◌, List, [], ◌∷◌, ◌++◌, ℕ, ◌+◌, eqb, leb, length}
+use Rattle.std.specs.Prelude.{Bool, true, not, ◌&&◌, List, [], ◌∷◌, ◌++◌, ℕ, ◌+◌, eqb, leb, length, Result, Some, None}
+use Rattle.std.specs.Prelude.{Option as Read}
 use Rattle.wire.specs.Checks.{Check, ◌if◌}
 use Rattle.tables.specs.Card.{Card}
 use Rattle.tables.specs.Limits.{most_address, page_size, most_pages}
 use Rattle.tables.specs.State.{card, pages_needed}
-use Rattle.tables.specs.declared.RegisterRead.{RegisterRead}
-use Rattle.tables.specs.declared.RegisterRead.TheVariants as register
+use Rattle.tables.specs.declared.Ack.{Ack}
 use Rattle.tables.specs.declared.Registration.{Registration}
+use Rattle.tables.specs.declared.refusal.Refusal.{Refusal}
 use Rattle.rules.specs.Bytes.{paged_bytes}
 use Rattle.rules.specs.Call.{registration_in}
 use Rattle.rules.specs.Control.{new_keys}
 use Rattle.rules.specs.Pages.{seven_checks, page_list_checks, entries_ok}
 use Rattle.commands.specs.Control.{Ends}
-use Rattle.commands.specs.declared.Outcome.{Outcome}
 
 -- ---- the tests of answer 11 together
 
@@ -29,20 +29,20 @@ in_pages memory g ps =
 -- ---- what a function owes that registers a region over pages: "command 7's record, tests and ack as before"
 
 -- the tests from the record's data on
-abbrev pub list_checks : Card → RegisterRead → (pages : List ℕ) → List Check
-list_checks c (register.Value g) ps = page_list_checks c g ps
-list_checks c register.Wrong ps = 1 if true ∷ []
+abbrev pub list_checks : Card → Read Registration → (pages : List ℕ) → List Check
+list_checks c (Some g) ps = page_list_checks c g ps
+list_checks c None ps = 1 if true ∷ []
 
-abbrev pub list_bytes : List ℕ → RegisterRead → (pages : List ℕ) → List ℕ
-list_bytes l (register.Value g) ps = paged_bytes l g ps
-list_bytes l register.Wrong ps = l
+abbrev pub list_bytes : List ℕ → Read Registration → (pages : List ℕ) → List ℕ
+list_bytes l (Some g) ps = paged_bytes l g ps
+list_bytes l None ps = l
 
-abbrev pub Listed : (l : List ℕ) → RegisterRead → (pages : List ℕ) → Outcome → (l' : List ℕ) → Type 0
+abbrev pub Listed : (l : List ℕ) → Read Registration → (pages : List ℕ) → Result Ack Refusal → (l' : List ℕ) → Type 0
 Listed l x ps r l' = Ends (list_checks (card l) x ps) (new_keys (card l)) l (list_bytes l x ps) r l'
 
 -- the tests from the record's length on
 abbrev pub record_checks : Card → (command pages : List ℕ) → List Check
 record_checks c k ps = seven_checks k ++ page_list_checks c (registration_in k) ps
 
-abbrev pub Recorded : (l command pages : List ℕ) → Outcome → (l' : List ℕ) → Type 0
+abbrev pub Recorded : (l command pages : List ℕ) → Result Ack Refusal → (l' : List ℕ) → Type 0
 Recorded l k ps r l' = Ends (record_checks (card l) k ps) (new_keys (card l)) l (paged_bytes l (registration_in k) ps) r l'

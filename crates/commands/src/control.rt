@@ -12,20 +12,18 @@ ghost use Rattle.rules.specs.Call.{Call};
 ghost use Rattle.rules.specs.Contract.{Owes};
 ghost use Rattle.rules.specs.Control.{new_variant};
 ghost use Rattle.rules.specs.Permit.{key_of};
-ghost use Rattle.commands.specs.Control.{Ran, Chosen, Classed, numbered, registering, bare, in_range, outcome_ack, outcome_answer};
+ghost use Rattle.commands.specs.Control.{Ran, Chosen, Classed, read_as, bare, in_range, outcome_ack};
 
-use crate::{Kind, Outcome, control_qp, destroy, query};
+use crate::{Kind, control_qp, destroy, query};
 use acks::queries;
 use rules::Answer;
 use rules::numbers::{
-    BAD_FIELD, BAD_RANGE, BAD_STATE, CREATE_CQ, CREATE_PD, CREATE_QP, DEREGISTER_MR, DESTROY_CQ,
-    DESTROY_PD, DESTROY_QP, FULL, MODIFY_QP, NOT_LIVE, QUERY_DEVICE, QUERY_PORT, REGISTER_MR,
-    SHORT_BUFFER, UNKNOWN, WRONG_LENGTH,
+    CREATE_CQ, CREATE_PD, CREATE_QP, DEREGISTER_MR, DESTROY_CQ, DESTROY_PD, DESTROY_QP, MODIFY_QP,
+    QUERY_DEVICE, QUERY_PORT, REGISTER_MR,
 };
 use tables::limits::{CQ_COUNT, FLAT, MOST_ADDRESS, MOST_PLACES, MR_COUNT, PD_COUNT};
-use tables::{
-    Ack, HeadRead, NumberRead, QueueHead, Region, RegisterRead, Registration, records, rows,
-};
+use tables::refusal::Refusal;
+use tables::{Ack, QueueHead, Region, Registration, records, rows};
 use validate::{accept, find, regions};
 
 // "The ack buffer has at least 13 bytes".
@@ -57,39 +55,37 @@ fn put_queue(state: &mut [u8], n: usize, places: u8)
     rows::store_cq_flag(state, n, 1);
 }
 
-fn create_cq(state: &mut [u8], read: NumberRead) -> Outcome
+fn create_cq(state: &mut [u8], read: Option<u32>) -> Result<Ack, Refusal>
     requires { length state.old ≡ state_size }
-    ensures { Ran state.old (numbered Command.create_cq read) result state.new }
+    ensures { Ran state.old (read_as Command.create_cq read) result state.new }
 {
-    let NumberRead::Value(places) = read else {
-        return Outcome::Refused(WRONG_LENGTH);
-    };
+    let places = read.ok_or(Refusal::WrongLength)?;
     if !places_fine(places) {
-        return Outcome::Refused(BAD_FIELD);
+        return Err(Refusal::BadField);
     }
     let n = find::free_cqn(state);
     if CQ_COUNT <= n {
-        return Outcome::Refused(FULL);
+        return Err(Refusal::Full);
     }
     put_queue(state, n, places as u8);
-    Outcome::Done(Ack::Number(n as u32))
+    Ok(Ack::Number(n as u32))
 }
 
 // ---- domains
 
-fn create_pd(state: &mut [u8], command: &[u8]) -> Outcome
+fn create_pd(state: &mut [u8], command: &[u8]) -> Result<Ack, Refusal>
     requires { length state.old ≡ state_size }
     ensures { Ran state.old (bare Command.create_pd command.now) result state.new }
 {
     if command.len() != HEAD_SIZE {
-        return Outcome::Refused(WRONG_LENGTH);
+        return Err(Refusal::WrongLength);
     }
     let n = find::free_pdn(state);
     if PD_COUNT <= n {
-        return Outcome::Refused(FULL);
+        return Err(Refusal::Full);
     }
     rows::store_pd_flag(state, n, 1);
-    Outcome::Done(Ack::Number(n as u32))
+    Ok(Ack::Number(n as u32))
 }
 
 // ---- regions
@@ -131,68 +127,63 @@ pub fn put_region(state: &mut [u8], n: usize, g: Registration, kind: u8) -> u8
     variant
 }
 
-fn register(state: &mut [u8], read: RegisterRead) -> Outcome
+fn register(state: &mut [u8], read: Option<Registration>) -> Result<Ack, Refusal>
     requires { length state.old ≡ state_size }
-    ensures { Ran state.old (registering read) result state.new }
+    ensures { Ran state.old (read_as Command.register read) result state.new }
 {
-    let RegisterRead::Value(g) = read else {
-        return Outcome::Refused(WRONG_LENGTH);
-    };
+    let g = read.ok_or(Refusal::WrongLength)?;
     if !regions::access_ok(g.access) {
-        return Outcome::Refused(BAD_FIELD);
+        return Err(Refusal::BadField);
     }
     if !accept::pd_live(state, g.pd) {
-        return Outcome::Refused(NOT_LIVE);
+        return Err(Refusal::NotLive);
     }
     if !in_range(rows::load_memory(state), g) {
-        return Outcome::Refused(BAD_RANGE);
+        return Err(Refusal::BadRange);
     }
     let n = find::free_mrn(state);
     if MR_COUNT <= n {
-        return Outcome::Refused(FULL);
+        return Err(Refusal::Full);
     }
     let variant = put_region(state, n, g, FLAT);
-    Outcome::Done(Ack::Keys(n as u32, key_of(n, variant)))
+    Ok(Ack::Keys(n as u32, key_of(n, variant)))
 }
 
 // ---- any command
 
 // The command number chooses the reader and the rules.
-fn run(state: &mut [u8], command: &[u8], number: u8) -> Outcome
+fn run(state: &mut [u8], command: &[u8], number: u8) -> Result<Ack, Refusal>
     requires { (length state.old ≡ state_size) × (number ≡ le_at 1 command.now 1) }
     ensures { Chosen state.old command.now result state.new }
 {
     match number {
         QUERY_DEVICE => query::query_device(state, command),
         QUERY_PORT => query::query_port(state, command),
-        CREATE_CQ => create_cq(state, records::read_number(command)),
-        DESTROY_CQ => destroy::destroy(state, Kind::Cq, records::read_number(command)),
+        CREATE_CQ => create_cq(state, records::read_data(command)),
+        DESTROY_CQ => destroy::destroy(state, Kind::Cq, records::read_data(command)),
         CREATE_PD => create_pd(state, command),
-        DESTROY_PD => destroy::destroy(state, Kind::Pd, records::read_number(command)),
-        REGISTER_MR => register(state, records::read_register(command)),
-        DEREGISTER_MR => destroy::destroy(state, Kind::Mr, records::read_number(command)),
-        CREATE_QP => control_qp::create_qp(state, records::read_create_qp(command)),
-        MODIFY_QP => control_qp::modify_qp(state, records::read_modify_qp(command)),
-        DESTROY_QP => destroy::destroy(state, Kind::Qp, records::read_number(command)),
-        6 | 11 | 13..=255 => Outcome::Refused(UNKNOWN),
+        DESTROY_PD => destroy::destroy(state, Kind::Pd, records::read_data(command)),
+        REGISTER_MR => register(state, records::read_data(command)),
+        DEREGISTER_MR => destroy::destroy(state, Kind::Mr, records::read_data(command)),
+        CREATE_QP => control_qp::create_qp(state, records::read_data(command)),
+        MODIFY_QP => control_qp::modify_qp(state, records::read_data(command)),
+        DESTROY_QP => destroy::destroy(state, Kind::Qp, records::read_data(command)),
+        6 | 11 | 13..=255 => Err(Refusal::Unknown),
     }
 }
 
-fn dispatch(state: &mut [u8], command: &[u8]) -> Outcome
+fn dispatch(state: &mut [u8], command: &[u8]) -> Result<Ack, Refusal>
     requires { length state.old ≡ state_size }
     ensures { Classed state.old command.now result state.new }
 {
-    match records::read_head(command) {
-        HeadRead::Number(n) => run(state, command, n),
-        HeadRead::Refused(n) => Outcome::Refused(n),
-    }
+    run(state, command, records::read_head(command)?)
 }
 
 // The bytes that the ack buffer must have for a command.
 fn ack_need(command: &[u8]) -> usize
     ensures { result ≡ ack_need command.now }
 {
-    let HeadRead::Number(n) = records::read_head(command) else {
+    let Ok(n) = records::read_head(command) else {
         return ACK_LEAST;
     };
     match n {
@@ -202,22 +193,11 @@ fn ack_need(command: &[u8]) -> usize
     }
 }
 
-pub fn ack_of(o: Outcome) -> Ack
-    ensures { result ≡ outcome_ack o }
+// What the ack says of a command.
+pub fn ack_of(outcome: Result<Ack, Refusal>) -> Ack
+    ensures { result ≡ outcome_ack outcome }
 {
-    match o {
-        Outcome::Refused(_) => Ack::Error,
-        Outcome::Done(a) => a,
-    }
-}
-
-pub fn answer_of(o: Outcome) -> Answer
-    ensures { result ≡ outcome_answer o }
-{
-    match o {
-        Outcome::Refused(n) => Answer::Refused(n),
-        Outcome::Done(_) => Answer::Done(0),
-    }
+    outcome.unwrap_or(Ack::Error)
 }
 
 // A control command: its answer, and what it leaves in the state and in the ack buffer.
@@ -225,12 +205,12 @@ pub fn control(state: &mut [u8], command: &[u8], ack: &mut [u8]) -> Answer
     ensures { Owes state.old (Call.control command.now ack.old) result state.new [] ack.new }
 {
     if !accept::accepted(state) {
-        return Answer::Refused(BAD_STATE);
+        return Answer::from(Refusal::BadState);
     }
     if ack.len() < ack_need(command) {
-        return Answer::Refused(SHORT_BUFFER);
+        return Answer::from(Refusal::ShortBuffer);
     }
-    let o = dispatch(state, command);
-    acks::write_ack(ack, ack_of(o));
-    answer_of(o)
+    let outcome = dispatch(state, command);
+    acks::write_ack(ack, ack_of(outcome));
+    Answer::from(outcome)
 }

@@ -8,13 +8,12 @@ ghost use Rattle.tables.specs.Limits.{qp_count};
 ghost use Rattle.tables.specs.Commands.{Command};
 ghost use Rattle.rules.specs.Bytes.{command_bytes, new_pair, moved_pair, moved_head};
 ghost use Rattle.rules.specs.Control.{is_move, rights_after};
-ghost use Rattle.commands.specs.Control.{Ran, creating, modifying, create_fine, create_live, modify_bad};
+ghost use Rattle.commands.specs.Control.{Ran, read_as, create_fine, create_live, modify_bad};
 
-use crate::Outcome;
 use crate::destroy::qp_live;
-use rules::numbers::{BAD_FIELD, FULL, NOT_LIVE, WRONG_LENGTH, WRONG_STATE};
 use tables::limits::{ERROR, MOST_ACCESS, QP_COUNT, RESET, RTR, RTS};
-use tables::{Ack, CreateQp, CreateQpRead, ModifyQp, ModifyQpRead, QueuePair, WaitingHead, rows};
+use tables::refusal::Refusal;
+use tables::{Ack, CreateQp, ModifyQp, QueuePair, WaitingHead, rows};
 use validate::{accept, find};
 
 // The attribute mask of modify QP: the state, the access flags, and the destination.
@@ -82,25 +81,23 @@ fn put_pair(state: &mut [u8], n: usize, r: CreateQp)
     rows::store_qp_flag(state, n, 1);
 }
 
-pub fn create_qp(state: &mut [u8], read: CreateQpRead) -> Outcome
+pub fn create_qp(state: &mut [u8], read: Option<CreateQp>) -> Result<Ack, Refusal>
     requires { length state.old ≡ state_size }
-    ensures { Ran state.old (creating read) result state.new }
+    ensures { Ran state.old (read_as Command.create_qp read) result state.new }
 {
-    let CreateQpRead::Value(r) = read else {
-        return Outcome::Refused(WRONG_LENGTH);
-    };
+    let r = read.ok_or(Refusal::WrongLength)?;
     if !create_fine(r) {
-        return Outcome::Refused(BAD_FIELD);
+        return Err(Refusal::BadField);
     }
     if !create_live(state, r) {
-        return Outcome::Refused(NOT_LIVE);
+        return Err(Refusal::NotLive);
     }
     let n = find::free_qpn(state);
     if QP_COUNT <= n {
-        return Outcome::Refused(FULL);
+        return Err(Refusal::Full);
     }
     put_pair(state, n, r);
-    Outcome::Done(Ack::Number(n as u32))
+    Ok(Ack::Number(n as u32))
 }
 
 // The tests of answer 4.
@@ -184,23 +181,21 @@ fn move_pair(state: &mut [u8], r: ModifyQp)
     store_heads(state, n, w, s);
 }
 
-pub fn modify_qp(state: &mut [u8], read: ModifyQpRead) -> Outcome
+pub fn modify_qp(state: &mut [u8], read: Option<ModifyQp>) -> Result<Ack, Refusal>
     requires { length state.old ≡ state_size }
-    ensures { Ran state.old (modifying read) result state.new }
+    ensures { Ran state.old (read_as Command.modify_qp read) result state.new }
 {
-    let ModifyQpRead::Value(r) = read else {
-        return Outcome::Refused(WRONG_LENGTH);
-    };
+    let r = read.ok_or(Refusal::WrongLength)?;
     if modify_bad(r) {
-        return Outcome::Refused(BAD_FIELD);
+        return Err(Refusal::BadField);
     }
     if !qp_live(state, r.qpn) {
-        return Outcome::Refused(NOT_LIVE);
+        return Err(Refusal::NotLive);
     }
     let p = rows::load_qp(state, r.qpn as usize);
     if !is_move(p.state, r.state) {
-        return Outcome::Refused(WRONG_STATE);
+        return Err(Refusal::WrongState);
     }
     move_pair(state, r);
-    Outcome::Done(Ack::Done)
+    Ok(Ack::Done)
 }

@@ -3,12 +3,12 @@ ghost use Rattle.std.specs.Prelude.{◌≡◌, true, length};
 ghost use Rattle.tables.specs.State.{card};
 ghost use Rattle.tables.specs.Layout.{state_size};
 ghost use Rattle.rules.specs.Bytes.{command_bytes};
-ghost use Rattle.commands.specs.Control.{Ran, numbered, destroy_of, live_of, used_of};
+ghost use Rattle.commands.specs.Control.{Ran, read_as, destroy_of, live_of, used_of};
 
-use crate::{Kind, Outcome};
-use rules::numbers::{IN_USE, NOT_LIVE, WRONG_LENGTH};
+use crate::Kind;
 use tables::limits::{MR_COUNT, QP_COUNT};
-use tables::{Ack, NumberRead, rows};
+use tables::refusal::Refusal;
+use tables::{Ack, rows};
 use validate::{accept, find};
 
 // Whether region n is live.
@@ -74,19 +74,17 @@ fn clear(state: &mut [u8], kind: Kind, n: u32)
     }
 }
 
-pub fn destroy(state: &mut [u8], kind: Kind, read: NumberRead) -> Outcome
+pub fn destroy(state: &mut [u8], kind: Kind, read: Option<u32>) -> Result<Ack, Refusal>
     requires { length state.old ≡ state_size }
-    ensures { Ran state.old (numbered (destroy_of kind) read) result state.new }
+    ensures { Ran state.old (read_as (destroy_of kind) read) result state.new }
 {
-    let NumberRead::Value(n) = read else {
-        return Outcome::Refused(WRONG_LENGTH);
-    };
+    let n = read.ok_or(Refusal::WrongLength)?;
     if !is_live(state, kind, n) {
-        return Outcome::Refused(NOT_LIVE);
+        return Err(Refusal::NotLive);
     }
     if in_use(state, kind, n) {
-        return Outcome::Refused(IN_USE);
+        return Err(Refusal::InUse);
     }
     clear(state, kind, n);
-    Outcome::Done(Ack::Done)
+    Ok(Ack::Done)
 }

@@ -7,15 +7,6 @@ mod destroy;
 pub mod pages;
 mod query;
 
-use tables::Ack;
-
-// How a command ended: refused with its answer's number, or done with what its ack tells.
-#[derive(Clone, Copy)]
-pub enum Outcome {
-    Refused(u8),
-    Done(Ack),
-}
-
 // The kinds of objects.
 #[derive(Clone, Copy)]
 enum Kind {

@@ -9,15 +9,13 @@ ghost use Rattle.rules.specs.Bytes.{put_pages};
 ghost use Rattle.rules.specs.Pages.{entry_ok, entries_ok};
 ghost use Rattle.commands.specs.Pages.{count_ok, in_pages, Listed, Recorded};
 
+use crate::control;
 use crate::control::ACK_LEAST;
-use crate::{Outcome, control};
 use rules::Answer;
-use rules::numbers::{
-    BAD_FIELD, BAD_RANGE, BAD_STATE, FULL, NOT_LIVE, REGISTER_MR, SHORT_BUFFER, UNKNOWN,
-    WRONG_LENGTH,
-};
+use rules::numbers::REGISTER_MR;
 use tables::limits::{MOST_ADDRESS, MOST_PAGED, MOST_PAGES, MR_COUNT, PAGE_SIZE, PAGED};
-use tables::{Ack, HeadRead, RegisterRead, Registration, records, rows};
+use tables::refusal::Refusal;
+use tables::{Ack, Registration, records, rows};
 use validate::{accept, find, regions};
 
 // ---- the list
@@ -81,45 +79,42 @@ fn put_pages(state: &mut [u8], n: usize, pages: &[u64])
 
 // ---- the registration
 
-fn register_paged(state: &mut [u8], read: RegisterRead, pages: &[u64]) -> Outcome
+fn register_paged(
+    state: &mut [u8],
+    read: Option<Registration>,
+    pages: &[u64],
+) -> Result<Ack, Refusal>
     requires { (accepts state.old ≡ true) × (length state.old ≡ state_size) }
     ensures { Listed state.old read pages.now result state.new }
 {
-    let RegisterRead::Value(g) = read else {
-        return Outcome::Refused(WRONG_LENGTH);
-    };
+    let g = read.ok_or(Refusal::WrongLength)?;
     if !regions::access_ok(g.access) {
-        return Outcome::Refused(BAD_FIELD);
+        return Err(Refusal::BadField);
     }
     if !accept::pd_live(state, g.pd) {
-        return Outcome::Refused(NOT_LIVE);
+        return Err(Refusal::NotLive);
     }
     if !in_pages(rows::load_memory(state), g, pages) {
-        return Outcome::Refused(BAD_RANGE);
+        return Err(Refusal::BadRange);
     }
     let n = find::free_mrn(state);
     if MR_COUNT <= n {
-        return Outcome::Refused(FULL);
+        return Err(Refusal::Full);
     }
     let variant = control::put_region(state, n, g, PAGED);
     put_pages(state, n, pages);
-    Outcome::Done(Ack::Keys(n as u32, control::key_of(n, variant)))
+    Ok(Ack::Keys(n as u32, control::key_of(n, variant)))
 }
 
 // Command 7, and no other.
-fn choose(state: &mut [u8], command: &[u8], pages: &[u64]) -> Outcome
+fn choose(state: &mut [u8], command: &[u8], pages: &[u64]) -> Result<Ack, Refusal>
     requires { (accepts state.old ≡ true) × (length state.old ≡ state_size) }
     ensures { Recorded state.old command.now pages.now result state.new }
 {
-    match records::read_head(command) {
-        HeadRead::Number(n) => {
-            if n != REGISTER_MR {
-                return Outcome::Refused(UNKNOWN);
-            }
-            register_paged(state, records::read_register(command), pages)
-        }
-        HeadRead::Refused(n) => Outcome::Refused(n),
+    if records::read_head(command)? != REGISTER_MR {
+        return Err(Refusal::Unknown);
     }
+    register_paged(state, records::read_data(command), pages)
 }
 
 // A registration over a page list: its answer, and what it leaves in the state and in the ack buffer.
@@ -127,12 +122,12 @@ pub fn register_pages(state: &mut [u8], command: &[u8], pages: &[u64], ack: &mut
     ensures { Owes state.old (Call.register_pages command.now pages.now ack.old) result state.new [] ack.new }
 {
     if !accept::accepted(state) {
-        return Answer::Refused(BAD_STATE);
+        return Answer::from(Refusal::BadState);
     }
     if ack.len() < ACK_LEAST {
-        return Answer::Refused(SHORT_BUFFER);
+        return Answer::from(Refusal::ShortBuffer);
     }
-    let o = choose(state, command, pages);
-    acks::write_ack(ack, control::ack_of(o));
-    control::answer_of(o)
+    let outcome = choose(state, command, pages);
+    acks::write_ack(ack, control::ack_of(outcome));
+    Answer::from(outcome)
 }

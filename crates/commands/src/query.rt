@@ -6,13 +6,12 @@ ghost use Rattle.tables.specs.State.{card};
 ghost use Rattle.rules.specs.Control.{device_of};
 ghost use Rattle.commands.specs.Control.{Ran, bare};
 
-use crate::Outcome;
 use crate::control::HEAD_SIZE;
-use rules::numbers::WRONG_LENGTH;
 use tables::limits::{
     MOST_MESSAGE, MOST_PLACES, MOST_RECEIVE_SGES, MOST_SGES, MOST_WAITING, MR_COUNT, PAGE_SIZE,
     PD_COUNT,
 };
+use tables::refusal::Refusal;
 use tables::{Ack, Device, DeviceCaps, DeviceObjects, DeviceWork, Port, rows};
 
 const VERSION: u32 = 1;
@@ -46,23 +45,23 @@ fn device_of(state: &[u8]) -> Device
     }
 }
 
-pub fn query_device(state: &[u8], command: &[u8]) -> Outcome
+pub fn query_device(state: &[u8], command: &[u8]) -> Result<Ack, Refusal>
     requires { length state.now ≡ state_size }
     ensures { Ran state.now (bare Command.query_device command.now) result state.now }
 {
     if command.len() != HEAD_SIZE {
-        return Outcome::Refused(WRONG_LENGTH);
+        return Err(Refusal::WrongLength);
     }
-    Outcome::Done(Ack::Device(device_of(state)))
+    Ok(Ack::Device(device_of(state)))
 }
 
-pub fn query_port(state: &[u8], command: &[u8]) -> Outcome
+pub fn query_port(state: &[u8], command: &[u8]) -> Result<Ack, Refusal>
     ensures { Ran state.now (bare Command.query_port command.now) result state.now }
 {
     if command.len() != HEAD_SIZE {
-        return Outcome::Refused(WRONG_LENGTH);
+        return Err(Refusal::WrongLength);
     }
-    Outcome::Done(Ack::Port(Port {
+    Ok(Ack::Port(Port {
         gids: 0,
         message: MOST_MESSAGE,
     }))

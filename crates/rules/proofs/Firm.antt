@@ -1,18 +1,21 @@
 -- Tests that hold no call: what they answer is a refusal; those of a send record are such. Assumes nothing.
-use mathlib.Core.Path.{◌≡◌, refl, sym, ap, ◌∙◌}
+use mathlib.Core.Path.{◌≡◌, refl, sym}
 use mathlib.Core.Bool.{Bool, true, false, cond, not, ◌&&◌, true≢false}
 use mathlib.Core.List.{List, [], ◌∷◌}
-use mathlib.Core.Option.{Option, none, some, some-ne-none}
+use mathlib.Core.Option.{some, some-ne-none}
 use Prim.Native.Nat.{ℕ}
-use native.Mathlib.Omega.{arith}
 use lib.Dec.{eqb}
 use Rattle.wire.specs.Checks.{Check, refusal}
 use Rattle.wire.specs.Codec.{decode}
 use Rattle.wire.specs.Scan.{all}
 use Rattle.wire.proofs.ScanLaws.{and_left, and_right}
-use Rattle.tables.specs.Records.{send_codec, send_checks, send_read, send_read_by}
-use Rattle.tables.specs.declared.SendRead.TheVariants as send
-use Rattle.rules.specs.Answer.{answered}
+use Rattle.std.specs.Prelude.{Err}
+use Rattle.tables.specs.Records.{send_codec, send_checks, send_read}
+use Rattle.tables.specs.Refusal.{refusal_number}
+use Rattle.tables.specs.declared.refusal.Refusal.{Refusal}
+use Rattle.tables.specs.declared.refusal.Refusal.TheVariants.{WrongLength, NotLive, WrongState, BadField, OtherMemory, Full, NothingThere, InUse, BadRange, ShortBuffer, Unknown, BadRecord, BadState}
+use Rattle.tables.proofs.RefusalLaws.{result_err}
+use Rattle.rules.specs.Answer.{answered, refused}
 use Rattle.rules.specs.declared.Answer.TheVariants.{Refused}
 
 -- none of the tests holds a call
@@ -37,15 +40,23 @@ firm_refusal (k ∷ cs) f n e = go k.bad e (firm_refusal cs (and_right (not (eqb
     go true e ih = let z : k.no ≡ n = cc in rw (sym z) (and_left (not (eqb k.no 5) && not (eqb k.no 6)) (firm cs) f)
     go false e ih = ih e
 
--- a send record that reads as refused with n is refused with n by its tests, which hold nothing
-pub record_refused : (x : List ℕ) (n : ℕ) → send.Refused n ≡ send_read x → (refusal (send_checks x) ≡ some n) × (answered 0 (some n) ≡ Refused n)
+-- a refusal holds nothing
+pub refused_answer : (s : ℕ) (r : Refusal) → answered s (some (refusal_number r)) ≡ refused r
+refused_answer s WrongLength = refl
+refused_answer s NotLive = refl
+refused_answer s WrongState = refl
+refused_answer s BadField = refl
+refused_answer s OtherMemory = refl
+refused_answer s Full = refl
+refused_answer s NothingThere = refl
+refused_answer s InUse = refl
+refused_answer s BadRange = refl
+refused_answer s ShortBuffer = refl
+refused_answer s Unknown = refl
+refused_answer s BadRecord = refl
+refused_answer s BadState = refl
+
+-- a send record that reads as refused is refused by its tests
+pub record_refused : (x : List ℕ) (r : Refusal) → send_read x ≡ Err r → refusal (send_checks x) ≡ some (refusal_number r)
 unfolding send_read all send_checks
-record_refused x n e = go (refusal (send_checks x)) refl e
-  where
-    go : (o : Option ℕ) → refusal (send_checks x) ≡ o → send.Refused n ≡ send_read_by o (decode send_codec x 0) →
-        (refusal (send_checks x) ≡ some n) × (answered 0 (some n) ≡ Refused n)
-    go none i e = let z : ◌≡◌ {A = ℕ} 0 1 = cc in absurd (omega arith)
-    go (some k) i e =
-        let z : n ≡ k = cc in
-        let j : refusal (send_checks x) ≡ some n = i ∙ ap (λ (y : ℕ). some y) (sym z) in
-        (j, firm_answer n (firm_refusal (send_checks x) refl n j))
+record_refused x r e = result_err (send_checks x) refl (decode send_codec x 0) r e

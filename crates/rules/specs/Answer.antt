@@ -1,6 +1,9 @@
 -- Document 01, "Answer numbers": the number and the status of each answer. Assumes nothing.
-use Rattle.std.specs.Prelude.{Bool, true, false, cond, not, ◌&&◌, ℕ, ◌+◌, ◌*◌, ◌/◌, ◌%◌, eqb, leb}
+use Rattle.std.specs.Prelude.{Result, Ok, Err, Bool, true, false, cond, not, ◌&&◌, ℕ, ◌+◌, ◌*◌, ◌/◌, ◌%◌, eqb, leb}
 use Rattle.std.proofs.Math.Option.{Option, none, some}
+use Rattle.tables.specs.Refusal.{refusal_number}
+use Rattle.tables.specs.declared.Ack.{Ack}
+use Rattle.tables.specs.declared.refusal.Refusal.{Refusal}
 use Rattle.rules.specs.declared.Cause.{Cause}
 use Rattle.rules.specs.declared.Cause.TheVariants.{Peer, Place}
 use Rattle.rules.specs.declared.Answer.{Answer}
@@ -27,6 +30,15 @@ status (Refused n) = 0
 -- the answer in bits 0 to 7, the status in bits 8 to 15
 abbrev pub code_of : Answer → ℕ
 code_of a = number a + 256 * status a
+
+-- the answer that tells a reason
+abbrev pub refused : Refusal → Answer
+refused r = Refused (refusal_number r)
+
+-- and that of a control command
+abbrev pub outcome_answer : Result Ack Refusal → Answer
+outcome_answer (Ok a) = Done 0
+outcome_answer (Err r) = refused r
 
 -- the answer of a call's tests: done with the status where none is met, else held or refused with the number of the first
 abbrev pub answered : (status : ℕ) → Option ℕ → Answer

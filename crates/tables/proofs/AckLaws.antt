@@ -6,6 +6,7 @@ use mathlib.Core.List.{List, [], ◌∷◌}
 use mathlib.Core.Option.{Option, none, some}
 use Prim.Native.Nat.{ℕ, ◌+◌, ◌≤◌, ◌<◌}
 use native.Mathlib.Omega.{arith}
+use Rattle.std.specs.Prelude.{Ok}
 use lib.Dec.{T, leb, eqb}
 use lib.ListN.{length, get_or, take}
 use borrow.Author.Tests.{eq-eqb, ne_eqb, lt-ltb, le-ltb}
@@ -21,8 +22,6 @@ use Rattle.tables.specs.declared.Ack.{Ack}
 use Rattle.tables.specs.declared.Ack.TheVariants.{Error, Done, Number, Keys, Device, Port}
 use Rattle.tables.specs.declared.Device.{Device as DeviceValue}
 use Rattle.tables.specs.declared.Port.{Port as PortValue}
-use Rattle.tables.specs.declared.DeviceRead.TheVariants as device
-use Rattle.tables.specs.declared.PortRead.TheVariants as port
 
 -- ---- values for a part of the fields
 
@@ -152,7 +151,7 @@ byte_done : (l : List ℕ) → 1 ≤ length l → le_at 1 (put_fields ack_fields
 unfolding put_fields
 byte_done l h = le_at_stored 1 l 0 0 (omega arith) (omega arith)
 
-pub device_back : (d : DeviceValue) (l : List ℕ) → 129 ≤ length l → Fits device_codec d → device_read (encode_ack (Device d) l) ≡ device.Value d
+pub device_back : (d : DeviceValue) (l : List ℕ) → 129 ≤ length l → Fits device_codec d → device_read (encode_ack (Device d) l) ≡ Ok d
 unfolding device_read
 device_back d l h f =
     let s : device_codec.size ≡ 128 = device_size in
@@ -160,9 +159,9 @@ device_back d l h f =
     let n : length b ≡ length l = numbered_length (Device d) l in
     let m : length (encode device_codec b 1 d) ≡ length l = encode_length device_codec b 1 d ∙ n in
     rw (query_right device_codec.size (encode device_codec b 1 d) (omega arith) (byte_kept device_codec b d ∙ byte_done l (omega arith)))
-    (ap device.Value (decode_encoded device_codec b 1 d (omega arith) f))
+    (ap Ok (decode_encoded device_codec b 1 d (omega arith) f))
 
-pub port_back : (p : PortValue) (l : List ℕ) → 33 ≤ length l → Fits port_codec p → port_read (encode_ack (Port p) l) ≡ port.Value p
+pub port_back : (p : PortValue) (l : List ℕ) → 33 ≤ length l → Fits port_codec p → port_read (encode_ack (Port p) l) ≡ Ok p
 unfolding port_read
 port_back p l h f =
     let s : port_codec.size ≡ 32 = port_size in
@@ -170,4 +169,4 @@ port_back p l h f =
     let n : length b ≡ length l = numbered_length (Port p) l in
     let m : length (encode port_codec b 1 p) ≡ length l = encode_length port_codec b 1 p ∙ n in
     rw (query_right port_codec.size (encode port_codec b 1 p) (omega arith) (byte_kept port_codec b p ∙ byte_done l (omega arith)))
-    (ap port.Value (decode_encoded port_codec b 1 p (omega arith) f))
+    (ap Ok (decode_encoded port_codec b 1 p (omega arith) f))

@@ -1,3 +1,4 @@
+pub mod RefusalLaws
 pub mod AckLaws
 pub mod ReadingLaws
 pub mod KindLaws

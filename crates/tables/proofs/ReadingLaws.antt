@@ -9,42 +9,44 @@ use native.Mathlib.Nat.{add-zero, add_assoc}
 use native.Mathlib.Omega.{arith}
 use native.Mathlib.Decide.{dec_le}
 use lib.Dec.{eqb, ltb}
+use Rattle.std.specs.Prelude.{Ok, Err}
 use lib.ListN.{length, get_or, get_or-eq_default}
 use borrow.Author.Tests.{eq-eqb, ne_eqb, le-leb, lt-leb, lt-ltb, le-ltb}
 use Rattle.wire.specs.Checks.{◌if◌, refusal, only}
 use Rattle.wire.specs.Codec.{fields_at, put_fields, decode, encode}
 use Rattle.wire.specs.Le.{le_at, put_le}
+use Rattle.wire.specs.Scan.{all}
 use Rattle.wire.proofs.LeLaws.{le_at_below, le_at_split}
 use Rattle.tables.specs.Limits.{most_sges, most_inline, most_receive_sges}
 use Rattle.tables.specs.Layout.{kind_codec}
-use Rattle.tables.specs.Commands.{control_class, head_read, head_read_by}
-use Rattle.tables.specs.Records.{sge_codec, sge_at, no_sge, send_codec, flag_bits, is_inline, inline_length, send_checks, send_read, send_read_by, send_bad, send_size, receive_codec, receive_checks, receive_read}
-use Rattle.tables.specs.declared.HeadRead.TheVariants as head
+use Rattle.tables.specs.Commands.{control_class, head_checks, head_read}
+use Rattle.tables.specs.Records.{sge_codec, sge_at, no_sge, send_codec, flag_bits, is_inline, inline_length, send_checks, send_read, send_bad, send_size, receive_codec, receive_checks, receive_read}
+use Rattle.tables.specs.Refusal.{refusal_number, result_by}
 use Rattle.tables.specs.declared.ReceiveRecord.{ReceiveRecord}
-use Rattle.tables.specs.declared.ReceiveRead.TheVariants as receive
+use Rattle.tables.specs.declared.refusal.Refusal.{Refusal}
+use Rattle.tables.specs.declared.refusal.Refusal.TheVariants.{WrongLength, BadField, Unknown}
+use Rattle.tables.proofs.RefusalLaws.{result_ok, result_err}
 use Rattle.tables.specs.declared.SendRecord.{SendRecord}
-use Rattle.tables.specs.declared.SendRead.TheVariants as send
 use Rattle.tables.specs.declared.Sge.{Sge}
 
 -- ---- the class and the command byte
 
-pub head_short : (k : List ℕ) → length k < 2 → head_read k ≡ head.Refused 1
+pub head_short : (k : List ℕ) → length k < 2 → head_read k ≡ Err WrongLength
 head_short k h = rw (lt-ltb (length k) 2 h)
 
-pub head_class : (k : List ℕ) → 2 ≤ length k → (le_at 1 k 0 ≡ control_class → ⊥) → head_read k ≡ head.Refused 13
+pub head_class : (k : List ℕ) → 2 ≤ length k → (le_at 1 k 0 ≡ control_class → ⊥) → head_read k ≡ Err Unknown
 head_class k h e = rw (le-ltb (length k) 2 h, ne_eqb (le_at 1 k 0) control_class e)
 
-pub head_right : (k : List ℕ) → 2 ≤ length k → le_at 1 k 0 ≡ control_class → head_read k ≡ head.Number (le_at 1 k 1)
+pub head_right : (k : List ℕ) → 2 ≤ length k → le_at 1 k 0 ≡ control_class → head_read k ≡ Ok (le_at 1 k 1)
 head_right k h e = rw (le-ltb (length k) 2 h, eq-eqb (le_at 1 k 0) control_class e)
 
 -- what a head that was read tells
-pub head_number : (o : Option ℕ) (v n : ℕ) → head_read_by o v ≡ head.Number n → (o ≡ none) × (v ≡ n)
-head_number none v n e = (refl, cc)
-head_number (some k) v n e = (cc, cc)
+pub head_number : (k : List ℕ) (n : ℕ) → head_read k ≡ Ok n → (refusal (head_checks k) ≡ none) × (le_at 1 k 1 ≡ n)
+head_number k n e = result_ok (refusal (head_checks k)) (le_at 1 k 1) n e
 
-pub head_refused : (o : Option ℕ) (v n : ℕ) → head_read_by o v ≡ head.Refused n → o ≡ some n
-head_refused none v n e = cc
-head_refused (some k) v n e = let i : k ≡ n = cc in ap some i
+pub head_refused : (k : List ℕ) (r : Refusal) → head_read k ≡ Err r → refusal (head_checks k) ≡ some (refusal_number r)
+unfolding all
+head_refused k r e = result_err (head_checks k) refl (le_at 1 k 1) r e
 
 -- ---- what the record does not have
 
@@ -125,7 +127,7 @@ module _ (x : List ℕ) where
   abbrev s : SendRecord
   s = decode send_codec x 0
 
-  pub send_short : length x < 576 → send.Refused 1 ≡ send_read x
+  pub send_short : length x < 576 → Err WrongLength ≡ send_read x
   unfolding send_read send_checks
   send_short h = rw (lt-ltb (length x) 576 h)
 
@@ -138,17 +140,17 @@ module _ (x : List ℕ) where
       (not (eqb (length x) (send_size s))))
 
   send_rest : 576 ≤ length x
-      → send_read x ≡ send_read_by (refusal (4 if send_bad s ∷ 1 if not (eqb (length x) (send_size s)) ∷ [])) s
+      → send_read x ≡ result_by (refusal (4 if send_bad s ∷ 1 if not (eqb (length x) (send_size s)) ∷ [])) s
   unfolding send_read
-  send_rest h = ap (λ (o : Option ℕ). send_read_by o s) (send_tests h)
+  send_rest h = ap (λ (o : Option ℕ). result_by o s) (send_tests h)
 
-  pub send_refused : 576 ≤ length x → send_bad s ≡ true → send.Refused 4 ≡ send_read x
+  pub send_refused : 576 ≤ length x → send_bad s ≡ true → Err BadField ≡ send_read x
   send_refused h b = rw (send_rest h, b)
 
-  pub send_wrong : 576 ≤ length x → send_bad s ≡ false → (length x ≡ send_size s → ⊥) → send.Refused 1 ≡ send_read x
+  pub send_wrong : 576 ≤ length x → send_bad s ≡ false → (length x ≡ send_size s → ⊥) → Err WrongLength ≡ send_read x
   send_wrong h b e = rw (send_rest h, b, ne_eqb (length x) (send_size s) e)
 
-  pub send_right : 576 ≤ length x → send_bad s ≡ false → length x ≡ send_size s → send.Record s ≡ send_read x
+  pub send_right : 576 ≤ length x → send_bad s ≡ false → length x ≡ send_size s → Ok s ≡ send_read x
   send_right h b e = rw (send_rest h, b, eq-eqb (length x) (send_size s) e)
 
   -- ---- a receive record
@@ -156,23 +158,23 @@ module _ (x : List ℕ) where
   abbrev r : ReceiveRecord
   r = decode receive_codec x 0
 
-  pub receive_short : length x < 24 → receive.Refused 1 ≡ receive_read x
+  pub receive_short : length x < 24 → Err WrongLength ≡ receive_read x
   unfolding receive_read receive_checks
   receive_short h = rw (lt-ltb (length x) 24 h)
 
   -- n is its count
   module _ (n : ℕ) (is : n ≡ r.count) (h : 24 ≤ length x) where
-    pub receive_many : most_receive_sges < n → receive.Refused 4 ≡ receive_read x
+    pub receive_many : most_receive_sges < n → Err BadField ≡ receive_read x
     unfolding receive_read receive_checks
     receive_many b = rw (le-ltb (length x) 24 h, ← is, lt-ltb most_receive_sges n b)
 
     module _ (b : n ≤ most_receive_sges) where
-      pub receive_wrong : (length x ≡ 24 + 16 * n → ⊥) → receive.Refused 1 ≡ receive_read x
+      pub receive_wrong : (length x ≡ 24 + 16 * n → ⊥) → Err WrongLength ≡ receive_read x
       unfolding receive_read receive_checks
       receive_wrong e = rw (le-ltb (length x) 24 h, ← is, le-ltb most_receive_sges n b, ne_eqb (length x) (24 + 16 * n) e)
 
       module _ (e : length x ≡ 24 + 16 * n) where
-        pub receive_right : receive.Record r ≡ receive_read x
+        pub receive_right : Ok r ≡ receive_read x
         unfolding receive_read receive_checks
         receive_right = rw (le-ltb (length x) 24 h, ← is, le-ltb most_receive_sges n b, eq-eqb (length x) (24 + 16 * n) e)
 

@@ -1,27 +1,20 @@
 -- Document 01, "Control commands": "Class byte 6, command byte, data. The ack buffer". Each command's data by its layout, the command that
 -- a record is, and the acks. Laws: proofs/ReadingLaws.antt and
 -- proofs/AckLaws.antt. Assumes nothing.
-use Rattle.std.specs.Prelude.{refl, cond, not, ◌&&◌, List, [], ◌∷◌, ℕ, ◌+◌, eqb, ltb, leb, length, get_or}
+use Rattle.std.specs.Prelude.{refl, cond, not, ◌&&◌, List, [], ◌∷◌, ℕ, ◌+◌, eqb, ltb, leb, length, get_or, Result, Some, None}
+use Rattle.std.specs.Prelude.{Option as Read}
 use Rattle.std.proofs.Math.Option.{Option, none, some}
 use Rattle.wire.specs.Checks.{Check, ◌if◌, refusal}
 use Rattle.wire.specs.Codec.{Codec, Field, field, line, decode, encode, put_fields, within, clear, apart}
 use Rattle.wire.specs.Le.{le_at}
 use Rattle.tables.specs.Queries.{device_codec, port_codec}
+use Rattle.tables.specs.Refusal.{result_by}
 use Rattle.tables.specs.declared.Ack.{Ack}
 use Rattle.tables.specs.declared.Ack.TheVariants.{Error, Done, Number, Keys, Device, Port}
 use Rattle.tables.specs.declared.CreateQp.{CreateQp}
-use Rattle.tables.specs.declared.CreateQpRead.{CreateQpRead}
-use Rattle.tables.specs.declared.CreateQpRead.TheVariants as create
-use Rattle.tables.specs.declared.HeadRead.{HeadRead}
-use Rattle.tables.specs.declared.HeadRead.TheVariants as head
 use Rattle.tables.specs.declared.ModifyQp.{ModifyQp}
-use Rattle.tables.specs.declared.ModifyQpRead.{ModifyQpRead}
-use Rattle.tables.specs.declared.ModifyQpRead.TheVariants as modify
-use Rattle.tables.specs.declared.NumberRead.{NumberRead}
-use Rattle.tables.specs.declared.NumberRead.TheVariants as number
-use Rattle.tables.specs.declared.RegisterRead.{RegisterRead}
-use Rattle.tables.specs.declared.RegisterRead.TheVariants as reg
 use Rattle.tables.specs.declared.Registration.{Registration}
+use Rattle.tables.specs.declared.refusal.Refusal.{Refusal}
 
 abbrev pub control_class : ℕ
 control_class = 6
@@ -171,26 +164,25 @@ command_of k =
 abbrev pub head_checks : List ℕ → List Check
 head_checks k = 1 if ltb (length k) 2 ∷ 13 if not (eqb (le_at 1 k 0) control_class) ∷ []
 
-abbrev pub head_read_by : Option ℕ → ℕ → HeadRead
-head_read_by none n = head.Number n
-head_read_by (some n) v = head.Refused n
-
 -- the class and the command byte
-abbrev pub head_read : List ℕ → HeadRead
-head_read k = head_read_by (refusal (head_checks k)) (le_at 1 k 1)
+abbrev pub head_read : List ℕ → Result ℕ Refusal
+head_read k = result_by (refusal (head_checks k)) (le_at 1 k 1)
 
--- "data length 1": the data is wrong where the command does not have its exact length
-abbrev pub number_read : List ℕ → NumberRead
-number_read k = cond (eqb (length k) (2 + number_codec.size)) (number.Value (decode number_codec k 2)) number.Wrong
+-- "data length 1": the data is none where the command does not have its exact length
+abbrev pub data_read : {A : Type 0} → (whole : ℕ) → (List ℕ → A) → List ℕ → Read A
+data_read n of k = cond (eqb (length k) n) (Some (of k)) None
 
-abbrev pub register_read : List ℕ → RegisterRead
-register_read k = cond (eqb (length k) (2 + register_codec.size)) (reg.Value (decode register_codec k 2)) reg.Wrong
+abbrev pub number_read : List ℕ → Read ℕ
+number_read = data_read (2 + number_codec.size) (λ k. decode number_codec k 2)
 
-abbrev pub create_qp_read : List ℕ → CreateQpRead
-create_qp_read k = cond (eqb (length k) (2 + create_qp_codec.size)) (create.Value (decode create_qp_codec k 2)) create.Wrong
+abbrev pub register_read : List ℕ → Read Registration
+register_read = data_read (2 + register_codec.size) (λ k. decode register_codec k 2)
 
-abbrev pub modify_qp_read : List ℕ → ModifyQpRead
-modify_qp_read k = cond (eqb (length k) (2 + modify_qp_codec.size)) (modify.Value (decode modify_qp_codec k 2)) modify.Wrong
+abbrev pub create_qp_read : List ℕ → Read CreateQp
+create_qp_read = data_read (2 + create_qp_codec.size) (λ k. decode create_qp_codec k 2)
+
+abbrev pub modify_qp_read : List ℕ → Read ModifyQp
+modify_qp_read = data_read (2 + modify_qp_codec.size) (λ k. decode modify_qp_codec k 2)
 
 -- ---- acks
 

@@ -1,4 +1,5 @@
 pub mod Limits
+pub mod Refusal
 pub mod Records
 pub mod Queries
 pub mod Commands

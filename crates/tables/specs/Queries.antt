@@ -1,19 +1,16 @@
 -- Document 02, M-100: "Add commands 0 (query device) and 1 (query port), no data, with 001's acks: 128 bytes and 32 bytes after the ack byte."
 -- Each layout once, for writing and for reading, its offsets counted after the ack byte. Laws: proofs/AckLaws.antt. Assumes nothing.
-use Rattle.std.specs.Prelude.{refl, not, List, [], ◌∷◌, ◌++◌, ℕ, ◌+◌, eqb, ltb, length, get_or}
-use Rattle.std.proofs.Math.Option.{Option, none, some}
+use Rattle.std.specs.Prelude.{refl, not, List, [], ◌∷◌, ◌++◌, ℕ, ◌+◌, eqb, ltb, length, get_or, Result}
 use Rattle.wire.specs.Checks.{Check, ◌if◌, refusal}
 use Rattle.wire.specs.Codec.{Codec, Line, line, decode, within, clear, apart}
 use Rattle.wire.specs.Le.{le_at}
+use Rattle.tables.specs.Refusal.{result_by}
 use Rattle.tables.specs.declared.Device.{Device}
 use Rattle.tables.specs.declared.DeviceCaps.{DeviceCaps}
 use Rattle.tables.specs.declared.DeviceObjects.{DeviceObjects}
-use Rattle.tables.specs.declared.DeviceRead.{DeviceRead}
-use Rattle.tables.specs.declared.DeviceRead.TheVariants as device
 use Rattle.tables.specs.declared.DeviceWork.{DeviceWork}
 use Rattle.tables.specs.declared.Port.{Port}
-use Rattle.tables.specs.declared.PortRead.{PortRead}
-use Rattle.tables.specs.declared.PortRead.TheVariants as port
+use Rattle.tables.specs.declared.refusal.Refusal.{Refusal}
 
 -- ---- query device: 001's struct of 128 bytes, in its order
 
@@ -95,16 +92,8 @@ port_codec = record {
 abbrev pub query_checks : (size : ℕ) → List ℕ → List Check
 query_checks size a = 1 if ltb (length a) (1 + size) ∷ 4 if not (eqb (le_at 1 a 0) 0) ∷ []
 
-abbrev pub device_read_by : Option ℕ → Device → DeviceRead
-device_read_by none d = device.Value d
-device_read_by (some n) d = device.Refused n
+unfoldable pub device_read : List ℕ → Result Device Refusal
+device_read a = result_by (refusal (query_checks device_codec.size a)) (decode device_codec a 1)
 
-unfoldable pub device_read : List ℕ → DeviceRead
-device_read a = device_read_by (refusal (query_checks device_codec.size a)) (decode device_codec a 1)
-
-abbrev pub port_read_by : Option ℕ → Port → PortRead
-port_read_by none p = port.Value p
-port_read_by (some n) p = port.Refused n
-
-unfoldable pub port_read : List ℕ → PortRead
-port_read a = port_read_by (refusal (query_checks port_codec.size a)) (decode port_codec a 1)
+unfoldable pub port_read : List ℕ → Result Port Refusal
+port_read a = result_by (refusal (query_checks port_codec.size a)) (decode port_codec a 1)

@@ -1,21 +1,18 @@
 -- The records of document 01, "Posting and delivering", each layout once, for reading and for writing: a line is a number's offset, its
 -- width in bytes, and its name. What no line covers is reserved or padding, and ignored. Laws: proofs/ReadingLaws.antt. Assumes nothing.
-use Rattle.std.specs.Prelude.{refl, Bool, cond, not, ◌&&◌, ◌||◌, List, [], ◌∷◌, ◌++◌, ℕ, ◌+◌, ◌*◌, ◌%◌, eqb, ltb, leb, length, get_or, take, drop}
-use Rattle.std.proofs.Math.Option.{Option, none, some}
+use Rattle.std.specs.Prelude.{refl, Bool, cond, not, ◌&&◌, ◌||◌, List, [], ◌∷◌, ◌++◌, ℕ, ◌+◌, ◌*◌, ◌%◌, eqb, ltb, leb, length, get_or, take, drop, Result}
 use Rattle.wire.specs.Checks.{Check, ◌if◌, refusal, has, only}
 use Rattle.wire.specs.Codec.{Codec, Field, Line, field, line, decode, within, clear, apart}
 use Rattle.wire.specs.Le.{le_at}
 use Rattle.wire.specs.Rows.{rows}
 use Rattle.tables.specs.Limits.{most_sges, most_inline, most_receive_sges}
+use Rattle.tables.specs.Refusal.{result_by}
 use Rattle.tables.specs.declared.Completion.{Completion}
 use Rattle.tables.specs.declared.ReceiveRecord.{ReceiveRecord}
-use Rattle.tables.specs.declared.ReceiveRead.{ReceiveRead}
-use Rattle.tables.specs.declared.ReceiveRead.TheVariants as receive
 use Rattle.tables.specs.declared.SendKind.{SendKind}
 use Rattle.tables.specs.declared.SendRecord.{SendRecord}
-use Rattle.tables.specs.declared.SendRead.{SendRead}
-use Rattle.tables.specs.declared.SendRead.TheVariants as send
 use Rattle.tables.specs.declared.Sge.{Sge}
+use Rattle.tables.specs.declared.refusal.Refusal.{Refusal}
 
 -- ---- pieces: scatter/gather entries
 
@@ -107,13 +104,9 @@ send_checks x =
     1 if not (eqb (length x) (cond (is_inline s) 576 (576 + 16 * s.count))) ∷
     []
 
-abbrev pub send_read_by : Option ℕ → SendRecord → SendRead
-send_read_by none s = send.Record s
-send_read_by (some n) s = send.Refused n
-
--- what reading a send record gives: the record, or the refusal's answer
-unfoldable pub send_read : List ℕ → SendRead
-send_read x = send_read_by (refusal (send_checks x)) (decode send_codec x 0)
+-- what reading a send record gives: the record, or the refusal
+unfoldable pub send_read : List ℕ → Result SendRecord Refusal
+send_read x = result_by (refusal (send_checks x)) (decode send_codec x 0)
 
 -- the tests of a record that give answer 4, of its numbers alone: with the inline flag, the inline length is the low 16 bits of count
 abbrev pub send_bad : SendRecord → Bool
@@ -215,12 +208,8 @@ receive_checks x =
     let r : ReceiveRecord = decode receive_codec x 0 in
     1 if ltb (length x) 24 ∷ 4 if ltb most_receive_sges r.count ∷ 1 if not (eqb (length x) (24 + 16 * r.count)) ∷ []
 
-abbrev pub receive_read_by : Option ℕ → ReceiveRecord → ReceiveRead
-receive_read_by none r = receive.Record r
-receive_read_by (some n) r = receive.Refused n
-
-unfoldable pub receive_read : List ℕ → ReceiveRead
-receive_read x = receive_read_by (refusal (receive_checks x)) (decode receive_codec x 0)
+unfoldable pub receive_read : List ℕ → Result ReceiveRecord Refusal
+receive_read x = result_by (refusal (receive_checks x)) (decode receive_codec x 0)
 
 -- a receive's pieces
 unfoldable pub receive_sges : ReceiveRecord → List Sge

@@ -4,6 +4,7 @@
 pub mod limits;
 pub mod queue;
 pub mod records;
+pub mod refusal;
 pub mod reset;
 pub mod rows;
 pub mod sends;
@@ -122,20 +123,6 @@ pub struct SendKind {
     pub count: u16,
 }
 
-// What reading a send record gives: the record, or the answer of the refusal.
-#[derive(Clone, Copy)]
-pub enum SendRead {
-    Record(SendRecord),
-    Refused(u8),
-}
-
-// What reading a receive record gives.
-#[derive(Clone, Copy)]
-pub enum ReceiveRead {
-    Record(ReceiveRecord),
-    Refused(u8),
-}
-
 // The data of command 7, register MR.
 #[derive(Clone, Copy)]
 pub struct Registration {
@@ -167,41 +154,6 @@ pub struct ModifyQp {
     pub pad2: u8,
     pub dest: u32,
     pub flags: u32,
-}
-
-// What a command's class and command byte read as: its number, or the answer that refuses it.
-#[derive(Clone, Copy)]
-pub enum HeadRead {
-    Number(u8),
-    Refused(u8),
-}
-
-// What the data of a command of one number reads as; Wrong where its length is not exact.
-#[derive(Clone, Copy)]
-pub enum NumberRead {
-    Value(u32),
-    Wrong,
-}
-
-// What the data of command 7 reads as; Wrong where its length is not exact.
-#[derive(Clone, Copy)]
-pub enum RegisterRead {
-    Value(Registration),
-    Wrong,
-}
-
-// What the data of command 9 reads as; Wrong where its length is not exact.
-#[derive(Clone, Copy)]
-pub enum CreateQpRead {
-    Value(CreateQp),
-    Wrong,
-}
-
-// What the data of command 10 reads as; Wrong where its length is not exact.
-#[derive(Clone, Copy)]
-pub enum ModifyQpRead {
-    Value(ModifyQp),
-    Wrong,
 }
 
 // The ack of command 0, query device, in 001's order: what the device is, its work requests, and its objects.
@@ -247,19 +199,6 @@ pub struct DeviceObjects {
 pub struct Port {
     pub gids: u32,
     pub message: u32,
-}
-
-// What reading an ack of command 0 or 1 gives: what it reports, or the answer of the refusal.
-#[derive(Clone, Copy)]
-pub enum DeviceRead {
-    Value(Device),
-    Refused(u8),
-}
-
-#[derive(Clone, Copy)]
-pub enum PortRead {
-    Value(Port),
-    Refused(u8),
 }
 
 // What an ack says: error; OK; OK and a number; OK, a region's number, and its key as lkey and as rkey; OK and what a query reports.

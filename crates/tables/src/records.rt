@@ -1,16 +1,14 @@
 // The records, read and written by their layouts: specs/Records.antt and specs/Commands.antt.
-ghost use Rattle.std.specs.Prelude.{◌∷◌, [], ◌≡◌, ◌<◌, ◌≤◌, ◌+◌, ◌^◌, length};
+ghost use Rattle.std.specs.Prelude.{List, ◌∷◌, [], ◌≡◌, ℕ, ◌<◌, ◌≤◌, ◌+◌, ◌^◌, length};
 ghost use Rattle.wire.specs.Codec.{decode, encode, put_fields};
 ghost use Rattle.wire.specs.Rows.{rows};
 ghost use Rattle.tables.specs.Limits.{most_sges};
-ghost use Rattle.tables.specs.Commands.{head_read, number_read, register_read, create_qp_read, modify_qp_read};
+ghost use Rattle.tables.specs.Commands.{number_codec, register_codec, create_qp_codec, modify_qp_codec, data_read, head_read};
 ghost use Rattle.tables.specs.Records.{sge_codec, sge_at, completion_codec, result_fields, receive_read, send_codec, send_read, send_sge, send_bad, send_size, inline_bytes, inline_in};
 
 use crate::limits::{FLAG_BITS, INLINE_FLAG, MOST_INLINE, MOST_RECEIVE_SGES, MOST_SGES, READ};
-use crate::{
-    Completion, CreateQp, CreateQpRead, HeadRead, ModifyQp, ModifyQpRead, NumberRead, ReceiveRead,
-    ReceiveRecord, RegisterRead, Registration, SendRead, SendRecord, Sge,
-};
+use crate::refusal::Refusal;
+use crate::{Completion, CreateQp, ModifyQp, ReceiveRecord, Registration, SendRecord, Sge};
 
 // A send record's bytes before its scatter/gather entries, and where its inline bytes begin.
 const SEND_SIZE: usize = 576;
@@ -68,21 +66,21 @@ fn send_size(s: SendRecord) -> usize
 }
 
 // Reads a send record without its inline bytes and scatter/gather entries.
-pub fn read_send(request: &[u8]) -> SendRead
+pub fn read_send(request: &[u8]) -> Result<SendRecord, Refusal>
     ensures { result ≡ send_read request.now }
 {
     if request.len() < SEND_SIZE {
-        return SendRead::Refused(1);
+        return Err(Refusal::WrongLength);
     }
     let s = send_head(request);
     if send_bad(s) {
-        return SendRead::Refused(4);
+        return Err(Refusal::BadField);
     }
     let size = send_size(s);
     if request.len() != size {
-        return SendRead::Refused(1);
+        return Err(Refusal::WrongLength);
     }
-    SendRead::Record(s)
+    Ok(s)
 }
 
 // The inline bytes, as a part of the caller's record.
@@ -193,24 +191,24 @@ pub fn send_sges(request: &[u8]) -> [Sge; 4]
 }
 
 // Reads a receive record.
-pub fn read_receive(request: &[u8]) -> ReceiveRead
+pub fn read_receive(request: &[u8]) -> Result<ReceiveRecord, Refusal>
     ensures { result ≡ receive_read request.now }
 {
     if request.len() < RECEIVE_HEAD {
-        return ReceiveRead::Refused(1);
+        return Err(Refusal::WrongLength);
     }
     let count = wire::get32(request, 8);
     if MOST_RECEIVE_SGES < count {
-        return ReceiveRead::Refused(4);
+        return Err(Refusal::BadField);
     }
     let size = RECEIVE_HEAD + SGE_SIZE * (count as usize);
     if request.len() != size {
-        return ReceiveRead::Refused(1);
+        return Err(Refusal::WrongLength);
     }
     let wr = wire::get64(request, 0);
     let a = sge_at(request, RECEIVE_HEAD);
     let b = sge_at(request, RECEIVE_HEAD + SGE_SIZE);
-    ReceiveRead::Record(ReceiveRecord {
+    Ok(ReceiveRecord {
         wr,
         count,
         first: a,
@@ -221,72 +219,112 @@ pub fn read_receive(request: &[u8]) -> ReceiveRead
 // ---- control commands: the class byte, the command byte, and the data from byte 2 on
 
 // Reads the class and the command byte.
-pub fn read_head(command: &[u8]) -> HeadRead
+pub fn read_head(command: &[u8]) -> Result<u8, Refusal>
     ensures { result ≡ head_read command.now }
 {
     if command.len() < 2 {
-        return HeadRead::Refused(1);
+        return Err(Refusal::WrongLength);
     }
     if wire::get8(command, 0) != CONTROL_CLASS {
-        return HeadRead::Refused(13);
+        return Err(Refusal::Unknown);
     }
-    HeadRead::Number(wire::get8(command, 1))
+    Ok(wire::get8(command, 1))
 }
 
-// Reads the data of a command of one number.
-pub fn read_number(command: &[u8]) -> NumberRead
-    ensures { result ≡ number_read command.now }
-{
-    if command.len() != 6 {
-        return NumberRead::Wrong;
-    }
-    NumberRead::Value(wire::get32(command, 2))
+// The data of a command, by its layout.
+pub trait CommandData {
+    // The command's whole length.
+    const LENGTH: usize;
+
+    ghost LENGTH: { ℕ };
+
+    ghost data_in: { List ℕ → Self };
+
+    fn read(command: &[u8]) -> Self
+        requires { LENGTH ≤ length command.now }
+        ensures { result ≡ data_in command.now };
 }
 
-pub fn read_register(command: &[u8]) -> RegisterRead
-    ensures { result ≡ register_read command.now }
+// Reads the data of a command; none where the command has not the length.
+pub fn read_data<T: CommandData>(command: &[u8]) -> Option<T>
+    ensures { result ≡ data_read T.LENGTH T.data_in command.now }
 {
-    if command.len() != 34 {
-        return RegisterRead::Wrong;
+    if command.len() != T::LENGTH {
+        return None;
     }
-    RegisterRead::Value(Registration {
-        pd: wire::get32(command, 2),
-        access: wire::get32(command, 6),
-        start: wire::get64(command, 10),
-        length: wire::get64(command, 18),
-        virt: wire::get64(command, 26),
-    })
+    Some(T::read(command))
 }
 
-pub fn read_create_qp(command: &[u8]) -> CreateQpRead
-    ensures { result ≡ create_qp_read command.now }
-{
-    if command.len() != 18 {
-        return CreateQpRead::Wrong;
+// One number.
+#[tactic(auto, unfolding(crate::specs::Commands::number_codec, wire::specs::Codec::fields_at))]
+impl CommandData for u32 {
+    const LENGTH: usize = 6;
+
+    ghost LENGTH = { 6 };
+
+    ghost data_in = { λ k. decode number_codec k 2 };
+
+    fn read(command: &[u8]) -> u32 {
+        wire::get32(command, 2)
     }
-    CreateQpRead::Value(CreateQp {
-        pd: wire::get32(command, 2),
-        kind: wire::get8(command, 6),
-        signal: wire::get8(command, 7),
-        scq: wire::get32(command, 10),
-        rcq: wire::get32(command, 14),
-    })
 }
 
-pub fn read_modify_qp(command: &[u8]) -> ModifyQpRead
-    ensures { result ≡ modify_qp_read command.now }
-{
-    if command.len() != 22 {
-        return ModifyQpRead::Wrong;
+#[tactic(auto, unfolding(crate::specs::Commands::register_codec, wire::specs::Codec::fields_at))]
+impl CommandData for Registration {
+    const LENGTH: usize = 34;
+
+    ghost LENGTH = { 34 };
+
+    ghost data_in = { λ k. decode register_codec k 2 };
+
+    fn read(command: &[u8]) -> Registration {
+        Registration {
+            pd: wire::get32(command, 2),
+            access: wire::get32(command, 6),
+            start: wire::get64(command, 10),
+            length: wire::get64(command, 18),
+            virt: wire::get64(command, 26),
+        }
     }
-    ModifyQpRead::Value(ModifyQp {
-        qpn: wire::get32(command, 2),
-        mask: wire::get32(command, 6),
-        state: wire::get8(command, 10),
-        pad0: wire::get8(command, 11),
-        pad1: wire::get8(command, 12),
-        pad2: wire::get8(command, 13),
-        dest: wire::get32(command, 14),
-        flags: wire::get32(command, 18),
-    })
+}
+
+#[tactic(auto, unfolding(crate::specs::Commands::create_qp_codec, wire::specs::Codec::fields_at))]
+impl CommandData for CreateQp {
+    const LENGTH: usize = 18;
+
+    ghost LENGTH = { 18 };
+
+    ghost data_in = { λ k. decode create_qp_codec k 2 };
+
+    fn read(command: &[u8]) -> CreateQp {
+        CreateQp {
+            pd: wire::get32(command, 2),
+            kind: wire::get8(command, 6),
+            signal: wire::get8(command, 7),
+            scq: wire::get32(command, 10),
+            rcq: wire::get32(command, 14),
+        }
+    }
+}
+
+#[tactic(auto, unfolding(crate::specs::Commands::modify_qp_codec, wire::specs::Codec::fields_at))]
+impl CommandData for ModifyQp {
+    const LENGTH: usize = 22;
+
+    ghost LENGTH = { 22 };
+
+    ghost data_in = { λ k. decode modify_qp_codec k 2 };
+
+    fn read(command: &[u8]) -> ModifyQp {
+        ModifyQp {
+            qpn: wire::get32(command, 2),
+            mask: wire::get32(command, 6),
+            state: wire::get8(command, 10),
+            pad0: wire::get8(command, 11),
+            pad1: wire::get8(command, 12),
+            pad2: wire::get8(command, 13),
+            dest: wire::get32(command, 14),
+            flags: wire::get32(command, 18),
+        }
+    }
 }

@@ -10,15 +10,16 @@ use borrow.Author.Rules.{rules}
 use Rattle.commands.proofs.control.control.Goals as goal
 
 pub returns-then-not-accepted : goal.returns-then-not-accepted
-returns-then-not-accepted c = control_state _ _ _ (fails c.accepted.ensures c.if-not-accepted.true)
+returns-then-not-accepted c = rw c.from.ensures (control_state _ _ _ (fails c.accepted.ensures c.if-not-accepted.true))
 
 pub returns-then-ack-ack_need : goal.returns-then-ack-ack_need
 returns-then-ack-ack_need c =
     let good = c in
-    control_short _ _ _ (passes good.accepted.ensures good.if-not-accepted.false) (rw c.ack_need.ensures at c.if-ack-ack_need.true)
+    rw c.from-then-ack-ack_need.ensures
+    (control_short _ _ _ (passes good.accepted.ensures good.if-not-accepted.false) (rw c.ack_need.ensures at c.if-ack-ack_need.true))
 
-pub dispatch-o-requires : goal.dispatch-o-requires
-dispatch-o-requires c =
+pub dispatch-outcome-requires : goal.dispatch-outcome-requires
+dispatch-outcome-requires c =
     let good = c in
     (accepted _ (passes good.accepted.ensures good.if-not-accepted.false)).sized
 
@@ -30,7 +31,7 @@ write_ack-requires c =
     let k = need.args.command.now in
     let a = length need.args.ack.now in
     let h : ack_need k ≤ a = rw need.ack_need.ensures at room.if-ack-ack_need.false in
-    let s : ack_size (outcome_ack done.dispatch-o.result) ≤ ack_need k = outcome_room _ k done.dispatch-o.result _ done.dispatch-o.ensures in
+    let s : ack_size (outcome_ack done.dispatch-outcome.result) ≤ ack_need k = outcome_room _ k done.dispatch-outcome.result _ done.dispatch-outcome.ensures in
     let m : ack_least ≤ ack_need k = need_least k in
     rw c.ack_of.ensures (search rules, search rules)
 
@@ -40,5 +41,5 @@ returns c =
     let room = done in
     let need = room in
     let good = need in
-    control_done _ _ _ (passes good.accepted.ensures good.if-not-accepted.false) (rw need.ack_need.ensures at room.if-ack-ack_need.false) done.dispatch-o.result _
-    done.dispatch-o.ensures _ c.ack_of.ensures _ c.answer_of.ensures _ c.write_ack.ensures
+    control_done _ _ _ (passes good.accepted.ensures good.if-not-accepted.false) (rw need.ack_need.ensures at room.if-ack-ack_need.false) done.dispatch-outcome.result _
+    done.dispatch-outcome.ensures _ c.ack_of.ensures _ c.from-2.ensures _ c.write_ack.ensures

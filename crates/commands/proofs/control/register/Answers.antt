@@ -1,23 +1,20 @@
-use Rattle.commands.proofs.CaseLaws.{ran_wrong, register_access, register_dead, register_range, register_full, register_done, passes, fails}
+use Rattle.commands.proofs.CaseLaws.{register_access, register_dead, register_range, register_full, register_done, passes, fails}
 use Rattle.commands.proofs.control.register.Goals as goal
 
-pub returns-in_default : goal.returns-in_default
-returns-in_default c = rw c.in_default.is (ran_wrong _)
-
 pub returns-then-not-access_ok : goal.returns-then-not-access_ok
-returns-then-not-access_ok c = rw c.in-Value.is (register_access _ _ (fails c.access_ok.ensures c.if-not-access_ok.true))
+returns-then-not-access_ok c = rw (c.ok_or.ensures.ok_part, c.in_ok-g.was) (register_access _ _ (fails c.access_ok.ensures c.if-not-access_ok.true))
 
 pub returns-then-not-pd_live : goal.returns-then-not-pd_live
 returns-then-not-pd_live c =
     let known = c in
-    rw known.in-Value.is
+    rw (known.ok_or.ensures.ok_part, known.in_ok-g.was)
     (register_dead _ _ (passes known.access_ok.ensures known.if-not-access_ok.false) (fails c.pd_live.ensures c.if-not-pd_live.true))
 
 pub returns-then-not-in_range : goal.returns-then-not-in_range
 returns-then-not-in_range c =
     let live = c in
     let known = live in
-    rw known.in-Value.is
+    rw (known.ok_or.ensures.ok_part, known.in_ok-g.was)
     (register_range _ _ (passes known.access_ok.ensures known.if-not-access_ok.false) (passes live.pd_live.ensures live.if-not-pd_live.false)
     (rw (← c.load_memory.ensures) (fails c.in_range.ensures c.if-not-in_range.true)))
 
@@ -26,7 +23,7 @@ returns-then-n-ge-MR_COUNT c =
     let range = c in
     let live = range in
     let known = live in
-    rw known.in-Value.is
+    rw (known.ok_or.ensures.ok_part, known.in_ok-g.was)
     (register_full _ _ (passes known.access_ok.ensures known.if-not-access_ok.false) (passes live.pd_live.ensures live.if-not-pd_live.false)
     (rw (← range.load_memory.ensures) (passes range.in_range.ensures range.if-not-in_range.false))
     _ c.free_mrn-n.ensures c.if-n-ge-MR_COUNT.true)
@@ -51,7 +48,7 @@ returns c =
     let range = room in
     let live = range in
     let known = live in
-    rw known.in-Value.is
+    rw (known.ok_or.ensures.ok_part, known.in_ok-g.was)
     (register_done _ _ (passes known.access_ok.ensures known.if-not-access_ok.false) (passes live.pd_live.ensures live.if-not-pd_live.false)
     (rw (← range.load_memory.ensures) (passes range.in_range.ensures range.if-not-in_range.false))
     _ room.free_mrn-n.ensures room.if-n-ge-MR_COUNT.false

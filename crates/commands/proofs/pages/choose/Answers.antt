@@ -1,36 +1,30 @@
-use mathlib.Core.Path.{sym, ◌∙◌}
-use Rattle.wire.specs.Checks.{refusal}
-use Rattle.wire.specs.Le.{le_at}
-use Rattle.tables.specs.Commands.{head_checks}
-use Rattle.tables.proofs.ReadingLaws.{head_number, head_refused}
+use mathlib.Core.Path.{◌≡◌, sym, ◌∙◌}
+use borrow.Author.Rules.{rules}
+use Rattle.std.specs.Prelude.{Result, Err}
+use Rattle.tables.specs.declared.Ack.{Ack}
+use Rattle.tables.specs.declared.refusal.Refusal.{Refusal}
+use Rattle.tables.specs.Commands.{register_codec}
+use Rattle.tables.proofs.ReadingLaws.{head_number}
 use Rattle.commands.proofs.PagesCaseLaws.{recorded_stopped, recorded_other, recorded_seven}
 use Rattle.commands.proofs.pages.choose.Goals as goal
 
-pub returns-then-n-ne-REGISTER_MR : goal.returns-then-n-ne-REGISTER_MR
-returns-then-n-ne-REGISTER_MR c =
-    let read = c in
-    let head = read in
-    let s = head in
+pub returns-then-branch-ne-REGISTER_MR : goal.returns-then-branch-ne-REGISTER_MR
+returns-then-branch-ne-REGISTER_MR c =
+    let s = c in
     let k = s.args.command.now in
-    let named = head_number (refusal (head_checks k)) (le_at 1 k 1) _ (sym head.read_head.ensures ∙ read.in-Number.is) in
-    recorded_other s.args.state.now s.args.pages.now k named.0 _ (sym named.1) c.if-n-ne-REGISTER_MR.true
+    let named = head_number k _ (sym s.read_head.ensures ∙ s.in_ok-read_head.was) in
+    recorded_other s.args.state.now s.args.pages.now k named.0 _ (sym named.1) s.if-branch-ne-REGISTER_MR.true
 
-pub returns-else-n-ne-REGISTER_MR : goal.returns-else-n-ne-REGISTER_MR
-returns-else-n-ne-REGISTER_MR c =
-    let run = c in
-    let other = run in
-    let read = other in
-    let head = read in
-    let s = head in
+pub returns : goal.returns
+unfolding register_codec
+returns c =
+    let s = c in
     let k = s.args.command.now in
-    let named = head_number (refusal (head_checks k)) (le_at 1 k 1) _ (sym head.read_head.ensures ∙ read.in-Number.is) in
-    recorded_seven s.args.state.now s.args.pages.now k named.0 _ (sym named.1) other.if-n-ne-REGISTER_MR.false _ run.read_register.ensures _ _
-    run.register_paged.ensures
+    let named = head_number k _ (sym s.read_head.ensures ∙ s.in_ok-read_head.was) in
+    recorded_seven s.args.state.now s.args.pages.now k named.0 _ (sym named.1) s.if-branch-ne-REGISTER_MR.false _ s.read_data.ensures _ _
+    s.register_paged.ensures
 
-pub returns-in-Refused : goal.returns-in-Refused
-returns-in-Refused c =
-    let head = c in
-    let s = head in
-    let k = s.args.command.now in
-    recorded_stopped s.args.state.now s.args.pages.now k _
-    (head_refused (refusal (head_checks k)) (le_at 1 k 1) _ (sym head.read_head.ensures ∙ c.in-Refused.is))
+pub returns-in_err-read_head : goal.returns-in_err-read_head
+returns-in_err-read_head c =
+    let e : ◌≡◌ {A = Result Ack Refusal} c.from_residual.result (Err c.in_err-read_head.field-0.0) = search rules in
+    rw e (recorded_stopped _ c.args.pages.now c.args.command.now _ (sym c.read_head.ensures ∙ c.in_err-read_head.was))

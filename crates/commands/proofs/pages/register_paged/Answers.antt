@@ -1,25 +1,22 @@
 use mathlib.Core.Path.{◌∙◌}
 use Rattle.commands.proofs.CaseLaws.{passes, fails}
-use Rattle.commands.proofs.PagesCaseLaws.{list_fits, listed_wrong, listed_access, listed_dead, listed_range, listed_full, listed_done}
+use Rattle.commands.proofs.PagesCaseLaws.{list_fits, listed_access, listed_dead, listed_range, listed_full, listed_done}
 use Rattle.commands.proofs.pages.register_paged.Goals as goal
 
-pub returns-in_default : goal.returns-in_default
-returns-in_default c = rw c.in_default.is (listed_wrong _ c.args.pages.now)
-
 pub returns-then-not-access_ok : goal.returns-then-not-access_ok
-returns-then-not-access_ok c = rw c.in-Value.is (listed_access _ _ _ (fails c.access_ok.ensures c.if-not-access_ok.true))
+returns-then-not-access_ok c = rw (c.ok_or.ensures.ok_part, c.in_ok-g.was) (listed_access _ _ _ (fails c.access_ok.ensures c.if-not-access_ok.true))
 
 pub returns-then-not-pd_live : goal.returns-then-not-pd_live
 returns-then-not-pd_live c =
     let known = c in
-    rw known.in-Value.is
+    rw (known.ok_or.ensures.ok_part, known.in_ok-g.was)
     (listed_dead _ _ _ (passes known.access_ok.ensures known.if-not-access_ok.false) (fails c.pd_live.ensures c.if-not-pd_live.true))
 
 pub returns-then-not-in_pages : goal.returns-then-not-in_pages
 returns-then-not-in_pages c =
     let live = c in
     let known = live in
-    rw known.in-Value.is
+    rw (known.ok_or.ensures.ok_part, known.in_ok-g.was)
     (listed_range _ _ _ (passes known.access_ok.ensures known.if-not-access_ok.false) (passes live.pd_live.ensures live.if-not-pd_live.false)
     (rw (← c.load_memory.ensures) (fails c.in_pages.ensures c.if-not-in_pages.true)))
 
@@ -28,7 +25,7 @@ returns-then-n-ge-MR_COUNT c =
     let range = c in
     let live = range in
     let known = live in
-    rw known.in-Value.is
+    rw (known.ok_or.ensures.ok_part, known.in_ok-g.was)
     (listed_full _ _ _ (passes known.access_ok.ensures known.if-not-access_ok.false) (passes live.pd_live.ensures live.if-not-pd_live.false)
     (rw (← range.load_memory.ensures) (passes range.in_pages.ensures range.if-not-in_pages.false))
     _ c.free_mrn-n.ensures c.if-n-ge-MR_COUNT.true)
@@ -54,7 +51,7 @@ put_pages-requires c =
     let read = range in
     let s = read in
     let inside = passes range.in_pages.ensures range.if-not-in_pages.false in
-    let fits = list_fits s.args.state.now s.args.pages.now read.in-Value.g s.requires.0 (rw range.load_memory.ensures at inside) in
+    let fits = list_fits s.args.state.now s.args.pages.now read.in_ok-g.g s.requires.0 (rw range.load_memory.ensures at inside) in
     (room.if-n-ge-MR_COUNT.false, put.put_region-variant.auto.state ∙ s.requires.1, fits.0, fits.1)
 
 pub returns : goal.returns
@@ -65,7 +62,7 @@ returns c =
     let range = room in
     let live = range in
     let known = live in
-    rw known.in-Value.is
+    rw (known.ok_or.ensures.ok_part, known.in_ok-g.was)
     (listed_done _ _ _ (passes known.access_ok.ensures known.if-not-access_ok.false) (passes live.pd_live.ensures live.if-not-pd_live.false)
     (rw (← range.load_memory.ensures) (passes range.in_pages.ensures range.if-not-in_pages.false))
     _ room.free_mrn-n.ensures room.if-n-ge-MR_COUNT.false

@@ -8,15 +8,15 @@ use Rattle.commands.proofs.PagesCallLaws.{pages_state, pages_room, pages_short, 
 use Rattle.commands.proofs.pages.register_pages.Goals as goal
 
 pub returns-then-not-accepted : goal.returns-then-not-accepted
-returns-then-not-accepted c = pages_state _ _ _ _ (fails c.accepted.ensures c.if-not-accepted.true)
+returns-then-not-accepted c = rw c.from.ensures (pages_state _ _ _ _ (fails c.accepted.ensures c.if-not-accepted.true))
 
 pub returns-then-ack-lt-ACK_LEAST : goal.returns-then-ack-lt-ACK_LEAST
 returns-then-ack-lt-ACK_LEAST c =
     let good = c in
-    pages_short _ _ _ _ (passes good.accepted.ensures good.if-not-accepted.false) c.if-ack-lt-ACK_LEAST.true
+    rw c.from-then-ack-lt-ACK_LEAST.ensures (pages_short _ _ _ _ (passes good.accepted.ensures good.if-not-accepted.false) c.if-ack-lt-ACK_LEAST.true)
 
-pub choose-o-requires : goal.choose-o-requires
-choose-o-requires c =
+pub choose-outcome-requires : goal.choose-outcome-requires
+choose-outcome-requires c =
     let good = c in
     let ok = passes good.accepted.ensures good.if-not-accepted.false in
     (ok, (accepted _ ok).sized)
@@ -25,7 +25,7 @@ pub write_ack-requires : goal.write_ack-requires
 write_ack-requires c =
     let ran = c in
     let h = ran.if-ack-lt-ACK_LEAST.false in
-    let s : ack_size (outcome_ack ran.choose-o.result) ≤ ack_least = pages_room _ _ _ ran.choose-o.result _ ran.choose-o.ensures in
+    let s : ack_size (outcome_ack ran.choose-outcome.result) ≤ ack_least = pages_room _ _ _ ran.choose-outcome.result _ ran.choose-outcome.ensures in
     rw c.ack_of.ensures (search rules, search rules)
 
 pub returns : goal.returns
@@ -34,5 +34,5 @@ returns c =
     let ran = wrote in
     let room = ran in
     let good = room in
-    pages_done _ _ _ _ (passes good.accepted.ensures good.if-not-accepted.false) room.if-ack-lt-ACK_LEAST.false ran.choose-o.result _
-    ran.choose-o.ensures _ wrote.ack_of.ensures _ c.answer_of.ensures _ wrote.write_ack.ensures
+    pages_done _ _ _ _ (passes good.accepted.ensures good.if-not-accepted.false) room.if-ack-lt-ACK_LEAST.false ran.choose-outcome.result _
+    ran.choose-outcome.ensures _ wrote.ack_of.ensures _ c.from-2.ensures _ wrote.write_ack.ensures

@@ -1,6 +1,6 @@
 use mathlib.Core.Path.{sym, ap, ◌∙◌}
+use Rattle.std.specs.Prelude.{Ok}
 use Rattle.tables.proofs.ReadingLaws.{head_short, head_class, head_right}
-use Rattle.tables.specs.declared.HeadRead.TheVariants as head
 use Rattle.tables.proofs.records.read_head.Goals as goal
 
 pub returns-then-command-lt2 : goal.returns-then-command-lt2
@@ -13,5 +13,5 @@ returns-then-get8-ne-CONTROL_CLASS c =
 pub returns : goal.returns
 returns c =
     let k = c.args.command.now in
-    ap head.Number c.get8-2.ensures
+    ap Ok c.get8-2.ensures
     ∙ sym (head_right k c.if-command-lt2.false (sym c.get8.ensures ∙ c.if-get8-ne-CONTROL_CLASS.false))
