@@ -22,7 +22,7 @@ use Rattle.tables.specs.Reset.{reset_bytes}
 use Rattle.tables.specs.State.{card}
 use Rattle.tables.specs.declared.Ack.TheVariants as ack
 use Rattle.tables.specs.declared.QueueHead.{QueueHead}
-use Rattle.tables.specs.declared.ReceiveRead.TheVariants as read
+use Rattle.std.specs.Prelude.{Ok}
 use Rattle.tables.specs.declared.ReceiveRecord.{ReceiveRecord}
 use Rattle.validate.specs.Accept.{accepts, memory_ok, may_queue}
 use Rattle.rules.specs.Answer.{code_of, is_done}
@@ -140,7 +140,7 @@ module _ (l : List ℕ) where
       r : ReceiveRecord
       r = decode receive_codec x 0
 
-      well : receive_read x ≡ read.Record r
+      well : receive_read x ≡ Ok r
       well = rw (p.1.0, p.1.1.0, p.1.1.1.0)
 
       j : Passed (join_checks (card l) q)
