@@ -22,7 +22,7 @@ use Rattle.tables.specs.Reset.{reset_bytes}
 use Rattle.tables.specs.State.{card}
 use Rattle.tables.specs.declared.Ack.TheVariants as ack
 use Rattle.tables.specs.declared.QueueHead.{QueueHead}
-use Rattle.tables.specs.declared.ReceiveRead.TheVariants as read
+use Rattle.std.specs.Prelude.{Ok}
 use Rattle.tables.specs.declared.ReceiveRecord.{ReceiveRecord}
 use Rattle.validate.specs.Accept.{accepts, memory_ok, may_queue}
 use Rattle.rules.specs.Answer.{code_of, is_done}
@@ -39,7 +39,7 @@ use Rattle.rules.specs.Turn.{enqueue_checks, turn_checks, passed_over, runnable}
 use Rattle.tables.specs.Records.{request_of}
 use Rattle.rules.proofs.Exported.{refused_owes}
 use Rattle.rules.proofs.Tests.{first_of, refusal_append, passed_after}
-use Rattle.commands.specs.Control.{outcome_by, class_checks}
+use Rattle.commands.specs.Control.{class_checks}
 use Rattle.commands.specs.Pages.{record_checks}
 use Rattle.commands.proofs.CallLaws.{control_done}
 use Rattle.commands.proofs.PagesCallLaws.{pages_done}
@@ -88,7 +88,7 @@ module _ (l : List ℕ) where
       let room : ack_need k ≤ length a = ltb-false (length a) (ack_need k) p.1.0 in
       let none-met : refusal (class_checks (card l) k) ≡ none = rw (good, le-ltb (length a) (ack_need k) room) at e in
       outcome _ _ _
-      (control_done l k a good room (outcome_by none (maybe ack.Done (command_ack (card l)) (command_of k))) (maybe l (command_bytes l) (command_of k))
+      (control_done l k a good room (Ok (maybe ack.Done (command_ack (card l)) (command_of k))) (maybe l (command_bytes l) (command_of k))
       (record { outcome = rw none-met; bytes = rw none-met }) _ refl _ refl _ refl)
 
   pages_ends : (k ps a : List ℕ) → refusal (owed_checks card accepts l (Call.register_pages k ps a)) ≡ none → HasOutcome l (Call.register_pages k ps a)
@@ -99,7 +99,7 @@ module _ (l : List ℕ) where
       let room : ack_least ≤ length a = ltb-false (length a) ack_least p.1.0 in
       let none-met : refusal (record_checks (card l) k ps) ≡ none = rw (good, le-ltb (length a) ack_least room) at e in
       outcome _ _ _
-      (pages_done l k ps a good room (outcome_by none (new_keys (card l))) (paged_bytes l (registration_in k) ps)
+      (pages_done l k ps a good room (Ok (new_keys (card l))) (paged_bytes l (registration_in k) ps)
       (record { outcome = rw none-met; bytes = rw none-met }) _ refl _ refl _ refl)
 
   send_ends : (q : ℕ) (x m : List ℕ) → refusal (owed_checks card accepts l (Call.send q x m)) ≡ none → HasOutcome l (Call.send q x m)
@@ -140,7 +140,7 @@ module _ (l : List ℕ) where
       r : ReceiveRecord
       r = decode receive_codec x 0
 
-      well : receive_read x ≡ read.Record r
+      well : receive_read x ≡ Ok r
       well = rw (p.1.0, p.1.1.0, p.1.1.1.0)
 
       j : Passed (join_checks (card l) q)

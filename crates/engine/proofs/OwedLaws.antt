@@ -1,5 +1,5 @@
 -- Post send as a whole: what it owes its reader after each ending of its tests. Assumes nothing.
-use mathlib.Core.Path.{◌≡◌, refl, subst, ◌∙◌}
+use mathlib.Core.Path.{◌≡◌, refl, ◌∙◌}
 use mathlib.Core.Bool.{true, false}
 use mathlib.Core.List.{List, [], ◌++◌}
 use mathlib.Core.Option.{Option, none, some}
@@ -14,8 +14,10 @@ use Rattle.validate.specs.Accept.{accepts}
 use Rattle.validate.proofs.AcceptedLaws.{accepted}
 use Rattle.tables.specs.State.{card}
 use Rattle.tables.specs.Records.{send_codec, send_checks, send_read}
-use Rattle.tables.specs.declared.SendRead.TheVariants as send
-use Rattle.rules.specs.Answer.{answered}
+use Rattle.std.specs.Prelude.{Err}
+use Rattle.tables.specs.Refusal.{refusal_number}
+use Rattle.tables.specs.declared.refusal.Refusal.{Refusal}
+use Rattle.rules.specs.Answer.{answered, refused}
 use Rattle.rules.specs.declared.Answer.{Answer}
 use Rattle.rules.specs.declared.Answer.TheVariants.{Done, Refused}
 use Rattle.rules.specs.Call.{Call}
@@ -23,7 +25,7 @@ use Rattle.rules.specs.Calls.{checks, memory_checks, owed_checks, status_of, eff
 use Rattle.rules.specs.Send.{pair_checks, queue_checks, hold_checks, delivery_checks, send_status, send_memory}
 use Rattle.tables.specs.Records.{Request, request_of}
 use Rattle.rules.proofs.Exported.{refused_owes, done_owes}
-use Rattle.rules.proofs.Firm.{record_refused}
+use Rattle.rules.proofs.Firm.{record_refused, refused_answer}
 use Rattle.rules.proofs.Tests.{first_of, refusal_append, passed_after}
 use Rattle.rules.specs.Bytes.{send_bytes, effect_bytes}
 use Rattle.rules.specs.Contract.{Owes}
@@ -64,11 +66,8 @@ module _ (l : List ℕ) (q : ℕ) (x m : List ℕ) where
       unfolding checks memory_checks
       rest_is = rw (a, eq-eqb (length m) (card l).memory whole) (refusal_append (send_checks x) (delivery_checks (card l) q (request_of x)))
 
-      pub bad_record_lem : (n : ℕ) → send.Refused n ≡ send_read x → Owes l k (Refused n) l m []
-      bad_record_lem n e =
-          let b = record_refused x n e in
-          let j : refusal (send_checks x) ≡ some n = b.0 in
-          subst (λ y. Owes l k y l m []) b.1 (refused_owes l k n (rest_is ∙ rw j))
+      pub bad_record_lem : (r : Refusal) → send_read x ≡ Err r → Owes l k (refused r) l m []
+      bad_record_lem r e = rw (← refused_answer 0 r) (refused_owes l k (refusal_number r) (rest_is ∙ rw (record_refused x r e)))
 
       module _ (good : refusal (send_checks x) ≡ none) (r : Answer) (l' m' : List ℕ) where
         pub ran : Ran delivery_checks l q (request_of x) m r l' m' → Owes l k r l' m' []

@@ -16,10 +16,11 @@ use Rattle.wire.specs.Rows.{rows_from, rows}
 use Rattle.wire.proofs.ScanLaws.{and_off}
 use Rattle.tables.specs.Card.{Card}
 use Rattle.tables.specs.Limits.{most_sges, most_inline}
-use Rattle.tables.specs.Records.{is_signaled, is_inline, inline_length, inline_bytes, inline_in, request_with, send_codec, send_checks, send_sge, send_read, send_read_by}
+use Rattle.tables.specs.Records.{is_signaled, is_inline, inline_length, inline_bytes, inline_in, request_with, send_codec, send_checks, send_sge, send_read}
 use Rattle.tables.specs.State.{card}
 use Rattle.tables.proofs.ReadingLaws.{inline_length_lem}
-use Rattle.tables.specs.declared.SendRead.TheVariants as send
+use Rattle.std.specs.Prelude.{Ok}
+use Rattle.tables.proofs.RefusalLaws.{result_ok}
 use Rattle.tables.specs.declared.SendRecord.{SendRecord}
 use Rattle.tables.specs.declared.Sge.{Sge}
 use Rattle.rules.specs.Bytes.{send_bytes}
@@ -35,13 +36,9 @@ pub record Posted (x : List ℕ) (s : SendRecord) : Type 0 where
   pub good : refusal (send_checks x) ≡ none
 
 -- the record that was read
-pub posted : (x : List ℕ) (s : SendRecord) → send.Record s ≡ send_read x → Posted x s
+pub posted : (x : List ℕ) (s : SendRecord) → send_read x ≡ Ok s → Posted x s
 unfolding send_read
-posted x s i = go (refusal (send_checks x)) refl i
-  where
-    go : (k : Option ℕ) → refusal (send_checks x) ≡ k → send.Record s ≡ send_read_by k (decode send_codec x 0) → Posted x s
-    go none j i = record { head = cc; good = j }
-    go (some n) j i = let z : ◌≡◌ {A = ℕ} 0 1 = cc in absurd (omega arith)
+posted x s e = let r = result_ok (refusal (send_checks x)) (decode send_codec x 0) s e in record { head = sym r.1; good = r.0 }
 
 -- ---- its limits
 

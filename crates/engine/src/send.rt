@@ -15,7 +15,7 @@ use delivery::meet;
 use rules::Answer;
 use rules::numbers::{BAD_STATE, IN_USE, NOT_LIVE, OTHER_MEMORY, WRONG_STATE};
 use tables::limits::{ERROR, QP_COUNT, RTS};
-use tables::{QueuePair, SendRead, SendRecord, Sge, records, rows};
+use tables::{QueuePair, SendRecord, Sge, records, rows};
 use validate::accept;
 
 // 02, M-108: "A direct send answers 10 .. while its QP's queue isn't empty"
@@ -82,11 +82,11 @@ pub fn post_send(state: &mut [u8], memory: &mut [u8], qpn: u32, sent: &[u8]) -> 
         return Answer::Refused(OTHER_MEMORY);
     }
     match records::read_send(sent) {
-        SendRead::Record(s) => {
+        Ok(s) => {
             let sges = records::send_sges(sent);
             let inline = records::inline_bytes(sent);
             direct(state, memory, qpn, s, sges, inline)
         }
-        SendRead::Refused(n) => Answer::Refused(n),
+        Err(reason) => Answer::from(reason),
     }
 }

@@ -1,10 +1,9 @@
 -- The cases of an enqueue. Assumes nothing.
-use mathlib.Core.Path.{◌≡◌, refl, sym, ap, subst, ◌∙◌}
+use mathlib.Core.Path.{◌≡◌, refl, sym, ap, ◌∙◌}
 use mathlib.Core.Bool.{true, false, cond, not}
 use mathlib.Core.List.{List, []}
-use mathlib.Core.Option.{Option, none, some}
+use mathlib.Core.Option.{none, some}
 use Prim.Native.Nat.{ℕ}
-use native.Mathlib.Omega.{arith}
 use lib.ListN.{length}
 use lib.Dec.{leb}
 use borrow.Author.Tests.{eq-eqb, ne_eqb}
@@ -14,9 +13,13 @@ use Rattle.wire.specs.Table.{row_at}
 use Rattle.tables.specs.Layout.{qp_t}
 use Rattle.tables.specs.Limits.{most_queued}
 use Rattle.tables.specs.Queue.{queue_bytes}
-use Rattle.tables.specs.Records.{send_codec, send_checks, send_read, send_read_by}
+use Rattle.tables.specs.Records.{send_codec, send_checks, send_read}
 use Rattle.tables.specs.State.{card}
-use Rattle.tables.specs.declared.SendRead.TheVariants as send
+use Rattle.std.specs.Prelude.{Ok, Err}
+use Rattle.tables.specs.Refusal.{refusal_number}
+use Rattle.tables.specs.declared.refusal.Refusal.{Refusal}
+use Rattle.tables.proofs.RefusalLaws.{result_ok}
+use Rattle.rules.specs.Answer.{refused}
 use Rattle.tables.specs.declared.SendRecord.{SendRecord}
 use Rattle.tables.proofs.QueuedLaws as queued
 use Rattle.validate.specs.Accept.{accepts, may_queue}
@@ -27,23 +30,18 @@ use Rattle.rules.specs.Calls.{owed_checks, checks, memory_checks, status_of, eff
 use Rattle.rules.specs.Contract.{Owes}
 use Rattle.rules.specs.Send.{pair_checks}
 use Rattle.rules.specs.Turn.{enqueue_checks, enqueued}
-use Rattle.rules.specs.declared.Answer.{Answer}
 use Rattle.rules.specs.declared.Answer.TheVariants.{Done, Refused}
 use Rattle.rules.proofs.Exported.{refused_owes, done_owes}
-use Rattle.rules.proofs.Firm.{record_refused}
+use Rattle.rules.proofs.Firm.{record_refused, refused_answer}
 use Rattle.rules.proofs.Tests.{first_of, refusal_append}
 use Rattle.queues.specs.Enqueue.{Sent, Enqueues}
 use Rattle.queues.specs.Live.{LivePair}
 use Rattle.queues.proofs.LiveLaws.{pair_ok_lem, pair_below, pair_flag, pair_state, queue_room}
 
 -- a record that was read passed its own tests
-pub read_sent : (x : List ℕ) (s : SendRecord) → send.Record s ≡ send_read x → Sent x
+pub read_sent : (x : List ℕ) (s : SendRecord) → send_read x ≡ Ok s → Sent x
 unfolding send_read
-read_sent x s i = go (refusal (send_checks x)) refl i
-  where
-    go : (k : Option ℕ) → refusal (send_checks x) ≡ k → send.Record s ≡ send_read_by k (decode send_codec x 0) → Sent x
-    go none j i = j
-    go (some n) j i = let z : ◌≡◌ {A = ℕ} 0 1 = cc in absurd (omega arith)
+read_sent x s e = (result_ok (refusal (send_checks x)) (decode send_codec x 0) s e).0
 
 -- ---- the call
 
@@ -64,10 +62,8 @@ module _ (l : List ℕ) (q : ℕ) (x : List ℕ) where
     unfolding checks memory_checks
     order m whole = rw (ok, eq-eqb (length m) (card l).memory whole) (refusal_append (send_checks x) (enqueue_checks (card l) q))
 
-    pub enqueue_bad : (m : List ℕ) → length m ≡ (card l).memory → (n : ℕ) → send.Refused n ≡ send_read x → Owes l (k m) (Refused n) l m []
-    enqueue_bad m whole n e =
-        let b = record_refused x n e in
-        subst (λ (r : Answer). Owes l (k m) r l m []) b.1 (refused_owes l (k m) n (order m whole ∙ rw b.0))
+    pub enqueue_bad : (m : List ℕ) → length m ≡ (card l).memory → (r : Refusal) → send_read x ≡ Err r → Owes l (k m) (refused r) l m []
+    enqueue_bad m whole r e = rw (← refused_answer 0 r) (refused_owes l (k m) (refusal_number r) (order m whole ∙ rw (record_refused x r e)))
 
     module _ (good : Sent x) where
       joins : (m : List ℕ) → length m ≡ (card l).memory →

@@ -1,12 +1,12 @@
 -- The cases of a post receive. Assumes nothing.
 use mathlib.Core.Path.{◌≡◌, refl, ap, ◌∙◌}
-use mathlib.Core.Bool.{Bool, true, false, cond, not, ◌&&◌, false≢true}
+use mathlib.Core.Bool.{true, false, cond, not, ◌&&◌, false≢true}
 use mathlib.Core.List.{List, [], ◌∷◌}
-use mathlib.Core.Option.{Option, none, some}
-use Prim.Native.Nat.{ℕ, ◌+◌, ◌*◌, ◌^◌, ◌<◌}
+use mathlib.Core.Option.{none, some}
+use Prim.Native.Nat.{ℕ, ◌^◌, ◌<◌}
 use native.Mathlib.Omega.{arith}
 use lib.ListN.{length}
-use lib.Dec.{eqb, ltb, leb}
+use lib.Dec.{eqb, leb}
 use borrow.Author.Tests.{le-leb, ltb-false, eqb-true, ne_eqb}
 use Rattle.wire.specs.Checks.{refusal}
 use Rattle.wire.specs.Codec.{decode, fields_at, Fit, Fits}
@@ -16,13 +16,18 @@ use Rattle.wire.proofs.ScanLaws.{and_left, and_right}
 use Rattle.tables.specs.Card.{Receive, receive_of}
 use Rattle.tables.specs.Limits.{most_waiting, most_receive_sges}
 use Rattle.tables.specs.Queue.{post_bytes}
-use Rattle.tables.specs.Records.{receive_codec, receive_checks, receive_read, receive_read_by}
+use Rattle.tables.specs.Records.{receive_codec, receive_checks, receive_read}
 use Rattle.tables.specs.State.{card}
-use Rattle.tables.specs.declared.ReceiveRead.TheVariants as read
+use Rattle.std.specs.Prelude.{Ok, Err}
+use Rattle.wire.specs.Scan.{all}
+use Rattle.tables.specs.Refusal.{refusal_number}
+use Rattle.tables.specs.declared.refusal.Refusal.{Refusal}
+use Rattle.tables.proofs.RefusalLaws.{result_ok, result_err}
+use Rattle.rules.proofs.Firm.{refused_answer}
+use Rattle.rules.specs.Answer.{refused}
 use Rattle.tables.specs.declared.ReceiveRecord.{ReceiveRecord}
 use Rattle.validate.specs.Accept.{accepts, receive_ok}
 use Rattle.validate.proofs.WaitingLaws.{post_card, post_accepted}
-use Rattle.rules.specs.Answer.{answered}
 use Rattle.rules.specs.Bytes.{effect_bytes, flushed_bytes, receive_bytes}
 use Rattle.rules.specs.Call.{Call}
 use Rattle.rules.specs.Calls.{owed_checks, checks, status_of, effect, memory_after, buffer_after}
@@ -41,18 +46,9 @@ use Rattle.queues.proofs.PutLaws.{put_card, put_accepted}
 
 -- ---- what reading the record gave
 
-read_well : (o : Option ℕ) (r w : ReceiveRecord) → receive_read_by o r ≡ read.Record w → (o ≡ none) × (r ≡ w)
-read_well none r w e = (refl, cc)
-read_well (some n) r w e = (cc, cc)
-
--- a record is refused with 1 or 4, so with no number of a hold
-read_badly : (a b c : Bool) (r : ReceiveRecord) (n : ℕ)
-    → receive_read_by (cond a (some 1) (cond b (some 4) (cond c (some 1) none))) r ≡ read.Refused n
-    → (cond a (some 1) (cond b (some 4) (cond c (some 1) none)) ≡ some n) × (answered 0 (some n) ≡ Refused n)
-read_badly true b c r n e = let z : n ≡ 1 = cc in rw z (refl, refl)
-read_badly false true c r n e = let z : n ≡ 4 = cc in rw z (refl, refl)
-read_badly false false true r n e = let z : n ≡ 1 = cc in rw z (refl, refl)
-read_badly false false false r n e = (cc, cc)
+receive_refused : (r : Refusal) (x : List ℕ) → receive_read x ≡ Err r → refusal (receive_checks x) ≡ some (refusal_number r)
+unfolding all receive_read receive_checks
+receive_refused r x e = result_err (receive_checks x) refl (decode receive_codec x 0) r e
 
 -- a queue on which none waits is not full
 none_full : (ws : List Receive) → is_empty ws ≡ true → leb most_waiting (length ws) ≡ false
@@ -73,18 +69,13 @@ module _ (l : List ℕ) (q : ℕ) (x : List ℕ) where
   pub receive_15 : accepts l ≡ false → Owes l k (Refused 15) l [] []
   receive_15 e = refused_owes l k 15 (order ∙ rw e)
 
-  pub receive_bad : accepts l ≡ true → (n : ℕ) → receive_read x ≡ read.Refused n → Owes l k (Refused n) l [] []
-  unfolding receive_read receive_checks
-  receive_bad ok n e =
-      let r : ReceiveRecord = decode receive_codec x 0 in
-      let b = read_badly (ltb (length x) 24) (ltb most_receive_sges r.count) (not (eqb (length x) (24 + 16 * r.count))) r n e in
-      let f : refusal (receive_checks x) ≡ some n = b.0 in
-      rw (← b.1) (refused_owes l k n (order ∙ rw (ok, f)))
+  pub receive_bad : accepts l ≡ true → (r : Refusal) → receive_read x ≡ Err r → Owes l k (refused r) l [] []
+  receive_bad ok r e = rw (← refused_answer 0 r) (refused_owes l k (refusal_number r) (order ∙ rw (ok, receive_refused r x e)))
 
-  module _ (w : ReceiveRecord) (well : receive_read x ≡ read.Record w) where
+  module _ (w : ReceiveRecord) (well : receive_read x ≡ Ok w) where
     both : (refusal (receive_checks x) ≡ none) × (decode receive_codec x 0 ≡ w)
     unfolding receive_read
-    both = read_well (refusal (receive_checks x)) (decode receive_codec x 0) w well
+    both = result_ok (refusal (receive_checks x)) (decode receive_codec x 0) w well
 
     w_fits : Fits receive_codec w
     unfolding receive_codec fields_at

@@ -17,7 +17,7 @@ use rules::numbers::{
 };
 use rules::{Answer, Cause};
 use tables::limits::{FLUSHED, MOST_MEMORY};
-use tables::{ReceiveRead, ReceiveRecord, queue, records, reset as fresh, rows};
+use tables::{ReceiveRecord, queue, records, reset as fresh, rows};
 use validate::accept;
 
 // ---- reset
@@ -124,8 +124,8 @@ pub fn post_receive(state: &mut [u8], qpn: u32, posted: &[u8]) -> Answer
         return Answer::Refused(BAD_STATE);
     }
     match records::read_receive(posted) {
-        ReceiveRead::Record(w) => post_record(state, qpn, w),
-        ReceiveRead::Refused(n) => Answer::Refused(n),
+        Ok(w) => post_record(state, qpn, w),
+        Err(reason) => Answer::from(reason),
     }
 }
 

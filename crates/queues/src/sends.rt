@@ -9,7 +9,7 @@ ghost use Rattle.queues.specs.Enqueue.{Sent, Enqueues};
 use crate::pair;
 use rules::Answer;
 use rules::numbers::{BAD_STATE, FULL, NOT_LIVE, OTHER_MEMORY, WRONG_STATE};
-use tables::{SendRead, records, rows, sends};
+use tables::{records, rows, sends};
 use validate::accept;
 
 // A record that passed its own tests, on a live queue pair.
@@ -50,7 +50,7 @@ pub fn enqueue(state: &mut [u8], memory: &[u8], qpn: u32, sent: &[u8]) -> Answer
         return Answer::Refused(OTHER_MEMORY);
     }
     match records::read_send(sent) {
-        SendRead::Record(_) => enqueue_record(state, qpn, sent),
-        SendRead::Refused(n) => Answer::Refused(n),
+        Ok(_) => enqueue_record(state, qpn, sent),
+        Err(reason) => Answer::from(reason),
     }
 }

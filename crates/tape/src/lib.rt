@@ -129,8 +129,8 @@ fn put_head(out: &mut [u8], answer: Answer, size: u16)
 {
     out[0] = 0x72;
     out[1] = 0x6B;
-    out[2] = rules::number_of(answer);
-    out[3] = rules::status_of(answer);
+    out[2] = answer.number();
+    out[3] = answer.status();
     out[4] = (size % 256) as u8;
     out[5] = (size / 256) as u8;
 }

@@ -2,4 +2,4 @@ use Rattle.rules.proofs.Exported.{exported}
 use Rattle.engine.proofs.lesungkap_register_pages.Goals as goal
 
 pub returns : goal.returns
-returns c = rw c.code.ensures (exported _ _ _ _ _ _ c.register_pages.ensures)
+returns c = rw c.from.ensures (exported _ _ _ _ _ _ c.register_pages.ensures)

@@ -9,11 +9,11 @@ pub overflow_add-result : goal.overflow_add-result
 overflow_add-result c =
     let b = c in
     let t = c.turn-t.ensures in
-    let e : c.code.result < 65536 =
-    rw (c.code.ensures, t.0.meets.answer) (code_below b.args.state.now b.args.memory.now) in
+    let e : c.from.result < 65536 =
+    rw (c.from.ensures, t.0.meets.answer) (code_below b.args.state.now b.args.memory.now) in
     let q = t.1 in
     omega arith
 
 pub returns : goal.returns
 returns c =
-    rw c.code.ensures (exported_all _ _ _ c.turn-t.ensures.0)
+    rw c.from.ensures (exported_all _ _ _ c.turn-t.ensures.0)

@@ -12,14 +12,15 @@ post_record-requires c =
     let c1 = c in
     sym c1.accepted.ensures ∙ c1.if-not-accepted.false
 
-pub returns-in-Record : goal.returns-in-Record
-returns-in-Record c =
+pub returns-in-Ok : goal.returns-in-Ok
+returns-in-Ok c =
     let c1 = c in
-    c.post_record.ensures _ (sym c1.read_receive.ensures ∙ c1.in-Record.is)
+    c.post_record.ensures _ (sym c1.read_receive.ensures ∙ c1.in-Ok.is)
 
-pub returns-in-Refused : goal.returns-in-Refused
-returns-in-Refused c =
+pub returns-in-Err : goal.returns-in-Err
+returns-in-Err c =
     let c1 = c in
     let a = c1.args in
     let ok = sym c1.accepted.ensures ∙ c1.if-not-accepted.false in
-    receive_bad a.state.now a.qpn a.posted.now ok _ (sym c.read_receive.ensures ∙ c.in-Refused.is)
+    let r = c in
+    rw c.from.ensures (receive_bad a.state.now a.qpn a.posted.now ok _ (sym r.read_receive.ensures ∙ r.in-Err.is))

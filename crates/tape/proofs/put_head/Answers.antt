@@ -17,4 +17,4 @@ pub bounds-out-4 : goal.bounds-out-4
 bounds-out-4 c = simp length-set (omega arith)
 
 pub returns : goal.returns
-returns c = let a = c.args in rw (c.number_of.ensures, c.status_of.ensures) (head_stored a.out.now a.answer a.size (search rules))
+returns c = let a = c.args in rw (c.number.ensures, c.status.ensures) (head_stored a.out.now a.answer a.size (search rules))

@@ -45,7 +45,7 @@ pub inline_bytes-inline-requires : goal.inline_bytes-inline-requires
 inline_bytes-inline-requires c =
     let r = c in
     let x : List ℕ = r.args.sent.now in
-    long_enough x (posted x _ (sym c.in-Record.is ∙ r.read_send.ensures)).good
+    long_enough x (posted x _ (sym r.read_send.ensures ∙ c.in-Ok.is)).good
 
 pub direct-requires : goal.direct-requires
 direct-requires c =
@@ -61,11 +61,11 @@ direct-requires c =
     record {
       ready = record { accepted = y; size = (accepted l y).sized; whole = v ∙ memory_is l };
       bounded = rw c.inline_bytes-inline.ensures
-          (bounded x _ (posted x _ (sym c.in-Record.is ∙ r.read_send.ensures)));
+          (bounded x _ (posted x _ (sym r.read_send.ensures ∙ c.in-Ok.is)));
     }
 
-pub returns-in-Record : goal.returns-in-Record
-returns-in-Record c =
+pub returns-in-Ok : goal.returns-in-Ok
+returns-in-Ok c =
     let k = c in
     let i = k in
     let r = i in
@@ -77,12 +77,12 @@ returns-in-Record c =
     let x : List ℕ = a.sent.now in
     let y : accepts l ≡ true = sym t.accepted.ensures ∙ r.if-not-accepted.false in
     let v : length m ≡ (card l).memory = r.if-memory-load_memory.false ∙ r.load_memory.ensures ∙ sym (memory_is l) in
-    let p = posted x _ (sym i.in-Record.is ∙ r.read_send.ensures) in
+    let p = posted x _ (sym r.read_send.ensures ∙ i.in-Ok.is) in
     ran l a.qpn x m y v p.good _ _ _
     (ran_record delivery_checks delivery_opcode x _ p l a.qpn m _ i.send_sges-sges.ensures _ i.inline_bytes-inline.ensures _ _ _ k.direct.ensures)
 
-pub returns-in-Refused : goal.returns-in-Refused
-returns-in-Refused c =
+pub returns-in-Err : goal.returns-in-Err
+returns-in-Err c =
     let r = c in
     let t = r in
     let b = t in
@@ -92,4 +92,4 @@ returns-in-Refused c =
     let x : List ℕ = a.sent.now in
     let y : accepts l ≡ true = sym t.accepted.ensures ∙ r.if-not-accepted.false in
     let v : length m ≡ (card l).memory = r.if-memory-load_memory.false ∙ r.load_memory.ensures ∙ sym (memory_is l) in
-    bad_record_lem l a.qpn x m y v _ (sym c.in-Refused.is ∙ r.read_send.ensures)
+    rw c.from.ensures (bad_record_lem l a.qpn x m y v _ (sym r.read_send.ensures ∙ r.in-Err.is))

@@ -34,23 +34,23 @@ enqueue_record-requires c =
     let t = r in
     let x : List ℕ = t.args.sent.now in (
       sym t.accepted.ensures ∙ r.if-not-accepted.false,
-      read_sent x _ (sym c.in-Record.is ∙ r.read_send.ensures),
+      read_sent x _ (sym r.read_send.ensures ∙ c.in-Ok.is),
     )
 
-pub returns-in-Record : goal.returns-in-Record
-returns-in-Record c =
+pub returns-in-Ok : goal.returns-in-Ok
+returns-in-Ok c =
     let r = c in
     let a = r.args in
     let l : List ℕ = a.state.now in
     let whole : length a.memory.now ≡ (card l).memory = r.if-memory-load_memory.false ∙ r.load_memory.ensures ∙ sym (memory_is l) in
     c.enqueue_record.ensures a.memory.now whole
 
-pub returns-in-Refused : goal.returns-in-Refused
-returns-in-Refused c =
+pub returns-in-Err : goal.returns-in-Err
+returns-in-Err c =
     let r = c in
     let t = r in
     let a = t.args in
     let l : List ℕ = a.state.now in
     let ok : accepts l ≡ true = sym t.accepted.ensures ∙ r.if-not-accepted.false in
     let whole : length a.memory.now ≡ (card l).memory = r.if-memory-load_memory.false ∙ r.load_memory.ensures ∙ sym (memory_is l) in
-    enqueue_bad l a.qpn a.sent.now ok a.memory.now whole _ (sym c.in-Refused.is ∙ r.read_send.ensures)
+    rw c.from.ensures (enqueue_bad l a.qpn a.sent.now ok a.memory.now whole _ (sym r.read_send.ensures ∙ r.in-Err.is))
