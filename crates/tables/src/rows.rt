@@ -71,14 +71,14 @@ pub fn load_memory(state: &[u8]) -> u64
     requires { length state.now ≡ state_size }
     ensures { result ≡ row_at memory_t state.now 0 }
 {
-    wire::get64(state, MEMORY)
+    wire::get(state, MEMORY)
 }
 
 pub fn store_memory(state: &mut [u8], r: u64)
     requires { length state.old ≡ state_size }
     ensures { state.new ≡ put_row memory_t state.old 0 r }
 {
-    wire::put64(state, MEMORY, r);
+    wire::put(state, MEMORY, r);
 }
 
 // ---- the queue pair that a turn visits first
@@ -87,14 +87,14 @@ pub fn load_turn(state: &[u8]) -> u8
     requires { length state.now ≡ state_size }
     ensures { result ≡ row_at turn_t state.now 0 }
 {
-    wire::get8(state, TURN)
+    wire::get(state, TURN)
 }
 
 pub fn store_turn(state: &mut [u8], r: u8)
     requires { length state.old ≡ state_size }
     ensures { state.new ≡ put_row turn_t state.old 0 r }
 {
-    wire::put8(state, TURN, r);
+    wire::put(state, TURN, r);
 }
 
 // ---- live flags: 1 where the object is live
@@ -103,56 +103,56 @@ pub fn load_pd_flag(state: &[u8], n: usize) -> u8
     requires { (n < pd_count) × (length state.now ≡ state_size) }
     ensures { result ≡ row_at pd_flag_t state.now n }
 {
-    wire::get8(state, PD_FLAGS + n)
+    wire::get(state, PD_FLAGS + n)
 }
 
 pub fn store_pd_flag(state: &mut [u8], n: usize, r: u8)
     requires { (n < pd_count) × (length state.old ≡ state_size) }
     ensures { state.new ≡ put_row pd_flag_t state.old n r }
 {
-    wire::put8(state, PD_FLAGS + n, r);
+    wire::put(state, PD_FLAGS + n, r);
 }
 
 pub fn load_cq_flag(state: &[u8], n: usize) -> u8
     requires { (n < cq_count) × (length state.now ≡ state_size) }
     ensures { result ≡ row_at cq_flag_t state.now n }
 {
-    wire::get8(state, CQ_FLAGS + n)
+    wire::get(state, CQ_FLAGS + n)
 }
 
 pub fn store_cq_flag(state: &mut [u8], n: usize, r: u8)
     requires { (n < cq_count) × (length state.old ≡ state_size) }
     ensures { state.new ≡ put_row cq_flag_t state.old n r }
 {
-    wire::put8(state, CQ_FLAGS + n, r);
+    wire::put(state, CQ_FLAGS + n, r);
 }
 
 pub fn load_mr_flag(state: &[u8], n: usize) -> u8
     requires { (n < mr_count) × (length state.now ≡ state_size) }
     ensures { result ≡ row_at mr_flag_t state.now n }
 {
-    wire::get8(state, MR_FLAGS + n)
+    wire::get(state, MR_FLAGS + n)
 }
 
 pub fn store_mr_flag(state: &mut [u8], n: usize, r: u8)
     requires { (n < mr_count) × (length state.old ≡ state_size) }
     ensures { state.new ≡ put_row mr_flag_t state.old n r }
 {
-    wire::put8(state, MR_FLAGS + n, r);
+    wire::put(state, MR_FLAGS + n, r);
 }
 
 pub fn load_qp_flag(state: &[u8], n: usize) -> u8
     requires { (n < qp_count) × (length state.now ≡ state_size) }
     ensures { result ≡ row_at qp_flag_t state.now n }
 {
-    wire::get8(state, QP_FLAGS + n)
+    wire::get(state, QP_FLAGS + n)
 }
 
 pub fn store_qp_flag(state: &mut [u8], n: usize, r: u8)
     requires { (n < qp_count) × (length state.old ≡ state_size) }
     ensures { state.new ≡ put_row qp_flag_t state.old n r }
 {
-    wire::put8(state, QP_FLAGS + n, r);
+    wire::put(state, QP_FLAGS + n, r);
 }
 
 // ---- completion queues
@@ -161,11 +161,11 @@ pub fn load_cq(state: &[u8], n: usize) -> QueueHead
     requires { (n < cq_count) × (length state.now ≡ state_size) }
     ensures { result ≡ row_at cq_t state.now n }
 {
-    let b = wire::get_bytes4(state, CQS + n * CQ_SIZE);
+    let [places, first, count, _] = wire::get_bytes::<4>(state, CQS + n * CQ_SIZE);
     QueueHead {
-        places: b[0],
-        first: b[1],
-        count: b[2],
+        places,
+        first,
+        count,
     }
 }
 
@@ -173,7 +173,7 @@ pub fn store_cq(state: &mut [u8], n: usize, r: QueueHead)
     requires { (n < cq_count) × (length state.old ≡ state_size) }
     ensures { state.new ≡ put_row cq_t state.old n r }
 {
-    wire::put_bytes4(state, CQS + n * CQ_SIZE, r.places, r.first, r.count, 0);
+    wire::put_bytes(state, CQS + n * CQ_SIZE, [r.places, r.first, r.count, 0]);
 }
 
 // Completion row n: place k of completion queue q is row 16 q + k.
@@ -198,15 +198,15 @@ pub fn load_mr(state: &[u8], n: usize) -> Region
     ensures { result ≡ row_at mr_t state.now n }
 {
     let at = MRS + n * MR_SIZE;
-    let b = wire::get_bytes4(state, at);
+    let [access, variant, pd, kind] = wire::get_bytes::<4>(state, at);
     Region {
-        access: b[0],
-        variant: b[1],
-        pd: b[2],
-        kind: b[3],
-        start: wire::get64(state, at + 8),
-        length: wire::get64(state, at + 16),
-        virt: wire::get64(state, at + 24),
+        access,
+        variant,
+        pd,
+        kind,
+        start: wire::get(state, at + 8),
+        length: wire::get(state, at + 16),
+        virt: wire::get(state, at + 24),
     }
 }
 
@@ -215,10 +215,10 @@ pub fn store_mr(state: &mut [u8], n: usize, r: Region)
     ensures { state.new ≡ put_row mr_t state.old n r }
 {
     let at = MRS + n * MR_SIZE;
-    wire::put_bytes4(state, at, r.access, r.variant, r.pd, r.kind);
-    wire::put64(state, at + 8, r.start);
-    wire::put64(state, at + 16, r.length);
-    wire::put64(state, at + 24, r.virt);
+    wire::put_bytes(state, at, [r.access, r.variant, r.pd, r.kind]);
+    wire::put(state, at + 8, r.start);
+    wire::put(state, at + 16, r.length);
+    wire::put(state, at + 24, r.virt);
 }
 
 // Page number row n: place k of region slot q is row 16 q + k.
@@ -226,14 +226,14 @@ pub fn load_page(state: &[u8], n: usize) -> u16
     requires { (n < page_count) × (length state.now ≡ state_size) }
     ensures { result ≡ row_at page_t state.now n }
 {
-    wire::get16(state, PAGES + n * PAGE_NUMBER)
+    wire::get(state, PAGES + n * PAGE_NUMBER)
 }
 
 pub fn store_page(state: &mut [u8], n: usize, r: u16)
     requires { (n < page_count) × (length state.old ≡ state_size) }
     ensures { state.new ≡ put_row page_t state.old n r }
 {
-    wire::put16(state, PAGES + n * PAGE_NUMBER, r);
+    wire::put(state, PAGES + n * PAGE_NUMBER, r);
 }
 
 // ---- queue pairs
@@ -242,15 +242,18 @@ pub fn load_qp(state: &[u8], n: usize) -> QueuePair
     requires { (n < qp_count) × (length state.now ≡ state_size) }
     ensures { result ≡ row_at qp_t state.now n }
 {
-    let b = wire::get_bytes8(state, QPS + n * QP_SIZE);
+    let [pd, signal, scq, rcq, state, dest, rights, _] = wire::get_bytes::<8>(
+        state,
+        QPS + n * QP_SIZE,
+    );
     QueuePair {
-        pd: b[0],
-        signal: b[1],
-        scq: b[2],
-        rcq: b[3],
-        state: b[4],
-        dest: b[5],
-        rights: b[6],
+        pd,
+        signal,
+        scq,
+        rcq,
+        state,
+        dest,
+        rights,
     }
 }
 
@@ -259,8 +262,10 @@ pub fn store_qp(state: &mut [u8], n: usize, r: QueuePair)
     ensures { state.new ≡ put_row qp_t state.old n r }
 {
     let at = QPS + n * QP_SIZE;
-    wire::put_bytes8(
-        state, at, r.pd, r.signal, r.scq, r.rcq, r.state, r.dest, r.rights, 0,
+    wire::put_bytes(
+        state,
+        at,
+        [r.pd, r.signal, r.scq, r.rcq, r.state, r.dest, r.rights, 0],
     );
 }
 
@@ -269,18 +274,15 @@ pub fn load_waiting(state: &[u8], n: usize) -> WaitingHead
     requires { (n < qp_count) × (length state.now ≡ state_size) }
     ensures { result ≡ row_at waiting_t state.now n }
 {
-    let b = wire::get_bytes2(state, WAITING + n * WAITING_SIZE);
-    WaitingHead {
-        first: b[0],
-        count: b[1],
-    }
+    let [first, count] = wire::get_bytes::<2>(state, WAITING + n * WAITING_SIZE);
+    WaitingHead { first, count }
 }
 
 pub fn store_waiting(state: &mut [u8], n: usize, r: WaitingHead)
     requires { (n < qp_count) × (length state.old ≡ state_size) }
     ensures { state.new ≡ put_row waiting_t state.old n r }
 {
-    wire::put_bytes2(state, WAITING + n * WAITING_SIZE, r.first, r.count);
+    wire::put_bytes(state, WAITING + n * WAITING_SIZE, [r.first, r.count]);
 }
 
 // Receive row n: place k of queue pair q is row 4 q + k.
@@ -290,8 +292,8 @@ pub fn load_receive(state: &[u8], n: usize) -> ReceiveRecord
 {
     let at = RECEIVES + n * RECEIVE_SIZE;
     ReceiveRecord {
-        wr: wire::get64(state, at),
-        count: wire::get32(state, at + 8),
+        wr: wire::get(state, at),
+        count: wire::get(state, at + 8),
         first: records::get_sge(state, at + 24),
         second: records::get_sge(state, at + 40),
     }
@@ -304,8 +306,8 @@ pub fn store_receive(state: &mut [u8], n: usize, r: ReceiveRecord)
     let at = RECEIVES + n * RECEIVE_SIZE;
     let a = r.first;
     let b = r.second;
-    wire::put64(state, at, r.wr);
-    wire::put32(state, at + 8, r.count);
+    wire::put(state, at, r.wr);
+    wire::put(state, at + 8, r.count);
     records::put_sge(state, at + 24, a);
     records::put_sge(state, at + 40, b);
 }
@@ -317,18 +319,15 @@ pub fn load_sends(state: &[u8], n: usize) -> WaitingHead
     requires { (n < qp_count) × (length state.now ≡ state_size) }
     ensures { result ≡ row_at send_head_t state.now n }
 {
-    let b = wire::get_bytes2(state, SENDS + n * WAITING_SIZE);
-    WaitingHead {
-        first: b[0],
-        count: b[1],
-    }
+    let [first, count] = wire::get_bytes::<2>(state, SENDS + n * WAITING_SIZE);
+    WaitingHead { first, count }
 }
 
 pub fn store_sends(state: &mut [u8], n: usize, r: WaitingHead)
     requires { (n < qp_count) × (length state.old ≡ state_size) }
     ensures { state.new ≡ put_row send_head_t state.old n r }
 {
-    wire::put_bytes2(state, SENDS + n * WAITING_SIZE, r.first, r.count);
+    wire::put_bytes(state, SENDS + n * WAITING_SIZE, [r.first, r.count]);
 }
 
 // QueuedSend send n, without its record: place k of queue pair q is row 8 q + k.
@@ -336,7 +335,7 @@ pub fn load_kind(state: &[u8], n: usize) -> SendKind
     requires { (n < queued_count) × (length state.now ≡ state_size) }
     ensures { result ≡ row_at kind_t state.now n }
 {
-    let w = wire::get32(state, KINDS + n * KIND_SIZE);
+    let w = wire::get::<u32>(state, KINDS + n * KIND_SIZE);
     SendKind {
         opcode: (w % 256) as u8,
         flags: (w / 256 % 256) as u8,
@@ -349,9 +348,9 @@ pub fn store_kind(state: &mut [u8], n: usize, r: SendKind)
     ensures { state.new ≡ put_row kind_t state.old n r }
 {
     let at = KINDS + n * KIND_SIZE;
-    wire::put8(state, at, r.opcode);
-    wire::put8(state, at + 1, r.flags);
-    wire::put16(state, at + 2, r.count);
+    wire::put(state, at, r.opcode);
+    wire::put(state, at + 1, r.flags);
+    wire::put(state, at + 2, r.count);
 }
 
 // The bytes of place n, copied out.

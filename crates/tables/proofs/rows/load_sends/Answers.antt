@@ -5,4 +5,4 @@ use Rattle.tables.proofs.rows.load_sends.Goals as goal
 
 pub returns : goal.returns
 unfolding row_at send_head_t waiting_codec place bytes_from
-returns c = rw c.get_bytes2-b.ensures
+returns c = rw c.get_bytes.ensures
