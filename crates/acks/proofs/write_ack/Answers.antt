@@ -29,11 +29,11 @@ returns-in-Done c = c.put-in-Done.ensures ∙ ap (λ (a : Ack). encode_ack a c.a
 
 pub returns-in-Number : goal.returns-in-Number
 unfolding put_fields
-returns-in-Number c = rw c.put-in-Number.ensures at c.put-4.ensures ∙ ap (λ (a : Ack). encode_ack a c.args.ack.now) (sym c.in-Number.is)
+returns-in-Number c = rw c.put-in-Number.ensures at c.put-in-Number-2.ensures ∙ ap (λ (a : Ack). encode_ack a c.args.ack.now) (sym c.in-Number.is)
 
 pub returns-in-Keys : goal.returns-in-Keys
 unfolding put_fields
-returns-in-Keys c = rw (c.put-in-Keys-2.ensures, c.put-in-Keys.ensures, c.put-in-Keys.ensures) at c.put-in-Keys-3.ensures ∙ ap (λ (a : Ack). encode_ack a c.args.ack.now) (sym c.in-Keys.is)
+returns-in-Keys c = rw (c.put-in-Keys-3.ensures, c.put-in-Keys-2.ensures, c.put-in-Keys.ensures) at c.put-in-Keys-4.ensures ∙ ap (λ (a : Ack). encode_ack a c.args.ack.now) (sym c.in-Keys.is)
 
 pub returns-in-Device : goal.returns-in-Device
 unfolding put_fields
