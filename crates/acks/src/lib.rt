@@ -15,27 +15,27 @@ pub fn write_ack(ack: &mut [u8], a: Ack)
 {
     match a {
         Ack::Error => {
-            wire::put8(ack, 0, 1);
+            wire::put::<u8>(ack, 0, 1);
         }
         Ack::Done => {
-            wire::put8(ack, 0, 0);
+            wire::put::<u8>(ack, 0, 0);
         }
         Ack::Number(n) => {
-            wire::put8(ack, 0, 0);
-            wire::put32(ack, 1, n);
+            wire::put::<u8>(ack, 0, 0);
+            wire::put(ack, 1, n);
         }
         Ack::Keys(n, key) => {
-            wire::put8(ack, 0, 0);
-            wire::put32(ack, 1, n);
-            wire::put32(ack, 5, key);
-            wire::put32(ack, 9, key);
+            wire::put::<u8>(ack, 0, 0);
+            wire::put(ack, 1, n);
+            wire::put(ack, 5, key);
+            wire::put(ack, 9, key);
         }
         Ack::Device(d) => {
-            wire::put8(ack, 0, 0);
+            wire::put::<u8>(ack, 0, 0);
             queries::put_device(ack, d);
         }
         Ack::Port(p) => {
-            wire::put8(ack, 0, 0);
+            wire::put::<u8>(ack, 0, 0);
             queries::put_port(ack, p);
         }
     }

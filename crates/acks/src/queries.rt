@@ -17,33 +17,33 @@ fn put_caps(ack: &mut [u8], d: DeviceCaps)
     requires { 129 ≤ length ack.old }
     ensures { ack.new ≡ put_fields (fields_of (caps_lines (λ c. c))) ack.old 1 (values_of (caps_lines (λ c. c)) d) }
 {
-    wire::put64(ack, 1, d.flags);
-    wire::put64(ack, 9, d.region);
-    wire::put64(ack, 17, d.page);
-    wire::put32(ack, 25, d.version);
+    wire::put(ack, 1, d.flags);
+    wire::put(ack, 9, d.region);
+    wire::put(ack, 17, d.page);
+    wire::put(ack, 25, d.version);
 }
 
 fn put_work(ack: &mut [u8], d: DeviceWork)
     requires { 129 ≤ length ack.old }
     ensures { ack.new ≡ put_fields (fields_of (work_lines (λ c. c))) ack.old 1 (values_of (work_lines (λ c. c)) d) }
 {
-    wire::put32(ack, 29, d.requests);
-    wire::put32(ack, 33, d.sends);
-    wire::put32(ack, 37, d.receives);
-    wire::put32(ack, 41, d.reads);
-    wire::put32(ack, 45, d.entries);
+    wire::put(ack, 29, d.requests);
+    wire::put(ack, 33, d.sends);
+    wire::put(ack, 37, d.receives);
+    wire::put(ack, 41, d.reads);
+    wire::put(ack, 45, d.entries);
 }
 
 fn put_objects(ack: &mut [u8], d: DeviceObjects)
     requires { 129 ≤ length ack.old }
     ensures { ack.new ≡ put_fields (fields_of (objects_lines (λ c. c))) ack.old 1 (values_of (objects_lines (λ c. c)) d) }
 {
-    wire::put32(ack, 49, d.regions);
-    wire::put32(ack, 53, d.domains);
-    wire::put32(ack, 57, d.responses);
-    wire::put32(ack, 61, d.initiations);
-    wire::put32(ack, 65, d.handles);
-    wire::put8(ack, 69, d.delay);
+    wire::put(ack, 49, d.regions);
+    wire::put(ack, 53, d.domains);
+    wire::put(ack, 57, d.responses);
+    wire::put(ack, 61, d.initiations);
+    wire::put(ack, 65, d.handles);
+    wire::put(ack, 69, d.delay);
 }
 
 // Writes what the device is behind the ack byte; the rest of its 128 bytes is zero.
@@ -62,8 +62,8 @@ pub fn put_port(ack: &mut [u8], p: Port)
     requires { 33 ≤ length ack.old }
     ensures { ack.new ≡ encode port_codec ack.old 1 p }
 {
-    wire::put32(ack, 1, p.gids);
-    wire::put32(ack, 5, p.message);
+    wire::put(ack, 1, p.gids);
+    wire::put(ack, 5, p.message);
     wire::put_zeros(ack, 9, 24);
 }
 
@@ -74,10 +74,10 @@ fn get_caps(ack: &[u8]) -> DeviceCaps
     ensures { result ≡ (decode device_codec ack.now 1).caps }
 {
     DeviceCaps {
-        flags: wire::get64(ack, 1),
-        region: wire::get64(ack, 9),
-        page: wire::get64(ack, 17),
-        version: wire::get32(ack, 25),
+        flags: wire::get(ack, 1),
+        region: wire::get(ack, 9),
+        page: wire::get(ack, 17),
+        version: wire::get(ack, 25),
     }
 }
 
@@ -86,11 +86,11 @@ fn get_work(ack: &[u8]) -> DeviceWork
     ensures { result ≡ (decode device_codec ack.now 1).work }
 {
     DeviceWork {
-        requests: wire::get32(ack, 29),
-        sends: wire::get32(ack, 33),
-        receives: wire::get32(ack, 37),
-        reads: wire::get32(ack, 41),
-        entries: wire::get32(ack, 45),
+        requests: wire::get(ack, 29),
+        sends: wire::get(ack, 33),
+        receives: wire::get(ack, 37),
+        reads: wire::get(ack, 41),
+        entries: wire::get(ack, 45),
     }
 }
 
@@ -99,12 +99,12 @@ fn get_objects(ack: &[u8]) -> DeviceObjects
     ensures { result ≡ (decode device_codec ack.now 1).objects }
 {
     DeviceObjects {
-        regions: wire::get32(ack, 49),
-        domains: wire::get32(ack, 53),
-        responses: wire::get32(ack, 57),
-        initiations: wire::get32(ack, 61),
-        handles: wire::get32(ack, 65),
-        delay: wire::get8(ack, 69),
+        regions: wire::get(ack, 49),
+        domains: wire::get(ack, 53),
+        responses: wire::get(ack, 57),
+        initiations: wire::get(ack, 61),
+        handles: wire::get(ack, 65),
+        delay: wire::get(ack, 69),
     }
 }
 
@@ -115,7 +115,7 @@ pub fn read_device(ack: &[u8]) -> Result<Device, Refusal>
     if ack.len() < DEVICE_ACK {
         return Err(Refusal::WrongLength);
     }
-    if wire::get8(ack, 0) != 0 {
+    if wire::get::<u8>(ack, 0) != 0 {
         return Err(Refusal::BadField);
     }
     Ok(Device {
@@ -132,11 +132,11 @@ pub fn read_port(ack: &[u8]) -> Result<Port, Refusal>
     if ack.len() < PORT_ACK {
         return Err(Refusal::WrongLength);
     }
-    if wire::get8(ack, 0) != 0 {
+    if wire::get::<u8>(ack, 0) != 0 {
         return Err(Refusal::BadField);
     }
     Ok(Port {
-        gids: wire::get32(ack, 1),
-        message: wire::get32(ack, 5),
+        gids: wire::get(ack, 1),
+        message: wire::get(ack, 5),
     })
 }

@@ -1,5 +1,5 @@
 -- A live flag is one byte of its kind's column, a head two bytes of its queue's. Assumes nothing.
-use Rattle.std.specs.Prelude.{◌≡◌, refl, ℕ, ◌+◌, ◌*◌, ◌≤◌, ◌<◌, List, [], ◌∷◌, slice_index_or, ◌-◌}
+use Rattle.std.specs.Prelude.{◌≡◌, refl, false, ℕ, ◌+◌, ◌*◌, ◌≤◌, ◌<◌, List, [], ◌∷◌, slice_index_or, ◌-◌}
 use native.Mathlib.Omega.{arith}
 use native.Mathlib.Nat.{add-zero, mul-one}
 use Rattle.wire.specs.Le.{le_at, put_le}
@@ -9,6 +9,10 @@ use Rattle.tables.specs.Queue.{drop_bytes, take_bytes, unqueue_bytes}
 use Rattle.wire.specs.Codec.{fields_at, put_fields, bytes_from}
 use Rattle.tables.specs.Limits.{qp_count}
 use Rattle.tables.specs.Layout.{state_size, flag_codec, waiting_codec, count_of, flags_of, heads_of, places_of, waiting_t, send_head_t, pd_flag_t, cq_flag_t, mr_flag_t, qp_flag_t}
+use mathlib.Core.Path.{ap}
+use Rattle.tables.specs.Card.{live_of, Mr as Card·Mr, Qp as Card·Qp}
+use Rattle.tables.specs.State.{card, is_live}
+use Rattle.tables.proofs.ObjectLaws.{pd_is, pd_out, cq_live_lem, cq_out, mr_live, mr_out, qp_live, qp_out}
 use Rattle.tables.specs.declared.Kind.{Kind}
 use Rattle.tables.specs.declared.Kind.TheVariants.{Pd, Cq, Mr, Qp}
 use Rattle.tables.specs.declared.WaitingHead.{WaitingHead}
@@ -35,6 +39,19 @@ flag_put Pd l n v = rw (mul-one, add-zero) refl
 flag_put Cq l n v = rw (mul-one, add-zero) refl
 flag_put Mr l n v = rw (mul-one, add-zero) refl
 flag_put Qp l n v = rw (mul-one, add-zero) refl
+
+-- object n of a kind is live where its flag is 1, and not beyond the last
+pub object_live : (k : Kind) (l : List ℕ) (n : ℕ) → n < count_of k → live_of (card l) k n ≡ is_live (row_at (flags_of k) l n)
+object_live Pd l n h = pd_is l n h
+object_live Cq l n h = cq_live_lem l n h
+object_live Mr l n h = mr_live l n h
+object_live Qp l n h = qp_live l n h
+
+pub object_out : (k : Kind) (l : List ℕ) (n : ℕ) → count_of k ≤ n → live_of (card l) k n ≡ false
+object_out Pd l n h = pd_out l n h
+object_out Cq l n h = cq_out l n h
+object_out Mr l n h = ap (λ (m : Card·Mr). m.live) (mr_out l n h)
+object_out Qp l n h = ap (λ (q : Card·Qp). q.live) (qp_out l n h)
 
 pub head_within : (k : WorkQueue) (n : ℕ) → n < qp_count → (heads_of k).base + n * 2 + 2 ≤ state_size
 unfolding waiting_t send_head_t

@@ -32,13 +32,13 @@ pub fn send_head(request: &[u8]) -> SendRecord
     ensures { result ≡ decode send_codec request.now 0 }
 {
     SendRecord {
-        wr: wire::get64(request, 0),
-        opcode: wire::get8(request, 8),
-        flags: wire::get8(request, 9),
-        imm: wire::get32(request, 12),
-        address: wire::get64(request, 16),
-        key: wire::get32(request, 24),
-        count: wire::get32(request, COUNT_AT),
+        wr: wire::get(request, 0),
+        opcode: wire::get(request, 8),
+        flags: wire::get(request, 9),
+        imm: wire::get(request, 12),
+        address: wire::get(request, 16),
+        key: wire::get(request, 24),
+        count: wire::get(request, COUNT_AT),
     }
 }
 
@@ -88,7 +88,7 @@ pub fn inline_bytes(request: &[u8]) -> &[u8]
     requires { 576 ≤ length request.now }
     ensures { result.now ≡ inline_bytes request.now }
 {
-    let n = wire::get16(request, COUNT_AT) as usize;
+    let n = wire::get::<u16>(request, COUNT_AT) as usize;
     wire::part(request, INLINE_AT, n)
 }
 
@@ -106,9 +106,9 @@ pub fn get_sge(bytes: &[u8], at: usize) -> Sge
     ensures { result ≡ decode sge_codec bytes.now at }
 {
     Sge {
-        address: wire::get64(bytes, at),
-        length: wire::get32(bytes, at + 8),
-        key: wire::get32(bytes, at + 12),
+        address: wire::get(bytes, at),
+        length: wire::get(bytes, at + 8),
+        key: wire::get(bytes, at + 12),
     }
 }
 
@@ -116,9 +116,9 @@ pub fn put_sge(bytes: &mut [u8], at: usize, s: Sge)
     requires { at + 16 ≤ length bytes.old }
     ensures { bytes.new ≡ encode sge_codec bytes.old at s }
 {
-    wire::put64(bytes, at, s.address);
-    wire::put32(bytes, at + 8, s.length);
-    wire::put32(bytes, at + 12, s.key);
+    wire::put(bytes, at, s.address);
+    wire::put(bytes, at + 8, s.length);
+    wire::put(bytes, at + 12, s.key);
 }
 
 pub fn get_completion(bytes: &[u8], at: usize) -> Completion
@@ -126,12 +126,12 @@ pub fn get_completion(bytes: &[u8], at: usize) -> Completion
     ensures { result ≡ decode completion_codec bytes.now at }
 {
     Completion {
-        wr: wire::get64(bytes, at),
-        status: wire::get8(bytes, at + 8),
-        opcode: wire::get8(bytes, at + 9),
-        length: wire::get32(bytes, at + 12),
-        imm: wire::get32(bytes, at + 16),
-        owner: wire::get32(bytes, at + 20),
+        wr: wire::get(bytes, at),
+        status: wire::get(bytes, at + 8),
+        opcode: wire::get(bytes, at + 9),
+        length: wire::get(bytes, at + 12),
+        imm: wire::get(bytes, at + 16),
+        owner: wire::get(bytes, at + 20),
     }
 }
 
@@ -140,20 +140,20 @@ fn put_result(bytes: &mut [u8], at: usize, c: Completion)
     requires { at + 24 ≤ length bytes.old }
     ensures { bytes.new ≡ put_fields result_fields bytes.old at (c.status ∷ c.opcode ∷ 0 ∷ c.length ∷ []) }
 {
-    wire::put8(bytes, at + 8, c.status);
-    wire::put8(bytes, at + 9, c.opcode);
-    wire::put16(bytes, at + 10, 0);
-    wire::put32(bytes, at + 12, c.length);
+    wire::put(bytes, at + 8, c.status);
+    wire::put(bytes, at + 9, c.opcode);
+    wire::put::<u16>(bytes, at + 10, 0);
+    wire::put(bytes, at + 12, c.length);
 }
 
 pub fn put_completion(bytes: &mut [u8], at: usize, c: Completion)
     requires { at + 24 ≤ length bytes.old }
     ensures { bytes.new ≡ encode completion_codec bytes.old at c }
 {
-    wire::put64(bytes, at, c.wr);
+    wire::put(bytes, at, c.wr);
     put_result(bytes, at, c);
-    wire::put32(bytes, at + 16, c.imm);
-    wire::put32(bytes, at + 20, c.owner);
+    wire::put(bytes, at + 16, c.imm);
+    wire::put(bytes, at + 20, c.owner);
 }
 
 // The scatter/gather entry at an offset; one that the record does not have is nothing.
@@ -197,7 +197,7 @@ pub fn read_receive(request: &[u8]) -> Result<ReceiveRecord, Refusal>
     if request.len() < RECEIVE_HEAD {
         return Err(Refusal::WrongLength);
     }
-    let count = wire::get32(request, 8);
+    let count = wire::get::<u32>(request, 8);
     if MOST_RECEIVE_SGES < count {
         return Err(Refusal::BadField);
     }
@@ -205,7 +205,7 @@ pub fn read_receive(request: &[u8]) -> Result<ReceiveRecord, Refusal>
     if request.len() != size {
         return Err(Refusal::WrongLength);
     }
-    let wr = wire::get64(request, 0);
+    let wr = wire::get::<u64>(request, 0);
     let a = sge_at(request, RECEIVE_HEAD);
     let b = sge_at(request, RECEIVE_HEAD + SGE_SIZE);
     Ok(ReceiveRecord {
@@ -225,10 +225,10 @@ pub fn read_head(command: &[u8]) -> Result<u8, Refusal>
     if command.len() < 2 {
         return Err(Refusal::WrongLength);
     }
-    if wire::get8(command, 0) != CONTROL_CLASS {
+    if wire::get::<u8>(command, 0) != CONTROL_CLASS {
         return Err(Refusal::Unknown);
     }
-    Ok(wire::get8(command, 1))
+    Ok(wire::get(command, 1))
 }
 
 // The data of a command, by its layout.
@@ -265,7 +265,7 @@ impl CommandData for u32 {
     ghost data_in = { λ k. decode number_codec k 2 };
 
     fn read(command: &[u8]) -> u32 {
-        wire::get32(command, 2)
+        wire::get::<u32>(command, 2)
     }
 }
 
@@ -279,11 +279,11 @@ impl CommandData for Registration {
 
     fn read(command: &[u8]) -> Registration {
         Registration {
-            pd: wire::get32(command, 2),
-            access: wire::get32(command, 6),
-            start: wire::get64(command, 10),
-            length: wire::get64(command, 18),
-            virt: wire::get64(command, 26),
+            pd: wire::get(command, 2),
+            access: wire::get(command, 6),
+            start: wire::get(command, 10),
+            length: wire::get(command, 18),
+            virt: wire::get(command, 26),
         }
     }
 }
@@ -298,11 +298,11 @@ impl CommandData for CreateQp {
 
     fn read(command: &[u8]) -> CreateQp {
         CreateQp {
-            pd: wire::get32(command, 2),
-            kind: wire::get8(command, 6),
-            signal: wire::get8(command, 7),
-            scq: wire::get32(command, 10),
-            rcq: wire::get32(command, 14),
+            pd: wire::get(command, 2),
+            kind: wire::get(command, 6),
+            signal: wire::get(command, 7),
+            scq: wire::get(command, 10),
+            rcq: wire::get(command, 14),
         }
     }
 }
@@ -317,14 +317,14 @@ impl CommandData for ModifyQp {
 
     fn read(command: &[u8]) -> ModifyQp {
         ModifyQp {
-            qpn: wire::get32(command, 2),
-            mask: wire::get32(command, 6),
-            state: wire::get8(command, 10),
-            pad0: wire::get8(command, 11),
-            pad1: wire::get8(command, 12),
-            pad2: wire::get8(command, 13),
-            dest: wire::get32(command, 14),
-            flags: wire::get32(command, 18),
+            qpn: wire::get(command, 2),
+            mask: wire::get(command, 6),
+            state: wire::get(command, 10),
+            pad0: wire::get(command, 11),
+            pad1: wire::get(command, 12),
+            pad2: wire::get(command, 13),
+            dest: wire::get(command, 14),
+            flags: wire::get(command, 18),
         }
     }
 }

@@ -74,13 +74,13 @@ pub type State = [u8; STATE_SIZE];
 pub fn load_memory(state: &State) -> u64
     ensures { result ≡ row_at memory_t state.now 0 }
 {
-    wire::get64(state, MEMORY)
+    wire::get(state, MEMORY)
 }
 
 pub fn store_memory(state: &mut State, r: u64)
     ensures { state.new ≡ put_row memory_t state.old 0 r }
 {
-    wire::put64(state, MEMORY, r);
+    wire::put(state, MEMORY, r);
 }
 
 // ---- the queue pair that a turn visits first
@@ -88,13 +88,13 @@ pub fn store_memory(state: &mut State, r: u64)
 pub fn load_turn(state: &State) -> u8
     ensures { result ≡ row_at turn_t state.now 0 }
 {
-    wire::get8(state, TURN)
+    wire::get(state, TURN)
 }
 
 pub fn store_turn(state: &mut State, r: u8)
     ensures { state.new ≡ put_row turn_t state.old 0 r }
 {
-    wire::put8(state, TURN, r);
+    wire::put(state, TURN, r);
 }
 
 // ---- live flags: 1 where the object is live
@@ -129,14 +129,14 @@ pub fn load_flag(state: &State, kind: Kind, n: usize) -> u8
     requires { n < count_of kind }
     ensures { result ≡ row_at (flags_of kind) state.now n }
 {
-    wire::get8(state, kind.flags() + n)
+    wire::get(state, kind.flags() + n)
 }
 
 pub fn store_flag(state: &mut State, kind: Kind, n: usize, r: u8)
     requires { n < count_of kind }
     ensures { state.new ≡ put_row (flags_of kind) state.old n r }
 {
-    wire::put8(state, kind.flags() + n, r);
+    wire::put(state, kind.flags() + n, r);
 }
 
 // ---- completion queues
@@ -145,11 +145,11 @@ pub fn load_cq(state: &State, n: usize) -> QueueHead
     requires { n < cq_count }
     ensures { result ≡ row_at cq_t state.now n }
 {
-    let b = wire::get_bytes4(state, CQS + n * CQ_SIZE);
+    let [places, first, count, _] = wire::get_bytes::<4>(state, CQS + n * CQ_SIZE);
     QueueHead {
-        places: b[0],
-        first: b[1],
-        count: b[2],
+        places,
+        first,
+        count,
     }
 }
 
@@ -157,7 +157,7 @@ pub fn store_cq(state: &mut State, n: usize, r: QueueHead)
     requires { n < cq_count }
     ensures { state.new ≡ put_row cq_t state.old n r }
 {
-    wire::put_bytes4(state, CQS + n * CQ_SIZE, r.places, r.first, r.count, 0);
+    wire::put_bytes(state, CQS + n * CQ_SIZE, [r.places, r.first, r.count, 0]);
 }
 
 // Completion row n: place k of completion queue q is row 16 q + k.
@@ -182,15 +182,15 @@ pub fn load_mr(state: &State, n: usize) -> Region
     ensures { result ≡ row_at mr_t state.now n }
 {
     let at = MRS + n * MR_SIZE;
-    let b = wire::get_bytes4(state, at);
+    let [access, variant, pd, kind] = wire::get_bytes::<4>(state, at);
     Region {
-        access: b[0],
-        variant: b[1],
-        pd: b[2],
-        kind: b[3],
-        start: wire::get64(state, at + 8),
-        length: wire::get64(state, at + 16),
-        virt: wire::get64(state, at + 24),
+        access,
+        variant,
+        pd,
+        kind,
+        start: wire::get(state, at + 8),
+        length: wire::get(state, at + 16),
+        virt: wire::get(state, at + 24),
     }
 }
 
@@ -199,10 +199,10 @@ pub fn store_mr(state: &mut State, n: usize, r: Region)
     ensures { state.new ≡ put_row mr_t state.old n r }
 {
     let at = MRS + n * MR_SIZE;
-    wire::put_bytes4(state, at, r.access, r.variant, r.pd, r.kind);
-    wire::put64(state, at + 8, r.start);
-    wire::put64(state, at + 16, r.length);
-    wire::put64(state, at + 24, r.virt);
+    wire::put_bytes(state, at, [r.access, r.variant, r.pd, r.kind]);
+    wire::put(state, at + 8, r.start);
+    wire::put(state, at + 16, r.length);
+    wire::put(state, at + 24, r.virt);
 }
 
 // Page number row n: place k of region slot q is row 16 q + k.
@@ -210,14 +210,14 @@ pub fn load_page(state: &State, n: usize) -> u16
     requires { n < page_count }
     ensures { result ≡ row_at page_t state.now n }
 {
-    wire::get16(state, PAGES + n * PAGE_NUMBER)
+    wire::get(state, PAGES + n * PAGE_NUMBER)
 }
 
 pub fn store_page(state: &mut State, n: usize, r: u16)
     requires { n < page_count }
     ensures { state.new ≡ put_row page_t state.old n r }
 {
-    wire::put16(state, PAGES + n * PAGE_NUMBER, r);
+    wire::put(state, PAGES + n * PAGE_NUMBER, r);
 }
 
 // ---- queue pairs
@@ -226,15 +226,18 @@ pub fn load_qp(state: &State, n: usize) -> QueuePair
     requires { n < qp_count }
     ensures { result ≡ row_at qp_t state.now n }
 {
-    let b = wire::get_bytes8(state, QPS + n * QP_SIZE);
+    let [pd, signal, scq, rcq, state, dest, rights, _] = wire::get_bytes::<8>(
+        state,
+        QPS + n * QP_SIZE,
+    );
     QueuePair {
-        pd: b[0],
-        signal: b[1],
-        scq: b[2],
-        rcq: b[3],
-        state: b[4],
-        dest: b[5],
-        rights: b[6],
+        pd,
+        signal,
+        scq,
+        rcq,
+        state,
+        dest,
+        rights,
     }
 }
 
@@ -243,8 +246,10 @@ pub fn store_qp(state: &mut State, n: usize, r: QueuePair)
     ensures { state.new ≡ put_row qp_t state.old n r }
 {
     let at = QPS + n * QP_SIZE;
-    wire::put_bytes8(
-        state, at, r.pd, r.signal, r.scq, r.rcq, r.state, r.dest, r.rights, 0,
+    wire::put_bytes(
+        state,
+        at,
+        [r.pd, r.signal, r.scq, r.rcq, r.state, r.dest, r.rights, 0],
     );
 }
 
@@ -275,7 +280,7 @@ pub fn load_head(state: &State, queue: WorkQueue, n: usize) -> WaitingHead
     requires { n < qp_count }
     ensures { result ≡ row_at (heads_of queue) state.now n }
 {
-    let [first, count] = wire::get_bytes2(state, queue.heads() + n * WAITING_SIZE);
+    let [first, count] = wire::get_bytes::<2>(state, queue.heads() + n * WAITING_SIZE);
     WaitingHead { first, count }
 }
 
@@ -283,7 +288,7 @@ pub fn store_head(state: &mut State, queue: WorkQueue, n: usize, r: WaitingHead)
     requires { n < qp_count }
     ensures { state.new ≡ put_row (heads_of queue) state.old n r }
 {
-    wire::put_bytes2(state, queue.heads() + n * WAITING_SIZE, r.first, r.count);
+    wire::put_bytes(state, queue.heads() + n * WAITING_SIZE, [r.first, r.count]);
 }
 
 // Receive row n: place k of queue pair q is row 4 q + k.
@@ -293,8 +298,8 @@ pub fn load_receive(state: &State, n: usize) -> ReceiveRecord
 {
     let at = RECEIVES + n * RECEIVE_SIZE;
     ReceiveRecord {
-        wr: wire::get64(state, at),
-        count: wire::get32(state, at + 8),
+        wr: wire::get(state, at),
+        count: wire::get(state, at + 8),
         first: records::get_sge(state, at + 24),
         second: records::get_sge(state, at + 40),
     }
@@ -307,8 +312,8 @@ pub fn store_receive(state: &mut State, n: usize, r: ReceiveRecord)
     let at = RECEIVES + n * RECEIVE_SIZE;
     let a = r.first;
     let b = r.second;
-    wire::put64(state, at, r.wr);
-    wire::put32(state, at + 8, r.count);
+    wire::put(state, at, r.wr);
+    wire::put(state, at + 8, r.count);
     records::put_sge(state, at + 24, a);
     records::put_sge(state, at + 40, b);
 }
@@ -320,7 +325,7 @@ pub fn load_kind(state: &State, n: usize) -> SendKind
     requires { n < queued_count }
     ensures { result ≡ row_at kind_t state.now n }
 {
-    let w = wire::get32(state, KINDS + n * KIND_SIZE);
+    let w = wire::get::<u32>(state, KINDS + n * KIND_SIZE);
     SendKind {
         opcode: (w % 256) as u8,
         flags: (w / 256 % 256) as u8,
@@ -333,9 +338,9 @@ pub fn store_kind(state: &mut State, n: usize, r: SendKind)
     ensures { state.new ≡ put_row kind_t state.old n r }
 {
     let at = KINDS + n * KIND_SIZE;
-    wire::put8(state, at, r.opcode);
-    wire::put8(state, at + 1, r.flags);
-    wire::put16(state, at + 2, r.count);
+    wire::put(state, at, r.opcode);
+    wire::put(state, at + 1, r.flags);
+    wire::put(state, at + 2, r.count);
 }
 
 // The bytes of place n, copied out.

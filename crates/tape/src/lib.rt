@@ -87,7 +87,7 @@ fn is_mark(input: &[u8]) -> bool
     requires { 6 ≤ length input.now }
     ensures { result ≡ is_mark input.now }
 {
-    (wire::get8(input, 0) == 0x52) & (wire::get8(input, 1) == 0x4B)
+    (wire::get::<u8>(input, 0) == 0x52) & (wire::get::<u8>(input, 1) == 0x4B)
 }
 
 fn is_kind(kind: u8) -> bool
@@ -108,11 +108,11 @@ fn read_header(input: &[u8]) -> Header
     if input.len() < HEADER {
         return Header::Cut;
     }
-    let kind = wire::get8(input, 2);
-    let length = wire::get16(input, 4);
+    let kind = wire::get::<u8>(input, 2);
+    let length = wire::get::<u16>(input, 4);
     let is_good = is_mark(input) & is_kind(kind) & is_length(kind, length);
     if is_good {
-        let number = wire::get8(input, 3);
+        let number = wire::get::<u8>(input, 3);
         return Header::Record {
             kind,
             number,
@@ -162,7 +162,7 @@ fn ack_size(command: &[u8]) -> usize
     ensures value { (c : Card) → result ≡ maybe 1 (λ q. ack_size (command_ack c q)) (command_of command.now) }
     ensures upper_bound { result ≤ 129 }
 {
-    match wire::get8(command, 1) {
+    match wire::get::<u8>(command, 1) {
         QUERY_DEVICE => 129,
         QUERY_PORT => 33,
         REGISTER_MR => 13,

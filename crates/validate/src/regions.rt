@@ -142,7 +142,7 @@ pub fn mrs_ok(state: &[u8], memory: u64) -> bool
 {
     let mut g = 0;
     while g < MR_COUNT / 8 {
-        if wire::get64(state, rows::MR_FLAGS + 8 * g) != 0 {
+        if wire::get::<u64>(state, rows::MR_FLAGS + 8 * g) != 0 {
             if !eight_ok(state, memory, g) {
                 return false;
             }

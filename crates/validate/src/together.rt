@@ -29,7 +29,7 @@ fn variants_pass(state: &[u8], g: usize) -> bool
 {
     let mut i = 0;
     while i < 8 {
-        if wire::get8(state, rows::MRS + (8 * g + i) * rows::MR_SIZE + 1) < 1 {
+        if wire::get::<u8>(state, rows::MRS + (8 * g + i) * rows::MR_SIZE + 1) < 1 {
             return false;
         }
         i += 1;
@@ -229,7 +229,7 @@ fn live_pass(state: &[u8], memory: u64, g: usize, domains: usize) -> bool
     requires state_value { all_below domains (card state.now).pd ≡ true }
     ensures { Enough result (all_below 8 (λ i. mr_ok state.now (8 * g + i))) }
 {
-    let kind = wire::get8(state, rows::MRS + 8 * g * rows::MR_SIZE + 3);
+    let kind = wire::get::<u8>(state, rows::MRS + 8 * g * rows::MR_SIZE + 3);
     if !rows_pass(state, g, kind, limit_of(kind, memory), domains) {
         return false;
     }
@@ -264,7 +264,10 @@ fn four_words(s: &[u8], at: usize) -> u64
     requires { at + 32 ≤ length s.now }
     ensures { result ≡ 0 → Zeros s.now at 32 }
 {
-    wire::get64(s, at) | wire::get64(s, at + 8) | wire::get64(s, at + 16) | wire::get64(s, at + 24)
+    wire::get::<u64>(s, at)
+        | wire::get::<u64>(s, at + 8)
+        | wire::get::<u64>(s, at + 16)
+        | wire::get::<u64>(s, at + 24)
 }
 
 // Past eights of region slots from this one on that are all free, four at a time.

@@ -21,24 +21,24 @@ put_port-requires c =
 
 pub returns-in-Error : goal.returns-in-Error
 unfolding put_fields
-returns-in-Error c = c.put8.ensures ∙ ap (λ (a : Ack). encode_ack a c.args.ack.now) (sym c.in-Error.is)
+returns-in-Error c = c.put.ensures ∙ ap (λ (a : Ack). encode_ack a c.args.ack.now) (sym c.in-Error.is)
 
 pub returns-in-Done : goal.returns-in-Done
 unfolding put_fields
-returns-in-Done c = c.put8-in-Done.ensures ∙ ap (λ (a : Ack). encode_ack a c.args.ack.now) (sym c.in-Done.is)
+returns-in-Done c = c.put-in-Done.ensures ∙ ap (λ (a : Ack). encode_ack a c.args.ack.now) (sym c.in-Done.is)
 
 pub returns-in-Number : goal.returns-in-Number
 unfolding put_fields
-returns-in-Number c = rw c.put8-in-Number.ensures at c.put32.ensures ∙ ap (λ (a : Ack). encode_ack a c.args.ack.now) (sym c.in-Number.is)
+returns-in-Number c = rw c.put-in-Number.ensures at c.put-in-Number-2.ensures ∙ ap (λ (a : Ack). encode_ack a c.args.ack.now) (sym c.in-Number.is)
 
 pub returns-in-Keys : goal.returns-in-Keys
 unfolding put_fields
-returns-in-Keys c = rw (c.put32-in-Keys-2.ensures, c.put32-in-Keys.ensures, c.put8-in-Keys.ensures) at c.put32-in-Keys-3.ensures ∙ ap (λ (a : Ack). encode_ack a c.args.ack.now) (sym c.in-Keys.is)
+returns-in-Keys c = rw (c.put-in-Keys-3.ensures, c.put-in-Keys-2.ensures, c.put-in-Keys.ensures) at c.put-in-Keys-4.ensures ∙ ap (λ (a : Ack). encode_ack a c.args.ack.now) (sym c.in-Keys.is)
 
 pub returns-in-Device : goal.returns-in-Device
 unfolding put_fields
-returns-in-Device c = rw c.put8-in-Device.ensures at c.put_device.ensures ∙ ap (λ (a : Ack). encode_ack a c.args.ack.now) (sym c.in-Device.is)
+returns-in-Device c = rw c.put-in-Device.ensures at c.put_device.ensures ∙ ap (λ (a : Ack). encode_ack a c.args.ack.now) (sym c.in-Device.is)
 
 pub returns-in-Port : goal.returns-in-Port
 unfolding put_fields
-returns-in-Port c = rw c.put8-in-Port.ensures at c.put_port.ensures ∙ ap (λ (a : Ack). encode_ack a c.args.ack.now) (sym c.in-Port.is)
+returns-in-Port c = rw c.put-in-Port.ensures at c.put_port.ensures ∙ ap (λ (a : Ack). encode_ack a c.args.ack.now) (sym c.in-Port.is)

@@ -12,7 +12,7 @@ pub returns-then-is_good : goal.returns-then-is_good
 returns-then-is_good c =
     let a = c.args in
     let g : is_good a.input.now ≡ true = cc in
-    rw (c.get8-kind.ensures, c.get8-number.ensures, c.get16-length.ensures)
+    rw (c.get-kind.ensures, c.get-number.ensures, c.get-length.ensures)
     (header_record a.input.now (search rules) g)
 
 pub returns : goal.returns

@@ -1,20 +1,21 @@
-use mathlib.Core.Path.{sym, ap, ◌∙◌}
-use Prim.Native.Nat.{ℕ, ◌+◌, ◌≤◌}
+use mathlib.Core.Path.{◌≡◌, ap, ◌∙◌}
+use mathlib.Core.Bool.{not}
 use native.Mathlib.Omega.{arith}
-use Rattle.wire.proofs.FlagLaws.{first_set, first_clear, flags_most}
+use lib.ListN.{take, drop}
+use Prim.Native.Nat.{◌+◌, ◌-◌}
+use Rattle.std.specs.Prelude.{eqb}
+use Rattle.std.specs.Option.{unwrap_or}
+use Rattle.std.proofs.Common.{rules, tests}
+use Rattle.std.proofs.lemmas.Iterator.{YieldsList-from_slice}
+use Rattle.std.proofs.lemmas.Iterator.Search.{position_from_yields_List}
+use Rattle.wire.proofs.FlagLaws.{flag_position}
 use Rattle.wire.proofs.clear_of_eight.Goals as goal
-
-pub overflow_add-result : goal.overflow_add-result
-overflow_add-result c =
-    let h : c.clear_of_four.result ≤ 4 = rw c.clear_of_four.ensures (flags_most _ _ 4) in
-    omega arith
-
-pub returns-then-get32-eq-ALL_SET4 : goal.returns-then-get32-eq-ALL_SET4
-returns-then-get32-eq-ALL_SET4 c =
-    let set = c in
-    ap (λ (x : ℕ). 4 + x) c.clear_of_four.ensures ∙ first_set _ _ 4 4 (sym set.get32.ensures ∙ set.if-get32-eq-ALL_SET4.true)
 
 pub returns : goal.returns
 returns c =
-    let clear = c in
-    c.clear_of_four-2.ensures ∙ first_clear _ _ 4 4 (λ e. clear.if-get32-eq-ALL_SET4.false (clear.get32.ensures ∙ e))
+    let a = c.args in
+    let e : a.at + 8 - a.at ≡ 8 = omega arith in
+    let found =
+    position_from_yields_List (λ x. not (eqb x 1)) _ _ c.position.result c.position.ensures.ran
+    (YieldsList-from_slice (take 8 (drop a.at a.s.now)) (rw e at c.iter.ensures.rest)) (λ x b q k. search (rules, tests)) in
+    c.unwrap_or.ensures ∙ ap (λ o. unwrap_or o 8) found ∙ flag_position a.s.now a.at 8 (λ i. search rules) (omega arith)

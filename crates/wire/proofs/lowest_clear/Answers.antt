@@ -1,36 +1,28 @@
 use borrow.Author.Rules.{rules}
-use mathlib.Core.Path.{◌≡◌, sym, ap, ◌∙◌}
+use mathlib.Core.Path.{sym, ap, ◌∙◌}
 use native.Mathlib.Omega.{arith}
-use Prim.Native.Nat.{ℕ, ◌≤◌, ◌+◌, ◌*◌}
-use Rattle.wire.proofs.FlagLaws.{flags_most, all_set, some_clear, word_found, word_past}
-use Rattle.wire.proofs.ScanLaws.{lowest_start, lowest_none}
+use Prim.Native.Nat.{ℕ, ◌+◌, ◌*◌, ◌≤◌}
+use Rattle.wire.specs.Scan.{clear_at}
+use Rattle.wire.proofs.FlagLaws.{flags_most, word_found, word_past}
+use Rattle.wire.proofs.ScanLaws.{lowest_is}
 use Rattle.wire.proofs.lowest_clear.Goals as goal
-
-pub loop-i-init : goal.loop-i-init
-loop-i-init c = (search rules, lowest_start (8 * c.args.words) _)
 
 pub overflow_add-result : goal.overflow_add-result
 overflow_add-result c =
-    let h : c.clear_of_eight.result ≤ 8 = rw c.clear_of_eight.ensures (flags_most _ _ 8) in
+    let most : c.clear_of_eight.result ≤ 8 = rw c.clear_of_eight.ensures (flags_most _ _ 8) in
     search rules
 
-pub returns-then-get64-ne-ALL_SET8 : goal.returns-then-get64-ne-ALL_SET8
-returns-then-get64-ne-ALL_SET8 c =
+pub returns-then-get-ne-ALL_SET8 : goal.returns-then-get-ne-ALL_SET8
+returns-then-get-ne-ALL_SET8 c =
     let a = c.args in
-    let h = c.loop-i in
-    let w = some_clear a.s.now (a.at + 8 * h.i) 8 (λ e. c.if-get64-ne-ALL_SET8.true (c.get64.ensures ∙ e)) in
-    ap (λ (x : ℕ). 8 * h.i + x) c.clear_of_eight.ensures ∙ sym (h.invariant.1 ∙ word_found a.s.now a.at a.words h.i (search rules) w)
+    let i = c.loop-i.i in
+    ap (λ (x : ℕ). 8 * i + x) c.clear_of_eight.ensures
+    ∙ word_found a.s.now a.at i c.loop-i.invariant a.words c.loop-i-test.true (λ e. c.if-get-ne-ALL_SET8.true (c.get.ensures ∙ e))
 
 pub loop-i-preserved : goal.loop-i-preserved
-loop-i-preserved c =
-    let a = c.args in
-    let h = c.loop-i in
-    let e = all_set a.s.now (a.at + 8 * h.i) 8 (sym c.get64.ensures ∙ c.if-get64-ne-ALL_SET8.false) in
-    (search rules, h.invariant.1 ∙ word_past a.s.now a.at a.words h.i (search rules) e)
+loop-i-preserved c = word_past c.args.s.now c.args.at c.loop-i.i c.loop-i.invariant (sym c.get.ensures ∙ c.if-get-ne-ALL_SET8.false)
 
 pub returns : goal.returns
 returns c =
     let a = c.args in
-    let h = c.loop-i in
-    let e : h.i ≡ a.words = omega arith in
-    sym (h.invariant.1 ∙ rw e (lowest_none (8 * a.words) (8 * a.words) _ (omega arith)))
+    lowest_is (8 * a.words) (clear_at a.s.now a.at) (8 * a.words) (omega arith) (λ k b. c.loop-i.invariant k (omega arith)) (λ b. absurd (omega arith))

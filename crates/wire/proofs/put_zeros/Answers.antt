@@ -1,29 +1,18 @@
-use mathlib.Core.Path.{◌≡◌, refl, sym, ap, ◌∙◌}
+use mathlib.Core.Path.{◌≡◌, ◌∙◌}
 use mathlib.Core.List.{List}
 use native.Mathlib.Omega.{arith}
-use Prim.Native.Nat.{ℕ, ◌+◌}
-use lib.ListN.{set, length-set}
-use Rattle.wire.specs.Le.{put_le}
-use Rattle.wire.proofs.LeLaws.{zeros_more}
+use lib.ListN.{length, take, drop, length-take, length-drop}
+use Prim.Native.Nat.{ℕ, ◌+◌, ◌-◌}
+use Rattle.std.specs.Prelude.{replicate}
+use Rattle.std.proofs.lemmas.List.{length-replicate}
+use Rattle.std.proofs.lemmas.Slice.{put_mid-paste}
+use Rattle.wire.proofs.CopyLaws.{zeros_paste}
 use Rattle.wire.proofs.put_zeros.Goals as goal
-
-pub loop-i-init : goal.loop-i-init
-unfolding put_le
-loop-i-init c = (omega arith, refl, refl)
-
-pub loop-i-preserved : goal.loop-i-preserved
-loop-i-preserved c =
-    let h = c.loop-i in
-    let a = c.args in (
-      omega arith,
-      ap (λ (x : List ℕ). set x (a.at + h.i) 0) h.invariant.1 ∙ sym (zeros_more h.i a.s.now a.at),
-      simp length-set h.invariant.2,
-    )
-
-pub shape_of-s : goal.shape_of-s
-shape_of-s c = c.loop-i.invariant.2
 
 pub returns : goal.returns
 returns c =
-    let e : c.loop-i.i ≡ c.args.n = omega arith in
-    c.loop-i.invariant.1 ∙ rw e
+    let a = c.args in
+    let zeros : List ℕ = replicate a.n 0 in
+    let n : length (take (a.at + a.n - a.at) (drop a.at a.s.now)) ≡ a.n = simp (length-take, length-drop) (omega arith) in
+    put_mid-paste a.at (a.at + a.n - a.at) a.s.now c.fill.new.self zeros a.n (rw n at (c.fill.ensures.after (λ y h. h))) (omega arith) (omega (arith, length-replicate {A = ℕ} a.n 0))
+    ∙ zeros_paste a.n a.s.now a.at c.requires

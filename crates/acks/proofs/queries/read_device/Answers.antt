@@ -7,10 +7,10 @@ pub returns-then-ack-lt-DEVICE_ACK : goal.returns-then-ack-lt-DEVICE_ACK
 unfolding device_read device_codec
 returns-then-ack-lt-DEVICE_ACK c = rw (query_short 128 c.args.ack.now c.if-ack-lt-DEVICE_ACK.true)
 
-pub returns-then-get8-ne0 : goal.returns-then-get8-ne0
+pub returns-then-get-ne0 : goal.returns-then-get-ne0
 unfolding device_read device_codec
-returns-then-get8-ne0 c = rw (query_error 128 c.args.ack.now c.if-ack-lt-DEVICE_ACK.false (λ x. c.if-get8-ne0.true (c.get8.ensures ∙ x)))
+returns-then-get-ne0 c = rw (query_error 128 c.args.ack.now c.if-ack-lt-DEVICE_ACK.false (λ x. c.if-get-ne0.true (c.get.ensures ∙ x)))
 
 pub returns : goal.returns
 unfolding device_read device_codec
-returns c = rw (query_right 128 c.args.ack.now c.if-ack-lt-DEVICE_ACK.false (sym c.get8.ensures ∙ c.if-get8-ne0.false), c.get_caps.ensures, c.get_work.ensures, c.get_objects.ensures)
+returns c = rw (query_right 128 c.args.ack.now c.if-ack-lt-DEVICE_ACK.false (sym c.get.ensures ∙ c.if-get-ne0.false), c.get_caps.ensures, c.get_work.ensures, c.get_objects.ensures)

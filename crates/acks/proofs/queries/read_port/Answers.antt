@@ -8,10 +8,10 @@ pub returns-then-ack-lt-PORT_ACK : goal.returns-then-ack-lt-PORT_ACK
 unfolding port_read port_codec
 returns-then-ack-lt-PORT_ACK c = rw (query_short 32 c.args.ack.now c.if-ack-lt-PORT_ACK.true)
 
-pub returns-then-get8-ne0 : goal.returns-then-get8-ne0
+pub returns-then-get-ne0 : goal.returns-then-get-ne0
 unfolding port_read port_codec
-returns-then-get8-ne0 c = rw (query_error 32 c.args.ack.now c.if-ack-lt-PORT_ACK.false (λ x. c.if-get8-ne0.true (c.get8.ensures ∙ x)))
+returns-then-get-ne0 c = rw (query_error 32 c.args.ack.now c.if-ack-lt-PORT_ACK.false (λ x. c.if-get-ne0.true (c.get.ensures ∙ x)))
 
 pub returns : goal.returns
 unfolding port_read port_codec fields_at
-returns c = rw (query_right 32 c.args.ack.now c.if-ack-lt-PORT_ACK.false (sym c.get8.ensures ∙ c.if-get8-ne0.false)) (cc)
+returns c = rw (query_right 32 c.args.ack.now c.if-ack-lt-PORT_ACK.false (sym c.get.ensures ∙ c.if-get-ne0.false)) (cc)

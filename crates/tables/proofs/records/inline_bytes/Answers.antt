@@ -3,4 +3,4 @@ use Rattle.tables.proofs.records.inline_bytes.Goals as goal
 
 pub returns : goal.returns
 unfolding inline_bytes inline_length
-returns c = rw (c.part.ensures, c.get16-n.ensures)
+returns c = rw (c.part.ensures, c.get-n.ensures)

@@ -5,4 +5,4 @@ use Rattle.tables.proofs.rows.load_cq.Goals as goal
 
 pub returns : goal.returns
 unfolding row_at cq_t queue_codec place bytes_from
-returns c = rw c.get_bytes4-b.ensures
+returns c = rw c.get_bytes.ensures

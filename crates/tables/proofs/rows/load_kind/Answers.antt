@@ -6,4 +6,4 @@ use Rattle.tables.proofs.rows.load_kind.Goals as goal
 
 pub returns : goal.returns
 unfolding row_at kind_t kind_codec place
-returns c = kind_word c.args.state.now _ c.get32-w.result c.get32-w.ensures
+returns c = kind_word c.args.state.now _ c.get-w.result c.get-w.ensures

@@ -5,4 +5,4 @@ use Rattle.tables.proofs.rows.load_mr.Goals as goal
 
 pub returns : goal.returns
 unfolding row_at mr_t region_codec fields_at place bytes_from
-returns c = rw (c.get_bytes4-b.ensures, c.get64.ensures, c.get64-2.ensures, c.get64-3.ensures)
+returns c = rw (c.get_bytes.ensures, c.get.ensures, c.get-2.ensures, c.get-3.ensures)

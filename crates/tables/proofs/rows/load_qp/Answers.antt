@@ -5,4 +5,4 @@ use Rattle.tables.proofs.rows.load_qp.Goals as goal
 
 pub returns : goal.returns
 unfolding row_at qp_t pair_codec place bytes_from
-returns c = rw c.get_bytes8-b.ensures
+returns c = rw c.get_bytes.ensures

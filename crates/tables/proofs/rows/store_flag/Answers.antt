@@ -7,8 +7,8 @@ use Rattle.tables.proofs.rows.store_flag.Goals as goal
 pub overflow_add-flags : goal.overflow_add-flags
 overflow_add-flags c = let h = flag_within c.args.kind c.args.n c.requires in let e = c.flags.ensures in omega arith
 
-pub put8-requires : goal.put8-requires
-put8-requires c = let h = flag_within c.args.kind c.args.n c.requires in let e = c.flags.ensures in omega arith
+pub put-requires : goal.put-requires
+put-requires c = let h = flag_within c.args.kind c.args.n c.requires in let e = c.flags.ensures in omega arith
 
 pub returns : goal.returns
-returns c = rw (c.put8.ensures, c.flags.ensures) (flag_put c.args.kind c.args.state.now c.args.n c.args.r)
+returns c = rw (c.put.ensures, c.flags.ensures) (flag_put c.args.kind c.args.state.now c.args.n c.args.r)

@@ -10,4 +10,4 @@ returns c =
     let c2 = c1 in
     let c3 = c2 in
     let c4 = c3 in
-    rw (c1.put64-3.ensures, c2.put64-2.ensures, c3.put64.ensures, c4.put_bytes4.ensures)
+    rw (c1.put-3.ensures, c2.put-2.ensures, c3.put.ensures, c4.put_bytes.ensures)

@@ -17,4 +17,4 @@ returns c =
     let c4 = c3 in
     let a = c4.args in
     let at : ℕ = receive_base + a.n * 56 in
-    rw (add-zero, ← sge_put_within _ at 40 a.r.second, ← sge_put_within _ at 24 a.r.first, c1.put_sge-2.ensures, c2.put_sge.ensures, c3.put32.ensures, c4.put64.ensures)
+    rw (add-zero, ← sge_put_within _ at 40 a.r.second, ← sge_put_within _ at 24 a.r.first, c1.put_sge-2.ensures, c2.put_sge.ensures, c3.put-2.ensures, c4.put.ensures)

@@ -5,7 +5,7 @@ use Rattle.validate.specs.Accept.{mr_ok}
 use Rattle.tables.specs.Limits.{mr_count}
 use Rattle.validate.proofs.TestLaws.{eight_free, eight_tested}
 use Rattle.validate.proofs.regions.mrs_ok.Goals as goal
-use Rattle.validate.proofs.regions.mrs_ok.Goals.{then-get64-ne0+else-not-eight_ok, else-get64-ne0}
+use Rattle.validate.proofs.regions.mrs_ok.Goals.{then-get-ne0+else-not-eight_ok, else-get-ne0}
 
 pub loop-g-init : goal.loop-g-init
 loop-g-init c = (search rules, all_none _)
@@ -23,9 +23,9 @@ loop-g-preserved c =
     let h = c.loop-g in (
       search rules,
       c.past_free-g.ensures.2
-          (elim c.if-get64-ne0.branch [
-            | then-get64-ne0+else-not-eight_ok w ↦ eight_tested a.state.now h.g h.invariant.1 (sym w.eight_ok.ensures ∙ w.if-not-eight_ok.false)
-            | else-get64-ne0 w ↦ eight_free a.state.now h.g h.invariant.1 (sym c.get64.ensures ∙ w.if-get64-ne0.false)
+          (elim c.if-get-ne0.branch [
+            | then-get-ne0+else-not-eight_ok w ↦ eight_tested a.state.now h.g h.invariant.1 (sym w.eight_ok.ensures ∙ w.if-not-eight_ok.false)
+            | else-get-ne0 w ↦ eight_free a.state.now h.g h.invariant.1 (sym c.get.ensures ∙ w.if-get-ne0.false)
           ]),
     )
 

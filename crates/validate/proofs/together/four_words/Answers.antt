@@ -7,10 +7,10 @@ use Rattle.validate.proofs.together.four_words.Goals as goal
 pub returns : goal.returns
 returns c e =
     let a = c.args in
-    let w1 = c.get64.result in
-    let w2 = c.get64-2.result in
-    let w3 = c.get64-3.result in
-    let w4 = c.get64-4.result in
+    let w1 = c.get.result in
+    let w2 = c.get-2.result in
+    let w3 = c.get-3.result in
+    let w4 = c.get-4.result in
     let x = or_most_l w1 w2 in
     let x' = or_most_r w1 w2 in
     let y = or_most_l (bit_or w1 w2) w3 in
@@ -22,4 +22,4 @@ returns c e =
     let e2 : w2 ≡ 0 = omega arith in
     let e3 : w3 ≡ 0 = omega arith in
     let e4 : w4 ≡ 0 = omega arith in
-    four_zero a.s.now a.at (sym c.get64.ensures ∙ e1) (sym c.get64-2.ensures ∙ e2) (sym c.get64-3.ensures ∙ e3) (sym c.get64-4.ensures ∙ e4)
+    four_zero a.s.now a.at (sym c.get.ensures ∙ e1) (sym c.get-2.ensures ∙ e2) (sym c.get-3.ensures ∙ e3) (sym c.get-4.ensures ∙ e4)

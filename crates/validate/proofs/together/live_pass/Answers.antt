@@ -10,7 +10,7 @@ returns-then-not-rows_pass c e = (cc)
 pub returns-then-kind-eq-FLAT : goal.returns-then-kind-eq-FLAT
 returns-then-kind-eq-FLAT c e =
     let s = c in
-    let k = c.get8-kind.result in
+    let k = c.get-kind.result in
     let m : c.limit_of.result ≡ row_at memory_t s.args.state.now 0 = c.limit_of.ensures ∙ rw (eq-eqb k 0 c.if-kind-eq-FLAT.true) s.requires.g_bound.2 in
     eight_flat s.args.state.now s.args.g k c.limit_of.result s.args.domains s.requires.i_value s.requires.state_value (search rules)
     (c.rows_pass.ensures c.if-not-rows_pass.false) c.if-kind-eq-FLAT.true m
@@ -24,7 +24,7 @@ returns-then-not-starts_pass c e = (cc)
 pub returns : goal.returns
 returns c e =
     let s = c in
-    let k = c.get8-kind.result in
+    let k = c.get-kind.result in
     let m : c.limit_of.result ≡ 65536 = c.limit_of.ensures ∙ rw (ne_eqb k 0 c.if-kind-eq-FLAT.false) in
     eight_paged s.args.state.now s.args.g k c.limit_of.result s.args.domains s.requires.i_value s.requires.state_value (search rules)
     (c.rows_pass.ensures c.if-not-rows_pass.false) c.if-kind-ne-PAGED.false m

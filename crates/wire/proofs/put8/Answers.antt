@@ -1,8 +1,0 @@
-use native.Mathlib.Nat.{mod-eq_of_lt}
-use Rattle.wire.specs.Le.{put_le}
-use native.Mathlib.Omega.{arith}
-use Rattle.wire.proofs.put8.Goals as goal
-
-pub returns : goal.returns
-unfolding put_le
-returns c = rw (mod-eq_of_lt {n = c.args.v} {m = 256} (omega arith))
