@@ -44,7 +44,7 @@ use Rattle.delivery.proofs.SingleLaws.{plain, one, untaken, list_is, single_same
 use Rattle.delivery.proofs.SettleLaws.{put_told}
 use Rattle.delivery.proofs.StoreLaws.{settled_is, settling, open_place}
 use Rattle.delivery.specs.declared.meet.Ends.{Ends}
-use Rattle.delivery.specs.declared.meet.Meeting.TheVariants.{Pairs, Stopped}
+use Rattle.std.specs.Prelude.{Ok, Err}
 
 -- the pairs e, the receive w and the total n are those of the request and the state l
 pub record Ending (l m : List ℕ) (q : ℕ) (s : SendRecord) (sges : List Sge) (b : List ℕ) (e : Ends) (w : ReceiveRecord) (n : ℕ) : Type 0 where
@@ -146,14 +146,14 @@ module _ (l : List ℕ) (q o : ℕ) where
       go (some n) h = absurd (false≢true h)
 
   -- the pairs that passed
-  met_ends : (e : Ends) → Pairs e ≡ holding l q o → (e ≡ ends_at l q) × (first ≡ none)
+  met_ends : (e : Ends) → Ok e ≡ holding l q o → (e ≡ ends_at l q) × (first ≡ none)
   met_ends e i = go first refl i
     where
-      go : (k : Option ℕ) → first ≡ k → Pairs e ≡ met_by k (ends_at l q) → (e ≡ ends_at l q) × (first ≡ none)
+      go : (k : Option ℕ) → first ≡ k → Ok e ≡ met_by k (ends_at l q) → (e ≡ ends_at l q) × (first ≡ none)
       go none j i = (cc, j)
       go (some n) j i = let z : ◌≡◌ {A = ℕ} 0 1 = cc in absurd (omega arith)
 
-  pub is_met : ((card l).qp q).live ≡ true → is_in_error ((card l).qp q) ≡ false → (e : Ends) → Pairs e ≡ holding l q o → Met l e o
+  pub is_met : ((card l).qp q).live ≡ true → is_in_error ((card l).qp q) ≡ false → (e : Ends) → Ok e ≡ holding l q o → Met l e o
   is_met lives h e i =
       let y = met_ends e i in
       let z : e.q ≡ q = ap (λ (k : Ends). k.q) y.0 in
@@ -171,7 +171,7 @@ module _ (l : List ℕ) (q o : ℕ) where
         let g : refusal (hold_checks (card l) q r) ≡ none = same_tests ∙ f in
         record { answer = rw g (ap Done k.status); bytes = rw g k.bytes; memory = rw g k.memory }
 
-    pub ran_on : (e : Ends) → Pairs e ≡ holding l q o → (st : ℕ) (l' m' : List ℕ) → Carried l e.q r m st l' m' →
+    pub ran_on : (e : Ends) → Ok e ≡ holding l q o → (st : ℕ) (l' m' : List ℕ) → Carried l e.q r m st l' m' →
         Ran hold_checks l q r m (Done st) l' m'
     ran_on e i st l' m' k =
         let y = met_ends e i in
@@ -182,10 +182,10 @@ module _ (l : List ℕ) (q o : ℕ) where
         let g : refusal (hold_checks (card l) q r) ≡ some n = same_tests ∙ f in
         record { answer = rw g; bytes = rw g; memory = rw g }
 
-    pub stopped : (a : Answer) → Stopped a ≡ holding l q o → Ran hold_checks l q r m a l m
+    pub stopped : (a : Answer) → Err a ≡ holding l q o → Ran hold_checks l q r m a l m
     stopped a i = go first refl i
       where
-        go : (k : Option ℕ) → first ≡ k → Stopped a ≡ met_by k (ends_at l q) → Ran hold_checks l q r m a l m
+        go : (k : Option ℕ) → first ≡ k → Err a ≡ met_by k (ends_at l q) → Ran hold_checks l q r m a l m
         go none j i = let z : ◌≡◌ {A = ℕ} 0 1 = cc in absurd (omega arith)
         go (some n) j i =
             let z : answered 0 (some n) ≡ a = cc in

@@ -30,17 +30,17 @@ use Rattle.rules.specs.Send.{peer_of, is_in_error, place_checks, ready_checks, h
 use Rattle.rules.specs.Touch.{takes}
 use Rattle.rules.specs.declared.Answer.TheVariants.{Held}
 use Rattle.rules.specs.declared.Cause.TheVariants.{Peer, Place}
-use Rattle.delivery.specs.Meet.{answers, places_by, peer_meeting, has_place, bare, met_by, holding, is_pairs, is_free, ends_at, Sender}
+use Rattle.delivery.specs.Meet.{answers, places_by, peer_meeting, has_place, bare, met_by, holding, is_free, ends_at, Sender}
 use Rattle.delivery.specs.declared.meet.Ends.{Ends}
-use Rattle.delivery.specs.declared.meet.Meeting.{Meeting}
-use Rattle.delivery.specs.declared.meet.Meeting.TheVariants.{Pairs, Stopped}
+use Rattle.std.specs.Prelude.{Result, Ok, Err, is_ok}
+use Rattle.rules.specs.declared.Answer.{Answer}
 
 empty_is : (ws : List Receive) (n : ℕ) → length ws ≡ n → is_empty ws ≡ eqb n 0
 empty_is [] n e = sym (eq-eqb n 0 (sym e))
 empty_is (w ∷ ws) n e = sym (ne_eqb n 0 (λ z. omega arith))
 
 both_ends : (x y : Bool) (e : Ends) →
-    cond {A = Meeting} x (Stopped (Held Peer)) (cond y (Stopped (Held Place)) (Pairs e)) ≡ met_by (cond x (some 5) (cond y (some 6) none)) e
+    cond {A = Result Ends Answer} x (Err (Held Peer)) (cond y (Err (Held Place)) (Ok e)) ≡ met_by (cond x (some 5) (cond y (some 6) none)) e
 both_ends true y e = refl
 both_ends false true e = refl
 both_ends false false e = refl
@@ -74,22 +74,22 @@ own_place h k same o e = rw e (go (leb (h.count + 1) h.places))
 -- ---- the tests of a peer that is ready
 
 module _ (l : List ℕ) (e : Ends) (o : ℕ) (t : Bool) (is : t ≡ takes o) (h : WaitingHead) (at : h ≡ row_at waiting_t l e.d) where
-  pub none_waits : (t && eqb h.count 0) ≡ true → Stopped (Held Peer) ≡ peer_meeting l e o
+  pub none_waits : (t && eqb h.count 0) ≡ true → Err (Held Peer) ≡ peer_meeting l e o
   none_waits x = rw (← is, ← at, x)
 
   module _ (waits : (t && eqb h.count 0) ≡ false) (p : Bool)
       (are : p ≡ places_by (row_at cq_t l e.own.scq) (row_at cq_t l e.far.rcq) (eqb e.own.scq e.far.rcq) o) where
-    pub no_place_lem : p ≡ false → Stopped (Held Place) ≡ peer_meeting l e o
+    pub no_place_lem : p ≡ false → Err (Held Place) ≡ peer_meeting l e o
     no_place_lem x = rw (← are, ← is, ← at, waits, x)
 
-    pub ends_meet : p ≡ true → Pairs e ≡ peer_meeting l e o
+    pub ends_meet : p ≡ true → Ok e ≡ peer_meeting l e o
     ends_meet x = rw (← are, ← is, ← at, waits, x)
 
     -- the same as one number
-    pub passes_is : p ≡ is_pairs (peer_meeting l e o)
+    pub passes_is : p ≡ is_ok (peer_meeting l e o)
     passes_is = rw (← are, ← is, ← at, waits) (go p)
       where
-        go : (b : Bool) → b ≡ is_pairs (cond {A = Meeting} (not b) (Stopped (Held Place)) (Pairs e))
+        go : (b : Bool) → b ≡ is_ok (cond {A = Result Ends Answer} (not b) (Err (Held Place)) (Ok e))
         go true = refl
         go false = refl
 
@@ -135,7 +135,7 @@ module _ (l : List ℕ) (ok : Accepted l) where
           not_error : eqb own.state 6 ≡ false
           not_error = ne_eqb own.state 6 other
 
-          no_destination : qp_count ≤ d → Stopped (Held Peer) ≡ holding l q o
+          no_destination : qp_count ≤ d → Err (Held Peer) ≡ holding l q o
           unfolding hold_checks ready_checks pair_at
           no_destination h =
               let s = pair_sound l ok q b live in
@@ -156,7 +156,7 @@ module _ (l : List ℕ) (ok : Accepted l) where
                 go true e = rw (qp_row l d h (eqb-true (row_at qp_flag_t l d) 1 e), e, names_is far.dest q b)
                 go false e = rw (qp_live l d h, e)
 
-            peer_not_ready : answers there far q ≡ false → Stopped (Held Peer) ≡ holding l q o
+            peer_not_ready : answers there far q ≡ false → Err (Held Peer) ≡ holding l q o
             unfolding hold_checks ready_checks pair_at
             peer_not_ready a = rw (qp_row l q b live, not_error, ne_eqb d qp_count (λ z. omega arith), ready_is, a)
 
@@ -244,10 +244,10 @@ module _ (l : List ℕ) (q o : ℕ) (own : QueuePair) (s : Sender l q own) where
       go false = refl
 
   -- what the two rows' tests found, as one number
-  pub free_is : is_pairs (holding l q o) ≡ is_free l q o
+  pub free_is : is_ok (holding l q o) ≡ is_free l q o
   free_is = go (refusal (hold_checks (card l) q (bare o)))
     where
-      go : (k : Option ℕ) → is_pairs (met_by k (ends_at l q)) ≡ not (is_some k)
+      go : (k : Option ℕ) → is_ok (met_by k (ends_at l q)) ≡ not (is_some k)
       go none = refl
       go (some n) = refl
 
@@ -255,7 +255,7 @@ module _ (l : List ℕ) (q o : ℕ) (own : QueuePair) (s : Sender l q own) where
     sends : (row_at qp_t l q).state ≡ 6 → ⊥
     sends = subst (λ (p : QueuePair). p.state ≡ 6 → ⊥) s.row other
 
-    pub no_peer : qp_count ≤ own.dest → Stopped (Held Peer) ≡ holding l q o
+    pub no_peer : qp_count ≤ own.dest → Err (Held Peer) ≡ holding l q o
     no_peer h = no_destination l ok q o s.below s.live sends (subst (λ (p : QueuePair). qp_count ≤ p.dest) s.row h)
 
     module _ (h : own.dest < qp_count) (live : Bool) (lives : live ≡ is_live (row_at qp_flag_t l own.dest)) (far : QueuePair)
@@ -266,7 +266,7 @@ module _ (l : List ℕ) (q o : ℕ) (own : QueuePair) (s : Sender l q own) where
       seen : answers (is_live (row_at qp_flag_t l (row_at qp_t l q).dest)) (row_at qp_t l (row_at qp_t l q).dest) q ≡ answers live far q
       seen = rw (lives, at, s.row)
 
-      pub peer_silent : answers live far q ≡ false → Stopped (Held Peer) ≡ holding l q o
+      pub peer_silent : answers live far q ≡ false → Err (Held Peer) ≡ holding l q o
       peer_silent a = peer_not_ready l ok q o s.below s.live sends named (seen ∙ a)
 
       module _ (a : answers live far q ≡ true) where

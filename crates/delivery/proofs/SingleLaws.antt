@@ -2,14 +2,14 @@
 use mathlib.Core.Path.{◌≡◌, refl, sym, ap, ◌∙◌}
 use mathlib.Core.Bool.{Bool, true, false, not, ◌&&◌, false≢true}
 use mathlib.Core.List.{List, [], ◌∷◌}
-use Prim.Native.Nat.{ℕ}
+use Prim.Native.Nat.{ℕ, ◌<◌}
 use native.Mathlib.Omega.{arith}
 use lib.Dec.{eqb, leb}
-use lib.ListN.{take}
+use lib.ListN.{length, get_or, take}
 use borrow.Author.Tests.{eqb-true, not-true}
 use Rattle.wire.proofs.ScanLaws.{and_left, and_right}
 use Rattle.tables.specs.Limits.{most_message}
-use Rattle.tables.specs.Records.{is_inline, receive_sges}
+use Rattle.tables.specs.Records.{no_sge, is_inline, receive_sges}
 use Rattle.tables.specs.State.{card, no_record}
 use Rattle.tables.specs.declared.ReceiveRecord.{ReceiveRecord}
 use Rattle.tables.specs.declared.SendRecord.{SendRecord}
@@ -22,6 +22,11 @@ use Rattle.dma.proofs.SgeLaws.{one_bytes, one_total}
 use Rattle.delivery.specs.Deliver.{is_single, party_in, own_mask, far_mask, own_by, far_list, status_in, Sending, Delivery}
 use Rattle.delivery.specs.declared.meet.Ends.{Ends}
 use Rattle.delivery.proofs.RequestLaws.{fills_takes}
+
+-- the first entry of a list
+pub first_of : (ss : List Sge) → 0 < length ss → take 1 ss ≡ get_or ss 0 no_sge ∷ []
+first_of [] h = absurd (omega arith)
+first_of (s ∷ ss) h = refl
 
 module _ (s : SendRecord) (i : is_single s ≡ true) where
   abbrev lone : Bool

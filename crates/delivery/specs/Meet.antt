@@ -1,6 +1,6 @@
 -- The tests that hold a request, document 01, steps 1 and 2, over the rows of the two queue pairs; 02, M-103: the place that a sender in
 -- error needs. Assumes nothing.
-use Rattle.std.specs.Prelude.{◌≡◌, Bool, true, false, cond, not, ◌&&◌, ◌||◌, List, [], ℕ, ◌+◌, ◌<◌, eqb, leb, length}
+use Rattle.std.specs.Prelude.{◌≡◌, Result, Ok, Err, Bool, true, false, cond, not, ◌&&◌, ◌||◌, List, [], ℕ, ◌+◌, ◌<◌, eqb, leb, length}
 use Rattle.std.proofs.Math.Option.{Option, none, some}
 use Rattle.wire.specs.Checks.{refusal}
 use Rattle.wire.specs.Table.{row_at}
@@ -15,11 +15,10 @@ use Rattle.rules.specs.Lists.{is_some}
 use Rattle.rules.specs.Send.{hold_checks, can_receive}
 use Rattle.rules.specs.Touch.{takes}
 use Rattle.tables.specs.Records.{Request}
+use Rattle.rules.specs.declared.Answer.{Answer}
 use Rattle.rules.specs.declared.Answer.TheVariants.{Held}
 use Rattle.rules.specs.declared.Cause.TheVariants.{Peer, Place}
 use Rattle.delivery.specs.declared.meet.Ends.{Ends}
-use Rattle.delivery.specs.declared.meet.Meeting.{Meeting}
-use Rattle.delivery.specs.declared.meet.Meeting.TheVariants.{Pairs, Stopped}
 
 -- ---- the tests
 
@@ -32,11 +31,11 @@ abbrev pub places_by : (h k : QueueHead) → (same : Bool) → (opcode : ℕ) �
 places_by h k same o = leb (h.count + cond (takes o && same) 2 1) h.places && (not (takes o) || leb (k.count + 1) k.places)
 
 -- "Opcodes 1, 2, 3 with no receive waiting there: 5", and step 2's "else 6"
-abbrev pub peer_meeting : List ℕ → Ends → (opcode : ℕ) → Meeting
+abbrev pub peer_meeting : List ℕ → Ends → (opcode : ℕ) → Result Ends Answer
 peer_meeting l e o =
-    cond (takes o && eqb (row_at waiting_t l e.d).count 0) (Stopped (Held Peer))
+    cond (takes o && eqb (row_at waiting_t l e.d).count 0) (Err (Held Peer))
     (cond (not (places_by (row_at cq_t l e.own.scq) (row_at cq_t l e.far.rcq) (eqb e.own.scq e.far.rcq) o))
-    (Stopped (Held Place)) (Pairs e))
+    (Err (Held Place)) (Ok e))
 
 -- 02, M-103: "with one free place in its own send .. CQ", over the row of the sender in error
 abbrev pub has_place : List ℕ → QueuePair → Bool
@@ -60,17 +59,13 @@ bare o = record { wr = 0; opcode = o; signaled = false; inline = false; bytes = 
 abbrev pub ends_at : List ℕ → (q : ℕ) → Ends
 ends_at l q = let p = row_at qp_t l q in record { q = q; own = p; d = p.dest; far = row_at qp_t l p.dest }
 
-abbrev pub met_by : Option ℕ → Ends → Meeting
-met_by none e = Pairs e
-met_by (some n) e = Stopped (answered 0 (some n))
+abbrev pub met_by : Option ℕ → Ends → Result Ends Answer
+met_by none e = Ok e
+met_by (some n) e = Err (answered 0 (some n))
 
 -- the tests that hold a request of the opcode o on the queue pair q, which is not in error
-abbrev pub holding : List ℕ → (q o : ℕ) → Meeting
+abbrev pub holding : List ℕ → (q o : ℕ) → Result Ends Answer
 holding l q o = met_by (refusal (hold_checks (card l) q (bare o))) (ends_at l q)
-
-abbrev pub is_pairs : Meeting → Bool
-is_pairs (Pairs e) = true
-is_pairs (Stopped a) = false
 
 -- nothing holds such a request, whether the queue pair is in error or not
 abbrev pub is_free : List ℕ → (q o : ℕ) → Bool

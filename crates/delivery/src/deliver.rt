@@ -1,6 +1,6 @@
 // Steps 3 to 6 of document 01, "Posting and delivering": the status of a message, and the message moved. Definitions:
 // specs/Deliver.antt.
-ghost use Rattle.std.specs.Prelude.{◌≡◌, true, false, not, ◌||◌, [], ◌∷◌, ◌<◌, ◌≤◌, leb, length, take};
+ghost use Rattle.std.specs.Prelude.{◌≡◌, true, false, cond, not, ◌||◌, [], ◌∷◌, ◌<◌, ◌≤◌, leb, length, take};
 ghost use Rattle.wire.specs.Table.{row_at};
 ghost use Rattle.tables.specs.State.{card, no_record};
 ghost use Rattle.tables.specs.Layout.{state_size, waiting_t};
@@ -11,15 +11,15 @@ ghost use Rattle.dma.specs.Grants.{allows_all};
 ghost use Rattle.dma.specs.Moves.{Ready};
 ghost use Rattle.delivery.specs.Deliver.{party_in, taken_row, Sending, Delivery, is_single, total_by, own_mask, own_by, far_count, far_list, far_mask, Carries, carried, OwnSide};
 
+use crate::meet;
 use crate::meet::Ends;
-use crate::{meet, settle};
 use dma::{permit, transfer};
 use rules::Party;
 use tables::limits::{
     INLINE_FLAG, LOCAL_LENGTH, LOCAL_PROTECTION, LOCAL_WRITE, MOST_MESSAGE, READ, REMOTE_ACCESS,
     REMOTE_INVALID, REMOTE_READ, REMOTE_WRITE, SUCCESS,
 };
-use tables::{ReceiveRecord, SendRecord, Sge, queue};
+use tables::{QueuePair, ReceiveRecord, SendRecord, Sge, queue};
 
 fn is_inline(s: SendRecord) -> bool
     ensures { result ≡ is_inline s }
@@ -42,30 +42,16 @@ pub fn total_of(s: SendRecord, sges: [Sge; 4], inline: &[u8]) -> u64
     if is_inline(s) {
         return inline.len() as u64;
     }
-    if s.count == 1 {
-        let a = sges[0];
-        return a.length as u64;
-    }
-    permit::sges_total(sges, s.count as usize)
+    permit::sges_total(&sges[..s.count as usize])
 }
 
-// Whose use of memory the sender's is.
-fn own_party(e: Ends) -> Party
-    ensures { result ≡ party_in e.own }
+// Whose use of memory a queue pair's is.
+fn party_of(p: QueuePair) -> Party
+    ensures { result ≡ party_in p }
 {
     Party {
-        pd: e.own.pd,
-        rights: e.own.rights,
-    }
-}
-
-// Whose use of memory the peer's is.
-fn far_party(e: Ends) -> Party
-    ensures { result ≡ party_in e.far }
-{
-    Party {
-        pd: e.far.pd,
-        rights: e.far.rights,
+        pd: p.pd,
+        rights: p.rights,
     }
 }
 
@@ -77,7 +63,7 @@ fn own_permitted(state: &[u8], p: Party, s: SendRecord, sges: [Sge; 4]) -> bool
     if is_inline(s) {
         return true;
     }
-    permit::sges_permitted(state, p, own_mask(s.opcode), sges, s.count as usize)
+    permit::sges_permitted(state, p, own_mask(s.opcode), &sges[..s.count as usize])
 }
 
 // Whether a message of n bytes fits the receive that it fills.
@@ -88,29 +74,25 @@ fn fits_receive(opcode: u8, w: ReceiveRecord, n: u32) -> bool
     if !meet::fills_receive(opcode) {
         return true;
     }
-    let room = permit::sges_total(settle::receive_sges(w), w.count as usize);
-    n as u64 <= room
+    n as u64 <= permit::sges_total(&[w.first, w.second][..w.count as usize])
 }
 
 // The peer's side of a message of n bytes: the first n of the receive's, or the remote range.
-fn far_sges(s: SendRecord, w: ReceiveRecord, n: u32) -> [Sge; 4]
+fn far_sges(s: SendRecord, w: ReceiveRecord, n: u32) -> [Sge; 2]
     requires { w.count ≤ 2 }
     ensures { take (far_count s.opcode w) result ≡ far_list s w n }
 {
     if meet::fills_receive(s.opcode) {
-        return permit::cut_to(settle::receive_sges(w), w.count as usize, n);
+        let mut sges = [w.first, w.second];
+        permit::cut_to(&mut sges[..w.count as usize], n);
+        return sges;
     }
-    let none = Sge {
-        address: 0,
-        length: 0,
-        key: 0,
-    };
     let range = Sge {
         address: s.address,
         length: n,
         key: s.key,
     };
-    [range, none, none, none]
+    [range, Sge::default()]
 }
 
 // How many entries that is.
@@ -118,27 +100,41 @@ fn far_count(opcode: u8, w: ReceiveRecord) -> usize
     ensures { result ≡ far_count opcode w }
 {
     if meet::fills_receive(opcode) {
-        return w.count as usize;
+        w.count as usize
+    } else {
+        1
     }
-    1
 }
 
 // The access bit that the sender's side needs.
 fn own_mask(opcode: u8) -> u8
     ensures { result ≡ own_mask opcode }
 {
-    settle::choose(opcode == READ, LOCAL_WRITE, 0)
+    if opcode == READ { LOCAL_WRITE } else { 0 }
 }
 
 // The access bit that the peer's side needs.
 fn far_mask(opcode: u8) -> u8
     ensures { result ≡ far_mask opcode }
 {
-    settle::choose(
-        meet::fills_receive(opcode),
-        LOCAL_WRITE,
-        settle::choose(opcode == READ, REMOTE_READ, REMOTE_WRITE),
-    )
+    if meet::fills_receive(opcode) {
+        LOCAL_WRITE
+    } else if opcode == READ {
+        REMOTE_READ
+    } else {
+        REMOTE_WRITE
+    }
+}
+
+// The status where a byte of the peer's side is not permitted.
+fn far_fault(opcode: u8) -> u8
+    ensures { result ≡ cond (fills opcode) 7 8 }
+{
+    if meet::fills_receive(opcode) {
+        REMOTE_INVALID
+    } else {
+        REMOTE_ACCESS
+    }
 }
 
 // Step 6: moves the message, inline bytes or those of entries, to the peer's side or, for a read, back.
@@ -148,23 +144,22 @@ fn move_bytes(
     s: SendRecord,
     sges: [Sge; 4],
     inline: &[u8],
-    far: [Sge; 4],
-    count: usize,
+    far: &[Sge],
 )
-    requires ready { Ready state.now memory.old × (count ≤ 4) × (is_inline s ≡ false → s.count ≤ 4) }
-    requires carries { Carries (card state.now) s inline.now (take s.count sges) (take count far) }
-    ensures { memory.new ≡ carried (card state.now) s inline.now (take s.count sges) (take count far) memory.old }
+    requires ready { Ready state.now memory.old × (is_inline s ≡ false → s.count ≤ 4) }
+    requires carries { Carries (card state.now) s inline.now (take s.count sges) far.now }
+    ensures { memory.new ≡ carried (card state.now) s inline.now (take s.count sges) far.now memory.old }
 {
     if is_inline(s) {
-        transfer::scatter_inline(state, memory, inline, far, count);
+        transfer::scatter_inline(state, memory, inline, far);
         return;
     }
-    let own = s.count as usize;
+    let own = &sges[..s.count as usize];
     if s.opcode == READ {
-        transfer::transfer(state, memory, far, count, sges, own);
-        return;
+        transfer::transfer(state, memory, far, own);
+    } else {
+        transfer::transfer(state, memory, own, far);
     }
-    transfer::transfer(state, memory, sges, own, far, count);
 }
 
 // The receive that a request takes; nothing where it takes none.
@@ -175,17 +170,7 @@ pub fn taken_receive(state: &[u8], d: usize, opcode: u8) -> ReceiveRecord
     if meet::takes_receive(opcode) {
         return queue::oldest_receive(state, d);
     }
-    let none = Sge {
-        address: 0,
-        length: 0,
-        key: 0,
-    };
-    ReceiveRecord {
-        wr: 0,
-        count: 0,
-        first: none,
-        second: none,
-    }
+    ReceiveRecord::default()
 }
 
 // Steps 4 to 6 of a message of n bytes, of which step 3 found no fault.
@@ -206,13 +191,12 @@ fn deliver_far(
     if !fits_receive(s.opcode, w, n) {
         return REMOTE_INVALID;
     }
-    let far = far_sges(s, w, n);
-    let count = far_count(s.opcode, w);
-    let mask = far_mask(s.opcode);
-    if !permit::sges_permitted(state, far_party(e), mask, far, count) {
-        return settle::choose(meet::fills_receive(s.opcode), REMOTE_INVALID, REMOTE_ACCESS);
+    let sges_far = far_sges(s, w, n);
+    let far = &sges_far[..far_count(s.opcode, w)];
+    if !permit::sges_permitted(state, party_of(e.far), far_mask(s.opcode), far) {
+        return far_fault(s.opcode);
     }
-    move_bytes(state, memory, s, sges, inline, far, count);
+    move_bytes(state, memory, s, sges, inline, far);
     SUCCESS
 }
 
@@ -239,10 +223,24 @@ pub fn deliver_single(state: &[u8], memory: &mut [u8], e: Ends, s: SendRecord, a
         return LOCAL_LENGTH;
     }
     let n = a.length as u64;
-    if !permit::range_permitted(state, own_party(e), own_mask(s.opcode), a.address, n, a.key) {
+    if !permit::range_permitted(
+        state,
+        party_of(e.own),
+        own_mask(s.opcode),
+        a.address,
+        n,
+        a.key,
+    ) {
         return LOCAL_PROTECTION;
     }
-    if !permit::range_permitted(state, far_party(e), far_mask(s.opcode), s.address, n, s.key) {
+    if !permit::range_permitted(
+        state,
+        party_of(e.far),
+        far_mask(s.opcode),
+        s.address,
+        n,
+        s.key,
+    ) {
         return REMOTE_ACCESS;
     }
     move_single(state, memory, s, a);
@@ -267,7 +265,7 @@ pub fn deliver(
     if (MOST_MESSAGE as u64) < total {
         return LOCAL_LENGTH;
     }
-    if !own_permitted(state, own_party(e), s, sges) {
+    if !own_permitted(state, party_of(e.own), s, sges) {
         return LOCAL_PROTECTION;
     }
     deliver_far(state, memory, e, s, sges, inline, w, total as u32)

@@ -10,7 +10,7 @@ ghost use Rattle.delivery.specs.Meet.{Sender, is_free};
 ghost use Rattle.delivery.specs.Deliver.{is_single};
 ghost use Rattle.delivery.specs.Run.{request_by, Bounded, Met, Carried, CarriedOne, Ran, Flushed};
 
-use meet::{Ends, Meeting};
+use meet::Ends;
 use rules::{Answer, Cause};
 use tables::limits::{ERROR, FLUSHED};
 use tables::{QueuePair, SendRecord, Sge, rows};
@@ -65,7 +65,7 @@ pub fn run(
     ensures { Ran hold_checks state.old q (request_by s sges inline.now) memory.old result state.new memory.new }
 {
     match meet::meet(state, q, own, s.opcode) {
-        Meeting::Pairs(e) => {
+        Ok(e) => {
             if deliver::is_single(s) {
                 let a = sges[0];
                 let st = carry_single(state, memory, e, s, a);
@@ -74,7 +74,7 @@ pub fn run(
             let st = carry_out(state, memory, e, s, sges, inline);
             Answer::Done(st)
         }
-        Meeting::Stopped(a) => a,
+        Err(a) => a,
     }
 }
 

@@ -7,7 +7,7 @@ ghost use Rattle.tables.specs.Layout.{state_size, cq_t, qp_flag_t};
 ghost use Rattle.tables.specs.Limits.{cq_count, qp_count};
 ghost use Rattle.tables.specs.State.{card, is_live};
 ghost use Rattle.rules.specs.Touch.{takes, fills};
-ghost use Rattle.delivery.specs.Meet.{answers, places_by, peer_meeting, has_place, holding, is_pairs, is_free, Sender};
+ghost use Rattle.delivery.specs.Meet.{answers, places_by, peer_meeting, has_place, holding, is_free, Sender};
 
 use rules::{Answer, Cause};
 use tables::limits::{ERROR, QP_COUNT, RTR, RTS, SEND, SEND_IMM, WRITE_IMM};
@@ -20,13 +20,6 @@ pub struct Ends {
     pub own: QueuePair,
     pub d: usize,
     pub far: QueuePair,
-}
-
-// What the tests of the two queue pairs end with: the pairs, or the answer.
-#[derive(Clone, Copy)]
-pub enum Meeting {
-    Pairs(Ends),
-    Stopped(Answer),
 }
 
 // Opcodes 1 to 3 take a receive of the peer.
@@ -70,10 +63,7 @@ fn has_room(h: QueueHead, n: u32) -> bool
 fn places_needed(both: bool) -> u32
     ensures { result ≡ cond both 2 1 }
 {
-    if both {
-        return 2;
-    }
-    1
+    if both { 2 } else { 1 }
 }
 
 // A place for each completion: in the send queue s, and where a receive is taken in the receive queue r, which may be the same.
@@ -93,33 +83,33 @@ fn has_places(state: &[u8], s: u8, r: u8, opcode: u8) -> bool
 }
 
 // The tests of a peer that is ready: a receive that waits, and places for the completions.
-fn meet_peer(state: &[u8], e: Ends, opcode: u8) -> Meeting
+fn meet_peer(state: &[u8], e: Ends, opcode: u8) -> Result<Ends, Answer>
     requires { (e.own.scq < cq_count) × (e.far.rcq < cq_count) × (e.d < qp_count) × (length state.now ≡ state_size) }
     ensures { result ≡ peer_meeting state.now e opcode }
 {
     let h = rows::load_waiting(state, e.d);
     if takes_receive(opcode) & (h.count == 0) {
-        return Meeting::Stopped(Answer::Held(Cause::Peer));
+        return Err(Answer::Held(Cause::Peer));
     }
     if !has_places(state, e.own.scq, e.far.rcq, opcode) {
-        return Meeting::Stopped(Answer::Held(Cause::Place));
+        return Err(Answer::Held(Cause::Place));
     }
-    Meeting::Pairs(e)
+    Ok(e)
 }
 
 // The tests that hold a request of queue pair q, which is not in error: those of its peer.
-pub fn meet(state: &[u8], q: usize, own: QueuePair, opcode: u8) -> Meeting
+pub fn meet(state: &[u8], q: usize, own: QueuePair, opcode: u8) -> Result<Ends, Answer>
     requires { Sender state.now q own × (own.state ≡ 6 → ⊥) }
     ensures { result ≡ holding state.now q opcode }
 {
     let d = own.dest as usize;
     if QP_COUNT <= d {
-        return Meeting::Stopped(Answer::Held(Cause::Peer));
+        return Err(Answer::Held(Cause::Peer));
     }
     let live = is_live(state, d);
     let far = rows::load_qp(state, d);
     if !answers_to(live, far, q) {
-        return Meeting::Stopped(Answer::Held(Cause::Peer));
+        return Err(Answer::Held(Cause::Peer));
     }
     let e = Ends { q, own, d, far };
     meet_peer(state, e, opcode)
@@ -134,36 +124,6 @@ pub fn has_place(state: &[u8], own: QueuePair) -> bool
     has_room(h, 1)
 }
 
-// Whether a peer that is ready has a receive that waits, where one is taken, and there are places for the completions.
-fn peer_passes(state: &[u8], e: Ends, opcode: u8) -> bool
-    requires { (e.own.scq < cq_count) × (e.far.rcq < cq_count) × (e.d < qp_count) × (length state.now ≡ state_size) }
-    ensures { result ≡ is_pairs (peer_meeting state.now e opcode) }
-{
-    let h = rows::load_waiting(state, e.d);
-    if takes_receive(opcode) & (h.count == 0) {
-        return false;
-    }
-    has_places(state, e.own.scq, e.far.rcq, opcode)
-}
-
-// Whether nothing holds a request of queue pair q, which is not in error. The tests are those of meet; there the one caller gets the two rows.
-fn peer_free(state: &[u8], q: usize, own: QueuePair, opcode: u8) -> bool
-    requires { Sender state.now q own × (own.state ≡ 6 → ⊥) }
-    ensures { result ≡ is_free state.now q opcode }
-{
-    let d = own.dest as usize;
-    if QP_COUNT <= d {
-        return false;
-    }
-    let live = is_live(state, d);
-    let far = rows::load_qp(state, d);
-    if !answers_to(live, far, q) {
-        return false;
-    }
-    let e = Ends { q, own, d, far };
-    peer_passes(state, e, opcode)
-}
-
 // Whether nothing holds a request of queue pair q, which is live.
 pub fn is_free(state: &[u8], q: usize, opcode: u8) -> bool
     requires { (accepts state.now ≡ true) × (length state.now ≡ state_size) × (((card state.now).qp q).live ≡ true) }
@@ -173,5 +133,5 @@ pub fn is_free(state: &[u8], q: usize, opcode: u8) -> bool
     if own.state == ERROR {
         return has_place(state, own);
     }
-    peer_free(state, q, own, opcode)
+    meet(state, q, own, opcode).is_ok()
 }

@@ -1,10 +1,9 @@
 // What a post send leaves in the state: completions, error states, the receive consumed. Definitions: specs/Settle.antt.
-ghost use Rattle.std.specs.Prelude.{◌≡◌, true, false, cond, ◌<◌, ◌≤◌, eqb, length, take};
+ghost use Rattle.std.specs.Prelude.{◌≡◌, true, false, cond, ◌&&◌, ◌||◌, ◌<◌, ◌≤◌, eqb, length};
 ghost use Rattle.wire.specs.Table.{row_at};
 ghost use Rattle.tables.specs.Layout.{state_size, cq_t, waiting_t};
 ghost use Rattle.tables.specs.Queue.{push_bytes};
 ghost use Rattle.tables.specs.Limits.{cq_count, qp_count, most_places, most_message};
-ghost use Rattle.tables.specs.Records.{receive_sges};
 ghost use Rattle.tables.specs.State.{no_record};
 ghost use Rattle.rules.specs.Send.{sender_opcode, receiver_opcode, consumes};
 ghost use Rattle.rules.specs.Bytes.{push_all, error_bytes, consume_bytes};
@@ -18,44 +17,30 @@ use tables::limits::{
     ERROR, FLUSHED, LOCAL_LENGTH, LOCAL_PROTECTION, READ, READ_BACK, RECEIVED, RECEIVED_WRITE,
     REMOTE_INVALID, SEND_IMM, SENT, SIGNALED_FLAG, SUCCESS, WRITE_IMM, WRITTEN,
 };
-use tables::{Completion, QueuePair, ReceiveRecord, SendRecord, Sge, queue, rows};
-
-// x where b holds, else y.
-pub fn choose(b: bool, x: u8, y: u8) -> u8
-    ensures { result ≡ cond b x y }
-{
-    if b {
-        return x;
-    }
-    y
-}
+use tables::{Completion, QueuePair, ReceiveRecord, SendRecord, queue, rows};
 
 // The opcode of the sender's completion: 0 send, 1 write, 2 read.
 fn sender_opcode(opcode: u8) -> u8
     ensures { result ≡ sender_opcode opcode }
 {
-    choose(
-        opcode == READ,
-        READ_BACK,
-        choose(meet::fills_receive(opcode), SENT, WRITTEN),
-    )
+    if opcode == READ {
+        READ_BACK
+    } else if meet::fills_receive(opcode) {
+        SENT
+    } else {
+        WRITTEN
+    }
 }
 
 // The opcode of the receiver's completion.
 fn receiver_opcode(opcode: u8) -> u8
     ensures { result ≡ receiver_opcode opcode }
 {
-    choose(opcode == WRITE_IMM, RECEIVED_WRITE, RECEIVED)
-}
-
-// n where b holds, else 0.
-fn kept_if(b: bool, n: u32) -> u32
-    ensures { result ≡ cond b n 0 }
-{
-    if b {
-        return n;
+    if opcode == WRITE_IMM {
+        RECEIVED_WRITE
+    } else {
+        RECEIVED
     }
-    0
 }
 
 // The length that a completion of a message of n bytes tells: "the total on success, else 0".
@@ -63,25 +48,18 @@ fn told_length(st: u8, n: u64) -> u32
     requires { st ≡ 0 → n ≤ most_message }
     ensures { result ≡ cond (eqb st 0) n 0 }
 {
-    if st == SUCCESS {
-        return n as u32;
-    }
-    0
+    if st == SUCCESS { n as u32 } else { 0 }
 }
 
-// A receive's entries; it has at most two.
-pub fn receive_sges(w: ReceiveRecord) -> [Sge; 4]
-    requires { w.count ≤ 2 }
-    ensures { take w.count result ≡ receive_sges w }
+// The immediate that the receiver's completion tells: on success that of opcodes 1 and 3, else zero.
+fn told_imm(s: SendRecord, st: u8) -> u32
+    ensures { result ≡ cond (eqb st 0 && (eqb s.opcode 1 || eqb s.opcode 3)) s.imm 0 }
 {
-    let none = Sge {
-        address: 0,
-        length: 0,
-        key: 0,
-    };
-    let a = w.first;
-    let b = w.second;
-    [a, b, none, none]
+    if (st == SUCCESS) & ((s.opcode == WRITE_IMM) | (s.opcode == SEND_IMM)) {
+        s.imm
+    } else {
+        0
+    }
 }
 
 // The receiver's status: the message does not fit, or a byte of the receive is not permitted.
@@ -92,8 +70,7 @@ fn receiver_status(st: u8, n: u64, w: ReceiveRecord) -> u8
     if st == SUCCESS {
         return SUCCESS;
     }
-    let room = permit::sges_total(receive_sges(w), w.count as usize);
-    if room < n {
+    if permit::sges_total(&[w.first, w.second][..w.count as usize]) < n {
         return LOCAL_LENGTH;
     }
     LOCAL_PROTECTION
@@ -144,13 +121,12 @@ fn put_receiver(state: &mut [u8], e: Ends, s: SendRecord, w: ReceiveRecord, st: 
     }
     let opcode = receiver_opcode(s.opcode);
     let length = told_length(st, n);
-    let carries = (st == SUCCESS) & ((s.opcode == WRITE_IMM) | (s.opcode == SEND_IMM));
     let entry = Completion {
         wr: w.wr,
         status: receiver_status(st, n, w),
         opcode,
         length,
-        imm: kept_if(carries, s.imm),
+        imm: told_imm(s, st),
         owner: e.d as u32,
     };
     queue::push_completion(state, e.far.rcq as usize, entry);
@@ -168,20 +144,10 @@ fn fail_if(state: &mut [u8], b: bool, q: usize)
     requires { (q < qp_count) × (length state.old ≡ state_size) }
     ensures { state.new ≡ error_bytes b state.old q }
 {
-    if !b {
-        return;
+    if b {
+        let p = rows::load_qp(state, q);
+        rows::store_qp(state, q, QueuePair { state: ERROR, ..p });
     }
-    let p = rows::load_qp(state, q);
-    let failed = QueuePair {
-        pd: p.pd,
-        signal: p.signal,
-        scq: p.scq,
-        rcq: p.rcq,
-        state: ERROR,
-        dest: p.dest,
-        rights: p.rights,
-    };
-    rows::store_qp(state, q, failed);
 }
 
 // The oldest receive of queue pair q is consumed, where b holds.
@@ -189,10 +155,9 @@ fn consume_if(state: &mut [u8], b: bool, q: usize)
     requires { (q < qp_count) × (length state.old ≡ state_size) × (b ≡ true → 0 < (row_at waiting_t state.old q).count) }
     ensures { state.new ≡ consume_bytes b state.old q }
 {
-    if !b {
-        return;
+    if b {
+        queue::take_receive(state, q);
     }
-    queue::take_receive(state, q);
 }
 
 // What a delivery with a status leaves in the state: its completions, the sender's error, the receive consumed, the peer's error.

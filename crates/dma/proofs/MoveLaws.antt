@@ -5,10 +5,8 @@ use mathlib.Core.List.{List, [], ◌∷◌, ◌++◌, append_assoc, append-nil, 
 use Prim.Native.Nat.{ℕ, zero, suc, ◌+◌, ◌-◌, ◌≤◌, ◌<◌}
 use native.Mathlib.Nat.{add-zero, zero-add, suc-add}
 use native.Mathlib.Omega.{arith}
-use lib.Dec.{eqb}
 use lib.ListN.{length, get_or, take, drop, length-drop, length-map}
 use lib.Seq.{paste, drop-drop, take-paste, take-length}
-use borrow.Author.Tests.{eqb-true}
 use Rattle.wire.proofs.ScanLaws.{and_left, and_right}
 use Rattle.tables.specs.Card.{Card}
 use Rattle.tables.specs.Records.{no_sge}
@@ -19,7 +17,7 @@ use Rattle.rules.specs.Touch.{Byte, range, sge_bytes, sge_total}
 use Rattle.rules.proofs.Runs.{run, map_run, read_run, store_run, stored_join, stored_take}
 use Rattle.rules.proofs.Stored.{sge_length}
 use Rattle.dma.specs.Moves.{mapped, mapped_all, places, place_of, front, back, Lies, Splits, read_bytes, moved, Message}
-use Rattle.dma.proofs.SgeLaws.{one_bytes, one_total, alone, left_cons, left_none, left_tests, left_total}
+use Rattle.dma.proofs.SgeLaws.{one_bytes, one_total, left_cons, left_none, left_tests, left_total}
 
 -- ---- a copy by way of a staging list
 
@@ -155,46 +153,45 @@ module _ (c : Card) (m : List ℕ) (s : Sge) where
 
 -- ---- a list of entries: what a loop over it knows of those left, the entry of the turn, and those left after it
 
-pub record Left (c : Card) (ss : List Sge) (count i at : ℕ) : Type 0 where
-  pub turns : i ≤ count
-  pub sum : at + sge_total (drop i (take count ss)) ≡ sge_total (take count ss)
-  pub maps : mapped_all c (sge_bytes (drop i (take count ss))) ≡ true
+pub record Left (c : Card) (ss : List Sge) (i at : ℕ) : Type 0 where
+  pub sum : at + sge_total (drop i ss) ≡ sge_total ss
+  pub maps : mapped_all c (sge_bytes (drop i ss)) ≡ true
 
-pub record Turn (c : Card) (ss : List Sge) (count i at : ℕ) : Type 0 where
-  pub cons : drop i (take count ss) ≡ get_or ss i no_sge ∷ drop (i + 1) (take count ss)
+pub record Turn (c : Card) (ss : List Sge) (i at : ℕ) : Type 0 where
+  pub cons : drop i ss ≡ get_or ss i no_sge ∷ drop (i + 1) ss
   pub maps : mapped_all c (sge_bytes (get_or ss i no_sge ∷ [])) ≡ true
-  pub fits : at + (get_or ss i no_sge).length ≤ sge_total (take count ss)
-  pub next : Left c ss count (i + 1) (at + (get_or ss i no_sge).length)
+  pub fits : at + (get_or ss i no_sge).length ≤ sge_total ss
+  pub next : Left c ss (i + 1) (at + (get_or ss i no_sge).length)
 
-pub turn : (c : Card) (ss : List Sge) (count i at : ℕ) → Left c ss count i at → count ≤ length ss → i < count → Turn c ss count i at
-turn c ss count i at l h k =
+pub turn : (c : Card) (ss : List Sge) (i at : ℕ) → Left c ss i at → i < length ss → Turn c ss i at
+turn c ss i at l k =
     let s : Sge = get_or ss i no_sge in
-    let rest : List Sge = drop (i + 1) (take count ss) in
+    let rest : List Sge = drop (i + 1) ss in
     let m : (mapped_all c (sge_bytes (s ∷ [])) && mapped_all c (sge_bytes rest)) ≡ true =
-    rw (one_bytes s) (sym (left_tests ss count i (mapped c) h k) ∙ l.maps) in
-    let n = left_total ss count i h k in
+    rw (one_bytes s) (sym (left_tests ss i (mapped c) k) ∙ l.maps) in
+    let n = left_total ss i k in
     let sum = l.sum in
     record {
-      cons = left_cons ss count i h k;
+      cons = left_cons ss i k;
       maps = and_left (mapped_all c (sge_bytes (s ∷ []))) (mapped_all c (sge_bytes rest)) m;
       fits = omega arith;
-      next = record { turns = omega arith; sum = omega arith; maps = and_right (mapped_all c (sge_bytes (s ∷ []))) (mapped_all c (sge_bytes rest)) m };
+      next = record { sum = omega arith; maps = and_right (mapped_all c (sge_bytes (s ∷ []))) (mapped_all c (sge_bytes rest)) m };
     }
 
-module _ (c : Card) (m : List ℕ) (ss : List Sge) (count i : ℕ) (done : count ≤ i) where
-  pub gathered : (at : ℕ) (st : List ℕ) → at + sge_total (drop i (take count ss)) ≡ sge_total (take count ss)
-      → take at st ++ read_bytes m (places c (drop i (take count ss))) ≡ read_bytes m (places c (take count ss))
-      → take (sge_total (take count ss)) st ≡ read_bytes m (places c (take count ss))
+module _ (c : Card) (m : List ℕ) (ss : List Sge) (i : ℕ) (done : length ss ≤ i) where
+  pub gathered : (at : ℕ) (st : List ℕ) → at + sge_total (drop i ss) ≡ sge_total ss
+      → take at st ++ read_bytes m (places c (drop i ss)) ≡ read_bytes m (places c ss)
+      → take (sge_total ss) st ≡ read_bytes m (places c ss)
   unfolding sge_total sge_bytes
   gathered at st sum e =
-      let none = left_none ss count i done in
-      let n : at ≡ sge_total (take count ss) = sym (add-zero at) ∙ ap (λ (l : List Sge). at + sge_total l) (sym none) ∙ sum in
+      let none = left_none ss i done in
+      let n : at ≡ sge_total ss = sym (add-zero at) ∙ ap (λ (l : List Sge). at + sge_total l) (sym none) ∙ sum in
       ap (λ (k : ℕ). take k st) (sym n) ∙ sym (append-nil (take at st))
       ∙ ap (λ (l : List Sge). take at st ++ read_bytes m (places c l)) (sym none) ∙ e
 
-  pub scattered : (whole vs : List ℕ) → stored m (places c (drop i (take count ss))) vs ≡ whole → m ≡ whole
+  pub scattered : (whole vs : List ℕ) → stored m (places c (drop i ss)) vs ≡ whole → m ≡ whole
   unfolding sge_bytes stored
-  scattered whole vs e = ap (λ (l : List Sge). stored m (places c l) vs) (sym (left_none ss count i done)) ∙ e
+  scattered whole vs e = ap (λ (l : List Sge). stored m (places c l) vs) (sym (left_none ss i done)) ∙ e
 
 -- ---- a whole message, by way of a staging list that begins with its values
 
@@ -211,14 +208,6 @@ module _ (c : Card) (m m' st : List ℕ) (ts : List Sge) (w : m' ≡ stored m (p
 
   pub inlined : (z vs : List ℕ) → sge_total ts ≡ length vs → st ≡ paste z 0 (drop 0 vs) (length vs) → m' ≡ stored m (places c ts) vs
   inlined z vs k e = staged vs (length vs) k (ap (take (length vs)) e ∙ front_of z vs (length vs) (omega arith) ∙ take-length vs)
-
--- a message of one entry to one entry
-pub single : (ss ts : List Sge) (nf nt : ℕ) → (eqb nf 1 && eqb nt 1) ≡ true → length ss ≡ 4 → length ts ≡ 4
-    → (take nf ss ≡ get_or ss 0 no_sge ∷ []) × (take nt ts ≡ get_or ts 0 no_sge ∷ [])
-single ss ts nf nt t x y = (
-  alone ss nf (eqb-true nf 1 (and_left (eqb nf 1) (eqb nt 1) t)) (omega arith),
-  alone ts nt (eqb-true nt 1 (and_right (eqb nf 1) (eqb nt 1) t)) (omega arith),
-)
 
 -- in one move
 pub moved_one : (c : Card) (m m' : List ℕ) (s t : Sge) (a b : ℕ) → Lies c (length m) s → Lies c (length m) t → a ≡ place_of c s → b ≡ place_of c t

@@ -18,9 +18,9 @@ use Rattle.rules.specs.Lists.{maybe}
 use Rattle.rules.specs.Permit.{lookup}
 use Rattle.rules.specs.Touch.{Byte, range}
 use Rattle.rules.specs.declared.Party.{Party}
+use Rattle.std.specs.Prelude.{None, Some}
+use Rattle.std.specs.Prelude as std
 use Rattle.dma.specs.Grants.{region_of, admits, within, allows, allows_all, spans}
-use Rattle.dma.specs.declared.permit.Found.{Found}
-use Rattle.dma.specs.declared.permit.Found.TheVariants.{Live, Nothing}
 
 -- ---- the bytes of a range
 
@@ -112,22 +112,22 @@ module _ (c : Card) (party : Party) (mask k : ℕ) where
 
   -- what the look-up of the key says of a range that is not empty
   module _ (n a : ℕ) (some_bytes : 0 < n) where
-    abbrev row : Registration → Found
-    row g = Live (region_row 0 g (c.mr (k / 256)).variant)
+    abbrev row : Registration → std.Option Region
+    row g = Some (region_row 0 g (c.mr (k / 256)).variant)
 
-    pub range_none : region_of c.mr k ≡ Nothing → allows_all c party mask (range a k n) ≡ false
+    pub range_none : region_of c.mr k ≡ None → allows_all c party mask (range a k n) ≡ false
     unfolding region_of
     range_none e = go (lookup c.mr k) refl e
       where
-        go : (o : Option Registration) → lookup c.mr k ≡ o → maybe Nothing row o ≡ Nothing → allows_all c party mask (range a k n) ≡ false
+        go : (o : Option Registration) → lookup c.mr k ≡ o → maybe None row o ≡ None → allows_all c party mask (range a k n) ≡ false
         go none is q = none_of n a some_bytes is
         go (some g) is q = let z : ◌≡◌ {A = ℕ} 0 1 = cc in absurd (omega arith)
 
-    pub range_found : (r : Region) → region_of c.mr k ≡ Live r → allows_all c party mask (range a k n) ≡ ends (registration_of r) a n
+    pub range_found : (r : Region) → region_of c.mr k ≡ Some r → allows_all c party mask (range a k n) ≡ ends (registration_of r) a n
     unfolding region_of
     range_found r e = go (lookup c.mr k) refl e
       where
-        go : (o : Option Registration) → lookup c.mr k ≡ o → maybe Nothing row o ≡ Live r → allows_all c party mask (range a k n) ≡ ends (registration_of r) a n
+        go : (o : Option Registration) → lookup c.mr k ≡ o → maybe None row o ≡ Some r → allows_all c party mask (range a k n) ≡ ends (registration_of r) a n
         go none is q = let z : ◌≡◌ {A = ℕ} 0 1 = cc in absurd (omega arith)
         go (some g) is q =
             let p : region_row 0 g (c.mr (k / 256)).variant ≡ r = cc in

@@ -26,7 +26,7 @@ use Rattle.rules.specs.Permit.{lookup, key_of}
 use Rattle.rules.specs.Touch.{Byte, byte_in}
 use Rattle.dma.specs.Grants.{region_of, within}
 use Rattle.dma.specs.Moves.{mapped}
-use Rattle.dma.specs.declared.permit.Found.TheVariants.{Live, Nothing}
+use Rattle.std.specs.Prelude.{None, Some}
 use Rattle.dma.proofs.RangeLaws.{Within, within_facts}
 
 -- a region's row without its kind
@@ -39,25 +39,25 @@ module _ (l : List ℕ) (key : ℕ) where
   abbrev n : ℕ
   n = key / 256
 
-  nothing : lookup (card l).mr key ≡ none → region_of (card l).mr key ≡ Nothing
+  nothing : lookup (card l).mr key ≡ none → region_of (card l).mr key ≡ None
   unfolding region_of
   nothing e = rw e
 
-  pub region_out : mr_count ≤ n → region_of (card l).mr key ≡ Nothing
+  pub region_out : mr_count ≤ n → region_of (card l).mr key ≡ None
   unfolding lookup
   region_out h = nothing (rw (mr_out l n h))
 
-  pub region_free : n < mr_count → (row_at mr_flag_t l n ≡ 1 → ⊥) → region_of (card l).mr key ≡ Nothing
+  pub region_free : n < mr_count → (row_at mr_flag_t l n ≡ 1 → ⊥) → region_of (card l).mr key ≡ None
   unfolding lookup
   region_free h f = nothing (rw (mr_live l n h, ne_eqb (row_at mr_flag_t l n) 1 f))
 
-  pub region_other : n < mr_count → row_at mr_flag_t l n ≡ 1 → ((row_at mr_t l n).variant ≡ key % 256 → ⊥) → region_of (card l).mr key ≡ Nothing
+  pub region_other : n < mr_count → row_at mr_flag_t l n ≡ 1 → ((row_at mr_t l n).variant ≡ key % 256 → ⊥) → region_of (card l).mr key ≡ None
   unfolding lookup
   region_other h e f =
       nothing
       (rw (mr_live l n h, mr_variant l n h, eq-eqb (row_at mr_flag_t l n) 1 e, ne_eqb (256 * n + (row_at mr_t l n).variant) key (λ q. f (omega arith))))
 
-  pub region_live : n < mr_count → row_at mr_flag_t l n ≡ 1 → (row_at mr_t l n).variant ≡ key % 256 → region_of (card l).mr key ≡ Live (plain (row_at mr_t l n))
+  pub region_live : n < mr_count → row_at mr_flag_t l n ≡ 1 → (row_at mr_t l n).variant ≡ key % 256 → region_of (card l).mr key ≡ Some (plain (row_at mr_t l n))
   unfolding region_of lookup
   region_live h e f =
       rw (

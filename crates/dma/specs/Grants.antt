@@ -1,21 +1,20 @@
 -- Document 01, "Permitted byte", and 02, M-104, as the code asks them: by a party and by a mask of access bits, where the rules have a queue
 -- pair and a use. The two are one: proofs/UseLaws.antt. Assumes nothing.
-use Rattle.std.specs.Prelude.{Bool, false, ◌&&◌, ◌||◌, List, ℕ, ◌+◌, ◌/◌, eqb, leb, ltb}
+use Rattle.std.specs.Prelude.{Option, None, Some, Bool, false, ◌&&◌, ◌||◌, List, ℕ, ◌+◌, ◌/◌, eqb, leb, ltb}
 use Rattle.wire.specs.Checks.{has}
 use Rattle.wire.specs.Scan.{all}
 use Rattle.tables.specs.Card.{Card, Mr}
+use Rattle.tables.specs.declared.Region.{Region}
 use Rattle.tables.specs.declared.Registration.{Registration}
 use Rattle.rules.specs.Bytes.{region_row}
 use Rattle.rules.specs.Lists.{maybe}
 use Rattle.rules.specs.Permit.{lookup}
 use Rattle.rules.specs.Touch.{Byte}
 use Rattle.rules.specs.declared.Party.{Party}
-use Rattle.dma.specs.declared.permit.Found.{Found}
-use Rattle.dma.specs.declared.permit.Found.TheVariants.{Live, Nothing}
 
 -- the region that "a live MR has this key" speaks of, as its row holds it but for its kind
-unfoldable pub region_of : (ℕ → Mr) → (key : ℕ) → Found
-region_of mr key = maybe Nothing (λ g. Live (region_row 0 g (mr (key / 256)).variant)) (lookup mr key)
+unfoldable pub region_of : (ℕ → Mr) → (key : ℕ) → Option Region
+region_of mr key = maybe None (λ g. Some (region_row 0 g (mr (key / 256)).variant)) (lookup mr key)
 
 -- "the use's right: local reading none, local writing bit 1, remote write 2, remote read 4": the mask is the bit, 0 for none
 abbrev pub grants : (mask access : ℕ) → Bool

@@ -58,18 +58,14 @@ fn copy_out(state: &[u8], memory: &[u8], s: Sge, staging: &mut [u8], at: usize)
     ensures { take (at + s.length) staging.new ≡ take at staging.old ++ read_bytes memory.now (places (card state.now) (s ∷ [])) }
 {
     let n = run_of(state, memory, s);
-    let a = Sge {
-        address: s.address,
-        length: n,
-        key: s.key,
-    };
+    let a = Sge { length: n, ..s };
     let from = place_of(state, a);
     wire::copy_bytes(staging, at, memory, from, n as usize);
     if n < s.length {
         let b = Sge {
             address: s.address + n as u64,
             length: s.length - n,
-            key: s.key,
+            ..s
         };
         let then = place_of(state, b);
         wire::copy_bytes(staging, at + n as usize, memory, then, b.length as usize);
@@ -83,53 +79,45 @@ fn copy_in(state: &[u8], memory: &mut [u8], s: Sge, staging: &[u8], at: usize)
     ensures { memory.new ≡ stored memory.old (places (card state.now) (s ∷ [])) (drop at staging.now) }
 {
     let n = run_of(state, memory, s);
-    let a = Sge {
-        address: s.address,
-        length: n,
-        key: s.key,
-    };
+    let a = Sge { length: n, ..s };
     let to = place_of(state, a);
     wire::copy_bytes(memory, to, staging, at, n as usize);
     if n < s.length {
         let b = Sge {
             address: s.address + n as u64,
             length: s.length - n,
-            key: s.key,
+            ..s
         };
         let then = place_of(state, b);
         wire::copy_bytes(memory, then, staging, at + n as usize, b.length as usize);
     }
 }
 
-// Gathers the first count entries, one after the other, into staging.
-fn gather(state: &[u8], memory: &[u8], sges: [Sge; 4], count: usize, staging: &mut [u8])
+// Gathers the entries, one after the other, into staging.
+fn gather(state: &[u8], memory: &[u8], sges: &[Sge], staging: &mut [u8])
     requires ready { Ready state.now memory.now }
-    requires count_bound { (count ≤ 4) × (mapped_all (card state.now) (sge_bytes (take count sges)) ≡ true) × (sge_total (take count sges) ≤ length staging.old) × (sge_total (take count sges) ≤ most_message) }
-    ensures { take (sge_total (take count sges)) staging.new ≡ read_bytes memory.now (places (card state.now) (take count sges)) }
+    requires sources { mapped_all (card state.now) (sge_bytes sges.now) ≡ true }
+    requires room { (sge_total sges.now ≤ length staging.old) × (sge_total sges.now ≤ most_message) }
+    ensures { take (sge_total sges.now) staging.new ≡ read_bytes memory.now (places (card state.now) sges.now) }
 {
-    let mut i = 0;
     let mut at = 0;
-    while i < count {
-        let s = sges[i];
-        copy_out(state, memory, s, staging, at);
+    for s in sges {
+        copy_out(state, memory, *s, staging, at);
         at += s.length as usize;
-        i += 1;
     }
 }
 
-// Scatters staging to the first count entries, one after the other.
-fn scatter(state: &[u8], memory: &mut [u8], sges: [Sge; 4], count: usize, staging: &[u8])
+// Scatters staging to the entries, one after the other.
+fn scatter(state: &[u8], memory: &mut [u8], sges: &[Sge], staging: &[u8])
     requires ready { Ready state.now memory.old }
-    requires count_bound { (count ≤ 4) × (mapped_all (card state.now) (sge_bytes (take count sges)) ≡ true) × (sge_total (take count sges) ≤ length staging.now) × (sge_total (take count sges) ≤ most_message) }
-    ensures { memory.new ≡ stored memory.old (places (card state.now) (take count sges)) staging.now }
+    requires targets { mapped_all (card state.now) (sge_bytes sges.now) ≡ true }
+    requires room { (sge_total sges.now ≤ length staging.now) × (sge_total sges.now ≤ most_message) }
+    ensures { memory.new ≡ stored memory.old (places (card state.now) sges.now) staging.now }
 {
-    let mut i = 0;
     let mut at = 0;
-    while i < count {
-        let s = sges[i];
-        copy_in(state, memory, s, staging, at);
+    for s in sges {
+        copy_in(state, memory, *s, staging, at);
         at += s.length as usize;
-        i += 1;
     }
 }
 
@@ -155,33 +143,15 @@ fn deliver_between(memory: &mut [u8], a: usize, b: usize, n: usize, back: bool)
     deliver_one(memory, a, b, n);
 }
 
-// Moves one entry's bytes to one entry, each of which lies in one run of memory.
-fn transfer_one(state: &[u8], memory: &mut [u8], from: Sge, to: Sge)
+// Moves the bytes of the entries from to the entries to.
+fn transfer_many(state: &[u8], memory: &mut [u8], from: &[Sge], to: &[Sge])
     requires ready { Ready state.now memory.old }
-    requires message { Message (card state.now) (from ∷ []) (to ∷ []) × Lies (card state.now) (length memory.old) from × Lies (card state.now) (length memory.old) to }
-    ensures { memory.new ≡ moved memory.old (places (card state.now) (from ∷ [])) (places (card state.now) (to ∷ [])) }
-{
-    let a = place_of(state, from);
-    let b = place_of(state, to);
-    deliver_one(memory, a, b, from.length as usize);
-}
-
-// Moves the bytes of the first nf entries of from to the first nt entries of to.
-fn transfer_many(
-    state: &[u8],
-    memory: &mut [u8],
-    from: [Sge; 4],
-    nf: usize,
-    to: [Sge; 4],
-    nt: usize,
-)
-    requires ready { Ready state.now memory.old }
-    requires nf_bound { (nf ≤ 4) × (nt ≤ 4) × Message (card state.now) (take nf from) (take nt to) }
-    ensures { memory.new ≡ moved memory.old (places (card state.now) (take nf from)) (places (card state.now) (take nt to)) }
+    requires message { Message (card state.now) from.now to.now }
+    ensures { memory.new ≡ moved memory.old (places (card state.now) from.now) (places (card state.now) to.now) }
 {
     let mut staging = [0u8; 4096];
-    gather(state, memory, from, nf, &mut staging);
-    scatter(state, memory, to, nt, &staging);
+    gather(state, memory, from, &mut staging);
+    scatter(state, memory, to, &staging);
 }
 
 // Moves one entry's bytes to one entry: one move where no page ends in between.
@@ -191,22 +161,12 @@ pub fn transfer_single(state: &[u8], memory: &mut [u8], from: Sge, to: Sge)
     ensures { memory.new ≡ moved memory.old (places (card state.now) (from ∷ [])) (places (card state.now) (to ∷ [])) }
 {
     if (run_of(state, memory, from) == from.length) & (run_of(state, memory, to) == to.length) {
-        transfer_one(state, memory, from, to);
+        let a = place_of(state, from);
+        let b = place_of(state, to);
+        deliver_one(memory, a, b, from.length as usize);
         return;
     }
-    let none = Sge {
-        address: 0,
-        length: 0,
-        key: 0,
-    };
-    transfer_many(
-        state,
-        memory,
-        [from, none, none, none],
-        1,
-        [to, none, none, none],
-        1,
-    );
+    transfer_many(state, memory, &[from], &[to]);
 }
 
 // Moves the bytes of the entry a to the entry b, or where back holds those of b to a: one move where no page ends in between. Called from one
@@ -222,33 +182,23 @@ pub fn transfer_between(state: &[u8], memory: &mut [u8], a: Sge, b: Sge, back: b
         deliver_between(memory, x, y, a.length as usize, back);
         return;
     }
-    let none = Sge {
-        address: 0,
-        length: 0,
-        key: 0,
-    };
-    let own = [a, none, none, none];
-    let far = [b, none, none, none];
     if back {
-        transfer_many(state, memory, far, 1, own, 1);
+        transfer_many(state, memory, &[b], &[a]);
         return;
     }
-    transfer_many(state, memory, own, 1, far, 1);
+    transfer_many(state, memory, &[a], &[b]);
 }
 
-// Moves the bytes of the first nf entries of from to the first nt entries of to, of one entry to one entry by themselves.
-pub fn transfer(state: &[u8], memory: &mut [u8], from: [Sge; 4], nf: usize, to: [Sge; 4], nt: usize)
+// Moves the bytes of the entries from to the entries to, of one entry to one entry by themselves.
+pub fn transfer(state: &[u8], memory: &mut [u8], from: &[Sge], to: &[Sge])
     requires ready { Ready state.now memory.old }
-    requires nf_bound { (nf ≤ 4) × (nt ≤ 4) × Message (card state.now) (take nf from) (take nt to) }
-    ensures { memory.new ≡ moved memory.old (places (card state.now) (take nf from)) (places (card state.now) (take nt to)) }
+    requires message { Message (card state.now) from.now to.now }
+    ensures { memory.new ≡ moved memory.old (places (card state.now) from.now) (places (card state.now) to.now) }
 {
-    if (nf == 1) & (nt == 1) {
-        let s = from[0];
-        let t = to[0];
-        transfer_single(state, memory, s, t);
-        return;
+    match (from, to) {
+        ([s], [t]) => transfer_single(state, memory, *s, *t),
+        _ => transfer_many(state, memory, from, to),
     }
-    transfer_many(state, memory, from, nf, to, nt);
 }
 
 // Writes inline bytes to a place of memory.
@@ -262,41 +212,32 @@ fn deliver_inline(memory: &mut [u8], bytes: &[u8], to: usize)
     wire::copy_bytes(memory, to, &staging, 0, n);
 }
 
-// Writes inline bytes to one entry that lies in one run of memory.
-fn inline_one(state: &[u8], memory: &mut [u8], bytes: &[u8], to: Sge)
+// Writes inline bytes to the entries to.
+fn inline_many(state: &[u8], memory: &mut [u8], bytes: &[u8], to: &[Sge])
     requires ready { Ready state.now memory.old }
-    requires lies { Lies (card state.now) (length memory.old) to }
-    requires to_value { (mapped_all (card state.now) (sge_bytes (to ∷ [])) ≡ true) × (sge_total (to ∷ []) ≡ length bytes.now) × (length bytes.now ≤ most_inline) }
-    ensures { memory.new ≡ stored memory.old (places (card state.now) (to ∷ [])) bytes.now }
-{
-    let at = place_of(state, to);
-    deliver_inline(memory, bytes, at);
-}
-
-// Writes inline bytes to the first nt entries of to.
-fn inline_many(state: &[u8], memory: &mut [u8], bytes: &[u8], to: [Sge; 4], nt: usize)
-    requires ready { Ready state.now memory.old }
-    requires nt_bound { (nt ≤ 4) × (mapped_all (card state.now) (sge_bytes (take nt to)) ≡ true) × (sge_total (take nt to) ≡ length bytes.now) × (length bytes.now ≤ most_inline) }
-    ensures { memory.new ≡ stored memory.old (places (card state.now) (take nt to)) bytes.now }
+    requires targets { mapped_all (card state.now) (sge_bytes to.now) ≡ true }
+    requires total { (sge_total to.now ≡ length bytes.now) × (length bytes.now ≤ most_inline) }
+    ensures { memory.new ≡ stored memory.old (places (card state.now) to.now) bytes.now }
 {
     let mut staging = [0u8; 4096];
     let n = bytes.len();
     wire::copy_bytes(&mut staging, 0, bytes, 0, n);
-    scatter(state, memory, to, nt, &staging);
+    scatter(state, memory, to, &staging);
 }
 
-// Writes inline bytes, which stand in the caller's record, to the first nt entries of to; those of one entry are one move where no page ends in between.
-pub fn scatter_inline(state: &[u8], memory: &mut [u8], bytes: &[u8], to: [Sge; 4], nt: usize)
+// Writes inline bytes, which stand in the caller's record, to the entries to; those of one entry are one move where no page ends in between.
+pub fn scatter_inline(state: &[u8], memory: &mut [u8], bytes: &[u8], to: &[Sge])
     requires ready { Ready state.now memory.old }
-    requires nt_bound { (nt ≤ 4) × (mapped_all (card state.now) (sge_bytes (take nt to)) ≡ true) × (sge_total (take nt to) ≡ length bytes.now) × (length bytes.now ≤ most_inline) }
-    ensures { memory.new ≡ stored memory.old (places (card state.now) (take nt to)) bytes.now }
+    requires targets { mapped_all (card state.now) (sge_bytes to.now) ≡ true }
+    requires total { (sge_total to.now ≡ length bytes.now) × (length bytes.now ≤ most_inline) }
+    ensures { memory.new ≡ stored memory.old (places (card state.now) to.now) bytes.now }
 {
-    if nt == 1 {
-        let t = to[0];
-        if run_of(state, memory, t) == t.length {
-            inline_one(state, memory, bytes, t);
+    if let [t] = to {
+        if run_of(state, memory, *t) == t.length {
+            let at = place_of(state, *t);
+            deliver_inline(memory, bytes, at);
             return;
         }
     }
-    inline_many(state, memory, bytes, to, nt);
+    inline_many(state, memory, bytes, to);
 }

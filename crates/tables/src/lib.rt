@@ -19,7 +19,7 @@ pub enum Kind {
 }
 
 // A scatter/gather entry, document 01's piece: length bytes from the address on, under the key.
-#[derive(Clone, Copy)]
+#[derive(Clone, Copy, Default)]
 pub struct Sge {
     pub address: u64,
     pub length: u32,
@@ -95,7 +95,7 @@ pub struct Region {
 }
 
 // A receive record, of at most two scatter/gather entries.
-#[derive(Clone, Copy)]
+#[derive(Clone, Copy, Default)]
 pub struct ReceiveRecord {
     pub wr: u64,
     pub count: u32,

@@ -8,21 +8,16 @@ use Rattle.tables.specs.State.{card, no_record}
 use Rattle.rules.specs.Touch.{fills, sge_bytes, sge_total}
 use Rattle.dma.specs.Grants.{allows_all}
 use Rattle.delivery.specs.Deliver.{OwnSide, party_in, far_mask, far_list}
-use Rattle.delivery.proofs.StatusLaws.{too_long, own_refused, far_refused, all_moved, carries}
+use Rattle.delivery.proofs.StatusLaws.{own_refused, far_refused, all_moved, carries}
 use Rattle.delivery.proofs.SingleLaws.{unfilled, list_is, single_sending, own_judged, far_judged}
 use Rattle.delivery.proofs.deliver.deliver_single.Goals as goal
-
-pub returns-then-a-gt-MOST_MESSAGE : goal.returns-then-a-gt-MOST_MESSAGE
-returns-then-a-gt-MOST_MESSAGE c =
-    let a = c.args in
-    too_long a.state.now a.memory.now a.e a.s (a.a ∷ []) [] no_record a.a.length c.if-a-gt-MOST_MESSAGE.true
 
 pub returns-then-not-range_permitted : goal.returns-then-not-range_permitted
 returns-then-not-range_permitted c =
     let b = c in
     let a = b.args in
     own_refused a.state.now a.memory.now a.e a.s (a.a ∷ []) [] no_record a.a.length c.if-a-gt-MOST_MESSAGE.false
-    (sym (own_judged a.s b.requires.1 a.a a.state.now a.memory.now a.e _ c.own_party.ensures _
+    (sym (own_judged a.s b.requires.1 a.a a.state.now a.memory.now a.e _ c.party_of.ensures _
     c.own_mask.ensures _ c.range_permitted.ensures) ∙ c.if-not-range_permitted.true)
 
 pub returns-then-not-range_permitted-2 : goal.returns-then-not-range_permitted-2
@@ -31,13 +26,13 @@ returns-then-not-range_permitted-2 c =
     let a = b.args in
     record {
       short = c.if-a-gt-MOST_MESSAGE.false;
-      permitted = sym (own_judged a.s b.requires.1 a.a a.state.now a.memory.now a.e _ c.own_party.ensures _
+      permitted = sym (own_judged a.s b.requires.1 a.a a.state.now a.memory.now a.e _ c.party_of.ensures _
           c.own_mask.ensures _ c.range_permitted.ensures) ∙ c.if-not-range_permitted.false;
     } in
     let fits : (not (fills c.args.s.opcode) || leb c.args.a.length (sge_total (receive_sges no_record))) ≡ true = rw (unfilled c.args.s c.requires.1) in
     let range_is : let a = c.args in c.range_permitted-2.result ≡ allows_all (card a.state.now) (party_in a.e.far) (far_mask a.s.opcode) (sge_bytes (far_list a.s no_record a.a.length)) = let b = c in
     let a = b.args in
-    far_judged a.s b.requires.1 a.a a.state.now a.memory.now a.e _ c.far_party.ensures _ c.far_mask.ensures _
+    far_judged a.s b.requires.1 a.a a.state.now a.memory.now a.e _ c.party_of-2.ensures _ c.far_mask.ensures _
     c.range_permitted-2.ensures in
     let k = c in
     let b = k in
@@ -51,13 +46,13 @@ move_single-requires c =
     let a = b.args in
     record {
       short = c.if-a-gt-MOST_MESSAGE.false;
-      permitted = sym (own_judged a.s b.requires.1 a.a a.state.now a.memory.now a.e _ c.own_party.ensures _
+      permitted = sym (own_judged a.s b.requires.1 a.a a.state.now a.memory.now a.e _ c.party_of.ensures _
           c.own_mask.ensures _ c.range_permitted.ensures) ∙ c.if-not-range_permitted.false;
     } in
     let fits : (not (fills c.args.s.opcode) || leb c.args.a.length (sge_total (receive_sges no_record))) ≡ true = rw (unfilled c.args.s c.requires.1) in
     let range_is : let a = c.args in c.range_permitted-2.result ≡ allows_all (card a.state.now) (party_in a.e.far) (far_mask a.s.opcode) (sge_bytes (far_list a.s no_record a.a.length)) = let b = c in
     let a = b.args in
-    far_judged a.s b.requires.1 a.a a.state.now a.memory.now a.e _ c.far_party.ensures _ c.far_mask.ensures _
+    far_judged a.s b.requires.1 a.a a.state.now a.memory.now a.e _ c.party_of-2.ensures _ c.far_mask.ensures _
     c.range_permitted-2.ensures in
     let d = c in
     let k = d in
@@ -73,13 +68,13 @@ returns c =
     let a = b.args in
     record {
       short = c.if-a-gt-MOST_MESSAGE.false;
-      permitted = sym (own_judged a.s b.requires.1 a.a a.state.now a.memory.now a.e _ c.own_party.ensures _
+      permitted = sym (own_judged a.s b.requires.1 a.a a.state.now a.memory.now a.e _ c.party_of.ensures _
           c.own_mask.ensures _ c.range_permitted.ensures) ∙ c.if-not-range_permitted.false;
     } in
     let fits : (not (fills c.args.s.opcode) || leb c.args.a.length (sge_total (receive_sges no_record))) ≡ true = rw (unfilled c.args.s c.requires.1) in
     let range_is : let a = c.args in c.range_permitted-2.result ≡ allows_all (card a.state.now) (party_in a.e.far) (far_mask a.s.opcode) (sge_bytes (far_list a.s no_record a.a.length)) = let b = c in
     let a = b.args in
-    far_judged a.s b.requires.1 a.a a.state.now a.memory.now a.e _ c.far_party.ensures _ c.far_mask.ensures _
+    far_judged a.s b.requires.1 a.a a.state.now a.memory.now a.e _ c.party_of-2.ensures _ c.far_mask.ensures _
     c.range_permitted-2.ensures in
     let d = c in
     let k = d in

@@ -25,8 +25,5 @@ returns-then-own-eq-ERROR c =
     let a = k.args in
     c.has_place.ensures ∙ error_free a.state.now a.q a.opcode _ its c.if-own-eq-ERROR.true
 
-pub peer_free-requires : goal.peer_free-requires
-peer_free-requires c =
-    let its : let b = c in Sender b.args.state.now b.args.q c.load_qp-own.result = let b = c in
-    sender b.args.state.now b.requires.0 b.requires.1 b.args.q b.requires.2 _ c.load_qp-own.ensures in
-    (its, c.if-own-eq-ERROR.false)
+pub meet-requires : goal.meet-requires
+meet-requires c = (sender c.args.state.now c.requires.0 c.requires.1 c.args.q c.requires.2 _ c.load_qp-own.ensures, c.if-own-eq-ERROR.false)

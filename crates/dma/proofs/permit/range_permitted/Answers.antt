@@ -8,14 +8,14 @@ use Rattle.dma.proofs.permit.range_permitted.Goals as goal
 pub returns-then-n-eq0 : goal.returns-then-n-eq0
 returns-then-n-eq0 c = let a = c.args in sym (empty_range (allows (card a.state.now) a.p a.mask) a.address a.key a.n c.if-n-eq0.true)
 
-pub returns-in-Live : goal.returns-in-Live
-returns-in-Live c =
+pub returns-in-Some : goal.returns-in-Some
+returns-in-Some c =
     let a = c.args in
     rw (c.has_use.ensures, c.holds_ends.ensures)
     (sym (range_found (card a.state.now) a.p a.mask a.key a.n a.address (search rules) _
-    (sym c.region_of.ensures ∙ c.in-Live.is)))
+    (sym c.region_of.ensures ∙ c.in-Some.is)))
 
-pub returns-in-Nothing : goal.returns-in-Nothing
-returns-in-Nothing c =
+pub returns-in-None : goal.returns-in-None
+returns-in-None c =
     let a = c.args in
-    sym (range_none (card a.state.now) a.p a.mask a.key a.n a.address (search rules) (sym c.region_of.ensures ∙ c.in-Nothing.is))
+    sym (range_none (card a.state.now) a.p a.mask a.key a.n a.address (search rules) (sym c.region_of.ensures ∙ c.in-None.is))

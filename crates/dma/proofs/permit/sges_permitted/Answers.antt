@@ -1,30 +1,17 @@
-use mathlib.Core.Path.{◌≡◌, sym, ◌∙◌}
-use native.Mathlib.Omega.{arith}
-use lib.ListN.{length}
+use mathlib.Core.Path.{sym, ◌∙◌}
+use borrow.Author.Rules.{rules}
+use Rattle.std.proofs.lemmas.Iterator.{YieldsList-from_slice}
+use Rattle.std.proofs.lemmas.Iterator.Search.{all_from_yields_List}
+use Rattle.tables.specs.declared.Sge.{Sge}
 use Rattle.tables.specs.State.{card}
-use Rattle.dma.specs.Grants.{allows}
-use Rattle.dma.proofs.SgeLaws.{left_tests, none_tests}
+use Rattle.rules.specs.Touch.{range}
+use Rattle.dma.specs.Grants.{allows, allows_all}
+use Rattle.dma.proofs.SgeLaws.{tests_each}
 use Rattle.dma.proofs.permit.sges_permitted.Goals as goal
-
-pub returns-then-not-range_permitted : goal.returns-then-not-range_permitted
-returns-then-not-range_permitted c =
-    let s = c in
-    let l = c.loop-i in
-    let four : length s.args.sges ≡ 4 = s.well_formed.1.1.1.0.1.0.1 in
-    let e = left_tests s.args.sges s.args.count l.i (allows (card s.args.state.now) s.args.p s.args.mask) (omega arith) (omega arith) in
-    let n = c.if-not-range_permitted.true in
-    sym (sym l.invariant.1 ∙ e ∙ rw (← c.range_permitted.ensures, n))
-
-pub loop-i-preserved : goal.loop-i-preserved
-loop-i-preserved c =
-    let s = c in
-    let l = c.loop-i in
-    let four : length s.args.sges ≡ 4 = s.well_formed.1.1.1.0.1.0.1 in
-    let e = left_tests s.args.sges s.args.count l.i (allows (card s.args.state.now) s.args.p s.args.mask) (omega arith) (omega arith) in
-    let n = c.if-not-range_permitted.false in
-    (omega arith, sym (rw (← c.range_permitted.ensures, n) at e) ∙ l.invariant.1)
 
 pub returns : goal.returns
 returns c =
-    let s = c in
-    sym (sym c.loop-i.invariant.1 ∙ none_tests s.args.sges s.args.count c.loop-i.i (allows (card s.args.state.now) s.args.p s.args.mask) c.loop-i-test.false)
+    let a = c.args in
+    all_from_yields_List (λ (s : Sge). allows_all (card a.state.now) a.p a.mask (range s.address s.key s.length)) _ _ _ c.all.ensures.ran
+    (YieldsList-from_slice a.sges.now cc) (λ x b q k. search rules)
+    ∙ sym (tests_each (allows (card a.state.now) a.p a.mask) a.sges.now)

@@ -1,15 +1,9 @@
 use lib.ListN.{length-drop}
-use mathlib.Core.Path.{◌∙◌}
 use native.Mathlib.Omega.{arith}
 use Rattle.tables.specs.State.{card}
 use Rattle.dma.proofs.EntryLaws.{front_mapped, back_mapped}
-use Rattle.dma.proofs.MoveLaws.{room, written, lies_kept, in_one, in_two}
+use Rattle.dma.proofs.MoveLaws.{written, lies_kept, in_one, in_two}
 use Rattle.dma.proofs.transfer.copy_in.Goals as goal
-
-pub run_of-n-requires : goal.run_of-n-requires
-run_of-n-requires c =
-    let s = c in
-    record { ready = s.requires.ready; s_value = (s.requires.s_value.0, s.requires.s_value.1) }
 
 pub place_of-to-requires : goal.place_of-to-requires
 place_of-to-requires c =
@@ -19,19 +13,6 @@ place_of-to-requires c =
       front_mapped s.args.state.now s.args.memory.now s.requires.ready s.args.s s.requires.s_value.0 _ c.run_of-n.ensures.most,
     )
 
-pub copy_bytes-requires : goal.copy_bytes-requires
-copy_bytes-requires c =
-    let s = c in
-    let d = c.run_of-n.ensures in
-    let k = room (card s.args.state.now) s.args.memory.now _ d.first _ c.place_of-to.ensures in
-    (k, omega (arith, d.most))
-
-pub overflow_add-b : goal.overflow_add-b
-overflow_add-b c = record { fits = c.run_of-n.ensures.word c.if-n-s.true }
-
-pub overflow_sub-b : goal.overflow_sub-b
-overflow_sub-b c = c.run_of-n.ensures.most
-
 pub place_of-then-requires : goal.place_of-then-requires
 place_of-then-requires c =
     let run = c in
@@ -40,21 +21,6 @@ place_of-then-requires c =
       s.requires.ready.size,
       back_mapped s.args.state.now s.args.memory.now s.requires.ready s.args.s s.requires.s_value.0 _ run.run_of-n.ensures.most,
     )
-
-pub copy_bytes-requires-then-n-s : goal.copy_bytes-requires-then-n-s
-copy_bytes-requires-then-n-s c =
-    let one = c in
-    let run = one in
-    let s = run in
-    let d = run.run_of-n.ensures in
-    let k = room (card s.args.state.now) s.args.memory.now _ d.others _ c.place_of-then.ensures in
-    (omega (arith, one.copy_bytes.auto.dst), omega (arith, d.most))
-
-pub shape_of-memory-then-n-s : goal.shape_of-memory-then-n-s
-shape_of-memory-then-n-s c =
-    let two = c in
-    let one = two in
-    two.copy_bytes-then-n-s.auto.dst ∙ one.copy_bytes.auto.dst
 
 pub returns-then-n-s : goal.returns-then-n-s
 returns-then-n-s c =
@@ -71,9 +37,6 @@ returns-then-n-s c =
     (written k m _ d.first _ at.place_of-to.ensures _ _ (simp length-drop (omega (arith, d.most))) one.copy_bytes.ensures)
     (written k _ _ (lies_kept k _ _ _ one.copy_bytes.auto.dst d.others) _ then.place_of-then.ensures _ _
     (simp length-drop (omega (arith, d.most))) two.copy_bytes-then-n-s.ensures)
-
-pub shape_of-memory-else-n-s : goal.shape_of-memory-else-n-s
-shape_of-memory-else-n-s c = c.copy_bytes.auto.dst
 
 pub returns-else-n-s : goal.returns-else-n-s
 returns-else-n-s c =

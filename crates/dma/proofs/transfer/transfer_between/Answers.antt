@@ -1,5 +1,4 @@
 -- each side lies in one run of memory
-use mathlib.Core.List.{[], ◌∷◌}
 use native.Mathlib.Omega.{arith}
 use lib.Dec.{eqb}
 use lib.ListN.{length}
@@ -8,7 +7,7 @@ use Rattle.wire.proofs.ScanLaws.{and_left, and_right}
 use Rattle.tables.specs.State.{card}
 use Rattle.dma.specs.Moves.{Lies}
 use Rattle.dma.proofs.SgeLaws.{one_total}
-use Rattle.dma.proofs.MoveLaws.{whole_lies, room, between, backwards}
+use Rattle.dma.proofs.MoveLaws.{whole_lies, room, between}
 use Rattle.dma.proofs.transfer.transfer_between.Goals as goal
 
 pub run_of-requires : goal.run_of-requires
@@ -58,15 +57,3 @@ returns-then-run_of-a c =
     let l = lie in
     between (card a.state.now) a.memory.now _ a.a a.b c.place_of-x.result c.place_of-y.result a.back l.0 l.1
     c.place_of-x.ensures c.place_of-y.ensures s.requires.message.total c.deliver_between.ensures
-
-pub transfer_many-requires : goal.transfer_many-requires
-transfer_many-requires c =
-    let s = c in
-    let a = s.args in
-    record { ready = s.requires.ready; nf_bound = (omega arith, omega arith, backwards (card a.state.now) (a.a ∷ []) (a.b ∷ []) s.requires.message) }
-
-pub returns-then-back : goal.returns-then-back
-returns-then-back c = rw c.if-back.true c.transfer_many.ensures
-
-pub returns : goal.returns
-returns c = rw c.if-back.false c.transfer_many-2.ensures
