@@ -239,14 +239,7 @@ fn pds_ok(state: &[u8]) -> bool
     requires { length state.now ≡ state_size }
     ensures { result ≡ all_below pd_count (pd_ok state.now) }
 {
-    let mut n = 0;
-    while n < PD_COUNT {
-        if 1 < rows::load_pd_flag(state, n) {
-            return false;
-        }
-        n += 1;
-    }
-    true
+    (0..PD_COUNT).all(|n| rows::load_pd_flag(state, n) <= 1)
 }
 
 fn cqs_ok(state: &[u8]) -> bool
