@@ -291,10 +291,12 @@ pub fn ring_passes<F: Fn(usize) -> bool>(cap: usize, first: u8, count: u8, test:
     requires callable { (k : ℕ) → k < cap → F.pre test k }
     ensures { (p : ℕ → Bool) → Tells (F.post test) cap p → result ≡ all_below count (λ k. p (ring_place cap first k)) }
 {
-    for k in 0..count {
-        if !test(wire::ring_place(cap, first as usize, k as usize)) {
+    let mut at = first as usize;
+    for _ in 0..count {
+        if !test(at) {
             return false;
         }
+        at = wire::ring_place(cap, at, 1);
     }
     true
 }
