@@ -8,3 +8,4 @@ pub mod SendLaws
 pub mod ResetLaws
 pub mod BitLaws
 pub mod TogetherLaws
+pub mod ChainLaws

@@ -1,15 +1,16 @@
 -- From tests of several rows together to the test of each. Assumes nothing.
-use Rattle.std.proofs.Common.{◌≡◌, ℕ, zero, suc, ◌+◌, ◌-◌, ◌*◌, ◌/◌, ◌%◌, ◌^◌, ◌<◌, ◌≤◌, Bool, true, false, ◌&&◌, ◌||◌, eqb, ltb, leb, ◌⊎◌, List, get_or, sym, refl, ◌∙◌, inl, inr, ⊎_elim, add-zero, mod-lt, mul-one, arith, ltb-true, le-ltb, lt-ltb, eq-eqb, eqb-true, le-leb, leb-true}
+use Rattle.std.proofs.Common.{◌≡◌, ℕ, zero, suc, ◌+◌, ◌-◌, ◌*◌, ◌/◌, ◌%◌, ◌^◌, ◌<◌, ◌≤◌, Bool, true, false, ◌&&◌, ◌||◌, eqb, ltb, leb, ◌⊎◌, List, get_or, sym, refl, ap, ap₂, ◌∙◌, inl, inr, ⊎_elim, add-zero, mod-lt, mod-eq_of_lt, mul-one, arith, ltb-true, le-ltb, lt-ltb, eq-eqb, eqb-true, le-leb, leb-true}
 use native.Mathlib.Decide.{dec_le, dec_lt}
+use native.Mathlib.Nat.{mod-add-mod}
 use borrow.Author.Tests.{lt-leb, not-false}
 use Rattle.wire.specs.Codec.{fields_at}
 use Rattle.wire.specs.Le.{le_at}
-use Rattle.wire.specs.Ring.{ring_list}
+use Rattle.wire.specs.Ring.{ring_place, ring_list}
 use Rattle.wire.specs.Scan.{all, all_below, lowest, clear_at}
 use Rattle.wire.specs.Table.{row_at, place}
 use Rattle.wire.proofs.FlagLaws.{flags_most}
 use Rattle.wire.proofs.LeLaws.{le_at_below}
-use Rattle.wire.proofs.ScanLaws.{all_each, all_at, all_nil, all_cons, lowest_least, and_left, and_right, both_true}
+use Rattle.wire.proofs.ScanLaws.{all_same, all_each, all_at, all_nil, all_cons, lowest_least, and_left, and_right, both_true}
 use Rattle.tables.specs.Layout.{memory_t, pd_flag_t, pd_flag_base, mr_flag_t, mr_flag_base, mr_t, mr_base, page_t, entry_t, receive_t, flag_codec, region_codec}
 use Rattle.tables.specs.Limits.{qp_count, most_places, most_waiting, most_queued, most_message, most_address, most_access, page_size, most_pages}
 use Rattle.tables.specs.State.{card, region_at, pages_at, pages_needed, ring_at, receives_at, queued_at, place_at, no_completion, no_record, no_queued}
@@ -279,6 +280,55 @@ ring_each d cap p r h f zero b = all_nil p
 ring_each d cap p r h f (suc n) b =
     all_cons p (get_or r f d) (ring_list d cap r ((f + 1) % cap) n)
     ∙ both_true (p (get_or r f d)) (all p (ring_list d cap r ((f + 1) % cap) n)) (h f b) (ring_each d cap p r h ((f + 1) % cap) n (mod-lt (f + 1) (omega arith)))
+
+and_true : (b : Bool) → b ≡ (b && true)
+and_true true = refl
+and_true false = refl
+
+and_assoc : (a b c : Bool) → ((a && b) && c) ≡ (a && (b && c))
+and_assoc true b c = refl
+and_assoc false b c = refl
+
+-- the first of several tests, and the others
+all_first : (n : ℕ) (p : ℕ → Bool) → all_below (suc n) p ≡ (p 0 && all_below n (λ k. p (k + 1)))
+unfolding all_below
+all_first zero p = and_true (p 0)
+all_first (suc n) p =
+    let e : suc n ≡ n + 1 = omega arith in
+    ap (λ (b : Bool). b && p (suc n)) (all_first n p) ∙ and_assoc (p 0) (all_below n (λ k. p (k + 1))) (p (suc n)) ∙ ap (λ (k : ℕ). p 0 && (all_below n (λ k. p (k + 1)) && p k)) e
+
+-- the entries of a ring pass where their places do
+ring_below : {A : Type 0} (d : A) (cap : ℕ) (p : A → Bool) (r : List A) (q : ℕ → Bool) → ((k : ℕ) → k < cap → p (get_or r k d) ≡ q k) → (f n : ℕ) → f < cap
+    → all p (ring_list d cap r f n) ≡ all_below n (λ k. q (ring_place cap f k))
+unfolding ring_list all_below
+ring_below d cap p r q h f zero b = all_nil p
+ring_below d cap p r q h f (suc n) b =
+    let here : f ≡ (f + 0) % cap = sym (ap (λ (x : ℕ). x % cap) (add-zero f) ∙ mod-eq_of_lt b) in
+    all_cons p (get_or r f d) (ring_list d cap r ((f + 1) % cap) n)
+    ∙ ap₂ ◌&&◌ (h f b ∙ ap q here)
+    (ring_below d cap p r q h ((f + 1) % cap) n (mod-lt (f + 1) (omega arith))
+    ∙ all_same n (λ k. q (ring_place cap ((f + 1) % cap) k)) (λ k. q (ring_place cap f (k + 1)))
+    (λ k l. let z : f + 1 + k ≡ f + (k + 1) = omega arith in ap q (mod-add-mod (f + 1) cap k ∙ ap (λ (x : ℕ). x % cap) z)))
+    ∙ sym (all_first n (λ k. q (ring_place cap f k)))
+
+module _ (l : List ℕ) (n f c : ℕ) where
+  pub unread_each : f < most_places
+      → all completion_ok (ring_list no_completion most_places (ring_at l n) f c) ≡ all_below c (λ k. completion_ok (row_at entry_t l (most_places * n + ring_place most_places f k)))
+  unread_each b =
+      ring_below no_completion most_places completion_ok (ring_at l n) (λ k. completion_ok (row_at entry_t l (most_places * n + k)))
+      (λ k m. ap completion_ok (entry_at l n k m)) f c b
+
+  pub posted_each : f < most_waiting
+      → all receive_ok (ring_list no_record most_waiting (receives_at l n) f c) ≡ all_below c (λ k. receive_ok (row_at receive_t l (most_waiting * n + ring_place most_waiting f k)))
+  posted_each b =
+      ring_below no_record most_waiting receive_ok (receives_at l n) (λ k. receive_ok (row_at receive_t l (most_waiting * n + k)))
+      (λ k m. ap receive_ok (receive_at l n k m)) f c b
+
+  pub queued_each : f < most_queued
+      → all queued_ok (ring_list no_queued most_queued (queued_at l n) f c) ≡ all_below c (λ k. queued_ok (place_at l (most_queued * n + ring_place most_queued f k)))
+  queued_each b =
+      ring_below no_queued most_queued queued_ok (queued_at l n) (λ k. queued_ok (place_at l (most_queued * n + k)))
+      (λ k m. ap queued_ok (queued_at_lem l n k m)) f c b
 
 module _ (l : List ℕ) (n : ℕ) where
   pub unread_by : all_below most_places (λ k. completion_ok (row_at entry_t l (most_places * n + k))) ≡ true → (f c : ℕ) → f < most_places

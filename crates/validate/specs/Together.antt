@@ -12,6 +12,10 @@ use Rattle.validate.specs.Accept.{access_ok, page_inside}
 abbrev pub Enough : (x b : Bool) → Type 0
 Enough x b = x ≡ true → b ≡ true
 
+-- what a test may answer of a number below n is what p says of it
+abbrev pub Tells : (ℕ → Bool → Type 0) → (n : ℕ) → (ℕ → Bool) → Type 0
+Tells answers n p = (k : ℕ) (b : Bool) → k < n → answers k b → b ≡ p k
+
 -- the bytes from `at` on are zeros
 abbrev pub Zeros : List ℕ → (at many : ℕ) → Type 0
 Zeros l at many = (i : ℕ) → i < many → le_at 1 l (at + i) ≡ 0

@@ -18,89 +18,59 @@ use tables::limits::{
 use tables::{Completion, QueueHead, QueuePair, WaitingHead, rows};
 
 // Whether protection domain n is live.
+#[tactic(auto, using(tables::proofs::ObjectLaws::pd_is, tables::proofs::ObjectLaws::pd_out))]
 pub fn pd_live(state: &[u8], n: u32) -> bool
     requires { length state.now ≡ state_size }
     ensures { result ≡ (card state.now).pd n }
 {
     let i = n as usize;
-    if i < PD_COUNT {
-        return rows::load_pd_flag(state, i) == 1;
-    }
-    false
+    i < PD_COUNT && rows::load_pd_flag(state, i) == 1
 }
 
 // Whether completion queue n is live.
+#[tactic(auto, using(tables::proofs::ObjectLaws::cq_live_lem, tables::proofs::ObjectLaws::cq_out))]
 pub fn cq_live(state: &[u8], n: u32) -> bool
     requires { length state.now ≡ state_size }
     ensures { result ≡ cq_live (card state.now) n }
 {
     let i = n as usize;
-    if i < CQ_COUNT {
-        return rows::load_cq_flag(state, i) == 1;
-    }
-    false
+    i < CQ_COUNT && rows::load_cq_flag(state, i) == 1
 }
 
 fn is_status(s: u8) -> bool
     ensures { result ≡ is_status s }
 {
-    if s == SUCCESS {
-        return true;
-    }
-    if s == LOCAL_LENGTH {
-        return true;
-    }
-    if s == LOCAL_PROTECTION {
-        return true;
-    }
-    if s == FLUSHED {
-        return true;
-    }
-    if s == REMOTE_INVALID {
-        return true;
-    }
-    s == REMOTE_ACCESS
+    matches!(
+        s,
+        SUCCESS | LOCAL_LENGTH | LOCAL_PROTECTION | FLUSHED | REMOTE_INVALID | REMOTE_ACCESS
+    )
 }
 
 fn completion_ok(e: Completion) -> bool
     ensures { result ≡ completion_ok e }
 {
-    if !is_status(e.status) {
-        return false;
-    }
-    if RECEIVED_WRITE < e.opcode {
-        return false;
-    }
-    if MOST_MESSAGE < e.length {
-        return false;
-    }
     let owner = e.owner as usize;
-    owner < QP_COUNT
+    is_status(e.status)
+        && e.opcode <= RECEIVED_WRITE
+        && e.length <= MOST_MESSAGE
+        && owner < QP_COUNT
 }
 
 pub fn is_state(s: u8) -> bool
     ensures { result ≡ is_state s }
 {
-    (s <= RTS) | (s == ERROR)
+    s <= RTS || s == ERROR
 }
 
 fn pair_ok(n: usize, p: QueuePair) -> bool
     ensures { result ≡ pair_ok n p }
 {
-    if 1 < p.signal {
-        return false;
-    }
-    if !is_state(p.state) {
-        return false;
-    }
-    if p.rights & MOST_ACCESS != p.rights {
-        return false;
-    }
     let dest = p.dest as usize;
-    if QP_COUNT < dest {
-        return false;
-    }
-    !(dest == n)
+    dest <= QP_COUNT
+        && dest != n
+        && p.signal <= 1
+        && p.rights & MOST_ACCESS == p.rights
+        && is_state(p.state)
 }
 
 // The unread completions of queue n, whose head is h.
@@ -108,19 +78,10 @@ fn entries_ok(state: &[u8], n: usize, h: QueueHead) -> bool
     requires { (n < cq_count) × (h.first < most_places) × (length state.now ≡ state_size) }
     ensures { result ≡ all completion_ok (ring_list no_completion most_places (ring_at state.now n) h.first h.count) }
 {
-    if together::completions_pass(state, n, h.count) {
-        return true;
-    }
-    let mut at = h.first as usize;
-    let mut left = h.count;
-    while 0 < left {
-        if !completion_ok(rows::load_entry(state, MOST_PLACES * n + at)) {
-            return false;
-        }
-        at = wire::ring_place(MOST_PLACES, at, 1);
-        left -= 1;
-    }
-    true
+    together::completions_pass(state, n, h.count)
+        || together::ring_passes(MOST_PLACES, h.first, h.count, |k| {
+            completion_ok(rows::load_entry(state, MOST_PLACES * n + k))
+        })
 }
 
 // The waiting receives of queue pair n, whose head is h.
@@ -128,20 +89,10 @@ fn receives_ok(state: &[u8], n: usize, h: WaitingHead) -> bool
     requires { (n < qp_count) × (h.first < most_waiting) × (length state.now ≡ state_size) }
     ensures { result ≡ all receive_ok (ring_list no_record most_waiting (receives_at state.now n) h.first h.count) }
 {
-    if together::receives_pass(state, n, h.count) {
-        return true;
-    }
-    let mut at = h.first as usize;
-    let mut left = h.count;
-    while 0 < left {
-        let r = rows::load_receive(state, MOST_WAITING * n + at);
-        if MOST_RECEIVE_SGES < r.count {
-            return false;
-        }
-        at = wire::ring_place(MOST_WAITING, at, 1);
-        left -= 1;
-    }
-    true
+    together::receives_pass(state, n, h.count)
+        || together::ring_passes(MOST_WAITING, h.first, h.count, |k| {
+            rows::load_receive(state, MOST_WAITING * n + k).count <= MOST_RECEIVE_SGES
+        })
 }
 
 fn queue_ok(h: QueueHead) -> bool
@@ -152,22 +103,19 @@ fn queue_ok(h: QueueHead) -> bool
     (1 <= h.places) & (places <= MOST_PLACES) & (first < MOST_PLACES) & (h.count <= h.places)
 }
 
+#[tactic(auto, unfolding(crate::specs::Accept::cq_ok, tables::specs::State::queue_at))]
 fn cq_ok(state: &[u8], n: usize) -> bool
     requires { (n < cq_count) × (length state.now ≡ state_size) }
     ensures { result ≡ cq_ok state.now n }
 {
-    let live = rows::load_cq_flag(state, n);
-    if live == 0 {
-        return true;
+    match rows::load_cq_flag(state, n) {
+        0 => true,
+        1 => {
+            let h = rows::load_cq(state, n);
+            queue_ok(h) && entries_ok(state, n, h)
+        }
+        _ => false,
     }
-    if live != 1 {
-        return false;
-    }
-    let h = rows::load_cq(state, n);
-    if !queue_ok(h) {
-        return false;
-    }
-    entries_ok(state, n, h)
 }
 
 // The domain and the completion queues that a queue pair names are live.
@@ -175,54 +123,39 @@ fn names_ok(state: &[u8], p: QueuePair) -> bool
     requires { length state.now ≡ state_size }
     ensures { result ≡ names_ok (card state.now).pd (cq_live (card state.now)) p }
 {
-    if !pd_live(state, p.pd as u32) {
-        return false;
-    }
-    if !cq_live(state, p.scq as u32) {
-        return false;
-    }
-    cq_live(state, p.rcq as u32)
+    pd_live(state, p.pd as u32)
+        && cq_live(state, p.scq as u32)
+        && cq_live(state, p.rcq as u32)
 }
 
 // The waiting receives of queue pair n.
+#[tactic(auto, unfolding(tables::specs::State::pair_at))]
 fn waiting_ok(state: &[u8], n: usize) -> bool
     requires { (n < qp_count) × (length state.now ≡ state_size) }
     ensures { result ≡ receives_ok (pair_at state.now n) }
 {
     let h = rows::load_waiting(state, n);
     let first = h.first as usize;
-    if MOST_WAITING <= first {
-        return false;
-    }
     let count = h.count as usize;
-    if MOST_WAITING < count {
-        return false;
-    }
-    receives_ok(state, n, h)
+    first < MOST_WAITING && count <= MOST_WAITING && receives_ok(state, n, h)
 }
 
+#[tactic(auto, unfolding(crate::specs::Accept::qp_ok, tables::specs::State::pair_at))]
 fn qp_ok(state: &[u8], n: usize) -> bool
     requires { (n < qp_count) × (length state.now ≡ state_size) }
     ensures { result ≡ qp_ok state.now n }
 {
-    let live = rows::load_qp_flag(state, n);
-    if live == 0 {
-        return true;
+    match rows::load_qp_flag(state, n) {
+        0 => true,
+        1 => {
+            let p = rows::load_qp(state, n);
+            names_ok(state, p)
+                && pair_ok(n, p)
+                && waiting_ok(state, n)
+                && sends::sends_ok(state, n, p.state)
+        }
+        _ => false,
     }
-    if live != 1 {
-        return false;
-    }
-    let p = rows::load_qp(state, n);
-    if !names_ok(state, p) {
-        return false;
-    }
-    if !pair_ok(n, p) {
-        return false;
-    }
-    if !waiting_ok(state, n) {
-        return false;
-    }
-    sends::sends_ok(state, n, p.state)
 }
 
 // The memory length, and the queue pair that a turn visits first.
@@ -239,62 +172,32 @@ fn pds_ok(state: &[u8]) -> bool
     requires { length state.now ≡ state_size }
     ensures { result ≡ all_below pd_count (pd_ok state.now) }
 {
-    let mut n = 0;
-    while n < PD_COUNT {
-        if 1 < rows::load_pd_flag(state, n) {
-            return false;
-        }
-        n += 1;
-    }
-    true
+    (0..PD_COUNT).all(|n| rows::load_pd_flag(state, n) <= 1)
 }
 
 fn cqs_ok(state: &[u8]) -> bool
     requires { length state.now ≡ state_size }
     ensures { result ≡ all_below cq_count (cq_ok state.now) }
 {
-    let mut n = 0;
-    while n < CQ_COUNT {
-        if !cq_ok(state, n) {
-            return false;
-        }
-        n += 1;
-    }
-    true
+    (0..CQ_COUNT).all(|n| cq_ok(state, n))
 }
 
 fn qps_ok(state: &[u8]) -> bool
     requires { length state.now ≡ state_size }
     ensures { result ≡ all_below qp_count (qp_ok state.now) }
 {
-    let mut n = 0;
-    while n < QP_COUNT {
-        if !qp_ok(state, n) {
-            return false;
-        }
-        n += 1;
-    }
-    true
+    (0..QP_COUNT).all(|n| qp_ok(state, n))
 }
 
 // Whether the lent state is acceptable: any bytes, of any length.
+#[tactic(auto, unfolding(crate::specs::Accept::accepts))]
 pub fn accepted(state: &[u8]) -> bool
     ensures { result ≡ accepts state.now }
 {
-    if state.len() != rows::STATE_SIZE {
-        return false;
-    }
-    if !header_ok(state) {
-        return false;
-    }
-    if !pds_ok(state) {
-        return false;
-    }
-    if !cqs_ok(state) {
-        return false;
-    }
-    if !regions::mrs_ok(state, rows::load_memory(state)) {
-        return false;
-    }
-    qps_ok(state)
+    state.len() == rows::STATE_SIZE
+        && header_ok(state)
+        && pds_ok(state)
+        && cqs_ok(state)
+        && regions::mrs_ok(state, rows::load_memory(state))
+        && qps_ok(state)
 }

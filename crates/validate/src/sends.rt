@@ -10,6 +10,7 @@ ghost use Rattle.tables.specs.State.{pair_at, queued_at, place_at, no_queued};
 ghost use Rattle.validate.specs.Accept.{may_queue, queued_ok, sends_ok};
 ghost use Rattle.validate.specs.Together.{Enough};
 
+use crate::together;
 use tables::limits::{ERROR, MOST_QUEUED, RTS};
 use tables::{SendKind, SendRecord, WaitingHead, records, rows};
 
@@ -33,14 +34,9 @@ fn kinds_pass(state: &[u8], n: usize) -> bool
     requires { (n < qp_count) × (length state.now ≡ state_size) }
     ensures { Enough result (all_below most_queued (λ k. queued_ok (place_at state.now (most_queued * n + k)))) }
 {
-    let mut bad = false;
-    let mut k = 0;
-    while k < MOST_QUEUED {
-        let s = rows::load_kind(state, MOST_QUEUED * n + k);
-        bad = bad | kind_bad(s);
-        k += 1;
-    }
-    !bad
+    !(0..MOST_QUEUED).fold(false, |bad, k| {
+        bad | kind_bad(rows::load_kind(state, MOST_QUEUED * n + k))
+    })
 }
 
 // The queued records of queue pair n, whose head is h.
@@ -48,46 +44,27 @@ fn records_ok(state: &[u8], n: usize, h: WaitingHead) -> bool
     requires { (n < qp_count) × (h.first < most_queued) × (length state.now ≡ state_size) }
     ensures { result ≡ all queued_ok (ring_list no_queued most_queued (queued_at state.now n) h.first h.count) }
 {
-    if kinds_pass(state, n) {
-        return true;
-    }
-    let mut at = h.first as usize;
-    let mut left = h.count;
-    while 0 < left {
-        if kind_bad(rows::load_kind(state, MOST_QUEUED * n + at)) {
-            return false;
-        }
-        at = wire::ring_place(MOST_QUEUED, at, 1);
-        left -= 1;
-    }
-    true
+    kinds_pass(state, n)
+        || together::ring_passes(MOST_QUEUED, h.first, h.count, |k| {
+            !kind_bad(rows::load_kind(state, MOST_QUEUED * n + k))
+        })
 }
 
 fn may_queue(s: u8) -> bool
     ensures { result ≡ may_queue s }
 {
-    (s == RTS) | (s == ERROR)
+    s == RTS || s == ERROR
 }
 
 // The queued sends of queue pair n, whose state is s; an empty queue is its head alone.
+#[tactic(auto, unfolding(tables::specs::State::pair_at))]
 pub fn sends_ok(state: &[u8], n: usize, s: u8) -> bool
     requires { (n < qp_count) × (length state.now ≡ state_size) × (s ≡ (row_at qp_t state.now n).state) }
     ensures { result ≡ sends_ok (pair_at state.now n) }
 {
     let h = rows::load_sends(state, n);
     let first = h.first as usize;
-    if MOST_QUEUED <= first {
-        return false;
-    }
-    if h.count == 0 {
-        return true;
-    }
     let count = h.count as usize;
-    if MOST_QUEUED < count {
-        return false;
-    }
-    if !may_queue(s) {
-        return false;
-    }
-    records_ok(state, n, h)
+    first < MOST_QUEUED
+        && (count == 0 || count <= MOST_QUEUED && may_queue(s) && records_ok(state, n, h))
 }

@@ -1,13 +1,14 @@
 // Tests of several rows together, each enough for the rows that it looks at: specs/Together.antt. Where one does not pass, the
 // state test looks at the rows one by one.
-ghost use Rattle.std.specs.Prelude.{◌≡◌, ◌+◌, ◌-◌, ◌*◌, ◌/◌, ◌<◌, ◌≤◌, true, length, if◌then◌else◌, nat_eq, nat_le};
+ghost use Rattle.std.specs.Prelude.{◌≡◌, ◌+◌, ◌-◌, ◌*◌, ◌/◌, ◌^◌, ◌<◌, ◌≤◌, ℕ, Bool, true, length, if◌then◌else◌, nat_eq, nat_le};
+ghost use Rattle.wire.specs.Ring.{ring_place};
 ghost use Rattle.wire.specs.Scan.{all_below};
 ghost use Rattle.wire.specs.Table.{row_at};
 ghost use Rattle.tables.specs.Layout.{state_size, page_count, memory_t, mr_flag_t, entry_t, receive_t};
 ghost use Rattle.tables.specs.Limits.{cq_count, mr_count, qp_count, most_pages, page_size, most_places, most_waiting};
 ghost use Rattle.tables.specs.State.{card};
 ghost use Rattle.validate.specs.Accept.{mr_ok, completion_ok, receive_ok};
-ghost use Rattle.validate.specs.Together.{Enough, Zeros, eight_ok, pages_ok, first_word, remote_ok, words_ok, word_ok, variant_ok, virt_ok, range_ok, row_ok};
+ghost use Rattle.validate.specs.Together.{Enough, Tells, Zeros, eight_ok, pages_ok, first_word, remote_ok, words_ok, word_ok, variant_ok, virt_ok, range_ok, row_ok};
 
 use tables::limits::{
     FLAT, LOCAL_LENGTH, MOST_ACCESS, MOST_ADDRESS, MOST_MESSAGE, MOST_PAGED, MOST_PAGES,
@@ -286,6 +287,22 @@ pub fn past_free(state: &[u8], from: usize) -> usize
 }
 
 // ---- rings
+
+// Whether the count entries of a ring of cap places pass, from the place first on: the test is given a place.
+pub fn ring_passes<F: Fn(usize) -> bool>(cap: usize, first: u8, count: u8, test: F) -> bool
+    requires places { (first < cap) × (cap < 2 ^ 16) }
+    requires callable { (k : ℕ) → k < cap → F.pre test k }
+    ensures { (p : ℕ → Bool) → Tells (F.post test) cap p → result ≡ all_below count (λ k. p (ring_place cap first k)) }
+{
+    let mut at = first as usize;
+    for _ in 0..count {
+        if !test(at) {
+            return false;
+        }
+        at = wire::ring_place(cap, at, 1);
+    }
+    true
+}
 
 // All places of completion queue n, whatever its first is: worth it where many hold an unread completion.
 pub fn completions_pass(state: &[u8], n: usize, count: u8) -> bool

@@ -1,27 +1,8 @@
-use Rattle.std.proofs.Common.{◌≡◌, ℕ, Bool, true, false, sym, ◌∙◌, arith, rules}
-use Rattle.wire.proofs.ScanLaws.{all_none, all_more, all_fails}
-use Rattle.validate.specs.Accept.{cq_ok}
+use Rattle.std.proofs.Common.{rules}
 use Rattle.tables.specs.Limits.{cq_count}
+use Rattle.validate.specs.Accept.{cq_ok}
+use Rattle.validate.proofs.ChainLaws.{all_of}
 use Rattle.validate.proofs.accept.cqs_ok.Goals as goal
 
-pub loop-n-init : goal.loop-n-init
-loop-n-init c = (search rules, all_none _)
-
-pub returns-then-not-cq_ok : goal.returns-then-not-cq_ok
-returns-then-not-cq_ok c =
-    let a = c.args in
-    let h = c.loop-n in
-    let p : ℕ → Bool = cq_ok a.state.now in
-    let e : p h.n ≡ false = sym c.cq_ok.ensures ∙ c.if-not-cq_ok.true in
-    sym (all_fails cq_count p h.n (search rules) e)
-
-pub loop-n-preserved : goal.loop-n-preserved
-loop-n-preserved c =
-    let a = c.args in
-    let h = c.loop-n in
-    let p : ℕ → Bool = cq_ok a.state.now in
-    let e : p h.n ≡ true = sym c.cq_ok.ensures ∙ c.if-not-cq_ok.false in
-    (search rules, all_more h.n p h.invariant.1 e)
-
 pub returns : goal.returns
-returns c = let e : c.loop-n.n ≡ cq_count = omega arith in (cc)
+returns c = all_of cq_count (cq_ok c.args.state.now) _ _ _ (search rules) c.all.ensures.ran (λ x b q k. search rules)
