@@ -13,7 +13,8 @@ ghost use Rattle.commands.specs.Control.{Ran, read_as, create_fine, create_live,
 use crate::destroy::qp_live;
 use tables::limits::{ERROR, MOST_ACCESS, QP_COUNT, RESET, RTR, RTS};
 use tables::refusal::Refusal;
-use tables::{Ack, CreateQp, ModifyQp, QueuePair, WaitingHead, rows};
+use tables::rows::State;
+use tables::{Ack, CreateQp, Kind, ModifyQp, QueuePair, WaitingHead, WorkQueue, rows};
 use validate::{accept, find};
 
 // The attribute mask of modify QP: the state, the access flags, and the destination.
@@ -36,13 +37,12 @@ fn create_fine(r: CreateQp) -> bool
 }
 
 // Whether the objects that a new queue pair names are live.
-fn create_live(state: &[u8], r: CreateQp) -> bool
-    requires { length state.now ≡ state_size }
+fn create_live(state: &State, r: CreateQp) -> bool
     ensures { result ≡ create_live (card state.now) r }
 {
-    let pd = accept::pd_live(state, r.pd);
-    let scq = accept::cq_live(state, r.scq);
-    let rcq = accept::cq_live(state, r.rcq);
+    let pd = live::is_live(state, Kind::Pd, r.pd);
+    let scq = live::is_live(state, Kind::Cq, r.scq);
+    let rcq = live::is_live(state, Kind::Cq, r.rcq);
     pd & scq & rcq
 }
 
@@ -62,27 +62,26 @@ fn new_pair(r: CreateQp) -> QueuePair
 }
 
 // Where the waiting receives and the queued sends of queue pair n stand.
-fn store_heads(state: &mut [u8], n: usize, waiting: WaitingHead, sends: WaitingHead)
-    requires { (n < qp_count) × (length state.old ≡ state_size) }
+fn store_heads(state: &mut State, n: usize, waiting: WaitingHead, sends: WaitingHead)
+    requires { n < qp_count }
     ensures { state.new ≡ put_row send_head_t (put_row waiting_t state.old n waiting) n sends }
 {
-    rows::store_waiting(state, n, waiting);
-    rows::store_sends(state, n, sends);
+    rows::store_head(state, WorkQueue::Receive, n, waiting);
+    rows::store_head(state, WorkQueue::Send, n, sends);
 }
 
 // The free number n is a new queue pair, on which no receive waits and which has no queued send.
-fn put_pair(state: &mut [u8], n: usize, r: CreateQp)
-    requires { (n < qp_count) × (length state.old ≡ state_size) × (n ≡ free_qpn (card state.old)) × (create_live (card state.old) r ≡ true) }
+fn put_pair(state: &mut State, n: usize, r: CreateQp)
+    requires { (n < qp_count) × (n ≡ free_qpn (card state.old)) × (create_live (card state.old) r ≡ true) }
     ensures { state.new ≡ command_bytes state.old (Command.create_qp r) }
 {
     let none = WaitingHead { first: 0, count: 0 };
     store_heads(state, n, none, none);
     rows::store_qp(state, n, new_pair(r));
-    rows::store_qp_flag(state, n, 1);
+    rows::store_flag(state, Kind::Qp, n, 1);
 }
 
-pub fn create_qp(state: &mut [u8], read: Option<CreateQp>) -> Result<Ack, Refusal>
-    requires { length state.old ≡ state_size }
+pub fn create_qp(state: &mut State, read: Option<CreateQp>) -> Result<Ack, Refusal>
     ensures { Ran state.old (read_as Command.create_qp read) result state.new }
 {
     let r = read.ok_or(Refusal::WrongLength)?;
@@ -169,20 +168,19 @@ fn moved_head(h: WaitingHead, to: u8) -> WaitingHead
 
 // The live queue pair in the state that it moves to; a move to 0 drops its receives, its queued sends, its destination and its
 // access flags.
-fn move_pair(state: &mut [u8], r: ModifyQp)
-    requires { (r.qpn < qp_count) × (length state.old ≡ state_size) × (modify_bad r ≡ false) }
+fn move_pair(state: &mut State, r: ModifyQp)
+    requires { (r.qpn < qp_count) × (modify_bad r ≡ false) }
     ensures { state.new ≡ command_bytes state.old (Command.modify_qp r) }
 {
     let n = r.qpn as usize;
     let p = rows::load_qp(state, n);
-    let w = moved_head(rows::load_waiting(state, n), r.state);
-    let s = moved_head(rows::load_sends(state, n), r.state);
+    let w = moved_head(rows::load_head(state, WorkQueue::Receive, n), r.state);
+    let s = moved_head(rows::load_head(state, WorkQueue::Send, n), r.state);
     rows::store_qp(state, n, moved_pair(p, r));
     store_heads(state, n, w, s);
 }
 
-pub fn modify_qp(state: &mut [u8], read: Option<ModifyQp>) -> Result<Ack, Refusal>
-    requires { length state.old ≡ state_size }
+pub fn modify_qp(state: &mut State, read: Option<ModifyQp>) -> Result<Ack, Refusal>
     ensures { Ran state.old (read_as Command.modify_qp read) result state.new }
 {
     let r = read.ok_or(Refusal::WrongLength)?;

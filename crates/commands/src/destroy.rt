@@ -8,48 +8,45 @@ ghost use Rattle.commands.specs.Control.{Ran, read_as, destroy_of, live_of, used
 use crate::Kind;
 use tables::limits::{MR_COUNT, QP_COUNT};
 use tables::refusal::Refusal;
-use tables::{Ack, rows};
+use tables::rows::State;
+use tables::{Ack, Kind, rows};
 use validate::{accept, find};
 
 // Whether region n is live.
-fn mr_live(state: &[u8], n: u32) -> bool
-    requires { length state.now ≡ state_size }
+fn mr_live(state: &State, n: u32) -> bool
     ensures { result ≡ ((card state.now).mr n).live }
 {
     let i = n as usize;
     if i < MR_COUNT {
-        return rows::load_mr_flag(state, i) == 1;
+        return rows::load_flag(state, Kind::Mr, i) == 1;
     }
     false
 }
 
 // Whether queue pair n is live.
-pub fn qp_live(state: &[u8], n: u32) -> bool
-    requires { length state.now ≡ state_size }
+pub fn qp_live(state: &State, n: u32) -> bool
     ensures { result ≡ ((card state.now).qp n).live }
 {
     let i = n as usize;
     if i < QP_COUNT {
-        return rows::load_qp_flag(state, i) == 1;
+        return rows::load_flag(state, Kind::Qp, i) == 1;
     }
     false
 }
 
-fn is_live(state: &[u8], kind: Kind, n: u32) -> bool
-    requires { length state.now ≡ state_size }
+fn is_live(state: &State, kind: Kind, n: u32) -> bool
     ensures { result ≡ live_of (card state.now) kind n }
 {
     match kind {
-        Kind::Pd => accept::pd_live(state, n),
-        Kind::Cq => accept::cq_live(state, n),
+        Kind::Pd => live::is_live(state, Kind::Pd, n),
+        Kind::Cq => live::is_live(state, Kind::Cq, n),
         Kind::Mr => mr_live(state, n),
         Kind::Qp => qp_live(state, n),
     }
 }
 
 // Regions and queue pairs are never in use.
-fn in_use(state: &[u8], kind: Kind, n: u32) -> bool
-    requires { length state.now ≡ state_size }
+fn in_use(state: &State, kind: Kind, n: u32) -> bool
     ensures { result ≡ used_of (card state.now) kind n }
 {
     match kind {
@@ -61,21 +58,20 @@ fn in_use(state: &[u8], kind: Kind, n: u32) -> bool
 }
 
 // Object n is no longer live.
-fn clear(state: &mut [u8], kind: Kind, n: u32)
-    requires { (live_of (card state.old) kind n ≡ true) × (length state.old ≡ state_size) }
+fn clear(state: &mut State, kind: Kind, n: u32)
+    requires { live_of (card state.old) kind n ≡ true }
     ensures { state.new ≡ command_bytes state.old (destroy_of kind n) }
 {
     let i = n as usize;
     match kind {
-        Kind::Pd => rows::store_pd_flag(state, i, 0),
-        Kind::Cq => rows::store_cq_flag(state, i, 0),
-        Kind::Mr => rows::store_mr_flag(state, i, 0),
-        Kind::Qp => rows::store_qp_flag(state, i, 0),
+        Kind::Pd => rows::store_flag(state, Kind::Pd, i, 0),
+        Kind::Cq => rows::store_flag(state, Kind::Cq, i, 0),
+        Kind::Mr => rows::store_flag(state, Kind::Mr, i, 0),
+        Kind::Qp => rows::store_flag(state, Kind::Qp, i, 0),
     }
 }
 
-pub fn destroy(state: &mut [u8], kind: Kind, read: Option<u32>) -> Result<Ack, Refusal>
-    requires { length state.old ≡ state_size }
+pub fn destroy(state: &mut State, kind: Kind, read: Option<u32>) -> Result<Ack, Refusal>
     ensures { Ran state.old (read_as (destroy_of kind) read) result state.new }
 {
     let n = read.ok_or(Refusal::WrongLength)?;

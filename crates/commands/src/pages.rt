@@ -15,7 +15,8 @@ use rules::Answer;
 use rules::numbers::REGISTER_MR;
 use tables::limits::{MOST_ADDRESS, MOST_PAGED, MOST_PAGES, MR_COUNT, PAGE_SIZE, PAGED};
 use tables::refusal::Refusal;
-use tables::{Ack, Registration, records, rows};
+use tables::rows::State;
+use tables::{Ack, Kind, Registration, records, rows};
 use validate::{accept, find, regions};
 
 // ---- the list
@@ -65,8 +66,8 @@ fn in_pages(memory: u64, g: Registration, pages: &[u64]) -> bool
 }
 
 // Stores the pages' numbers in slot n.
-fn put_pages(state: &mut [u8], n: usize, pages: &[u64])
-    requires { (n < mr_count) × (length state.old ≡ state_size) × (length pages.now ≤ most_pages) × (entries_ok most_memory pages.now ≡ true) }
+fn put_pages(state: &mut State, n: usize, pages: &[u64])
+    requires { (n < mr_count) × (length pages.now ≤ most_pages) × (entries_ok most_memory pages.now ≡ true) }
     ensures { state.new ≡ put_pages state.old n 0 pages.now }
 {
     let mut k = 0;
@@ -80,18 +81,18 @@ fn put_pages(state: &mut [u8], n: usize, pages: &[u64])
 // ---- the registration
 
 fn register_paged(
-    state: &mut [u8],
+    state: &mut State,
     read: Option<Registration>,
     pages: &[u64],
 ) -> Result<Ack, Refusal>
-    requires { (accepts state.old ≡ true) × (length state.old ≡ state_size) }
+    requires { accepts state.old ≡ true }
     ensures { Listed state.old read pages.now result state.new }
 {
     let g = read.ok_or(Refusal::WrongLength)?;
     if !regions::access_ok(g.access) {
         return Err(Refusal::BadField);
     }
-    if !accept::pd_live(state, g.pd) {
+    if !live::is_live(state, Kind::Pd, g.pd) {
         return Err(Refusal::NotLive);
     }
     if !in_pages(rows::load_memory(state), g, pages) {
@@ -107,8 +108,8 @@ fn register_paged(
 }
 
 // Command 7, and no other.
-fn choose(state: &mut [u8], command: &[u8], pages: &[u64]) -> Result<Ack, Refusal>
-    requires { (accepts state.old ≡ true) × (length state.old ≡ state_size) }
+fn choose(state: &mut State, command: &[u8], pages: &[u64]) -> Result<Ack, Refusal>
+    requires { accepts state.old ≡ true }
     ensures { Recorded state.old command.now pages.now result state.new }
 {
     if records::read_head(command)? != REGISTER_MR {

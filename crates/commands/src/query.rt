@@ -12,12 +12,12 @@ use tables::limits::{
     PD_COUNT,
 };
 use tables::refusal::Refusal;
+use tables::rows::State;
 use tables::{Ack, Device, DeviceCaps, DeviceObjects, DeviceWork, Port, rows};
 
 const VERSION: u32 = 1;
 
-fn device_of(state: &[u8]) -> Device
-    requires { length state.now ≡ state_size }
+fn device_of(state: &State) -> Device
     ensures { result ≡ device_of (card state.now) }
 {
     Device {
@@ -45,8 +45,7 @@ fn device_of(state: &[u8]) -> Device
     }
 }
 
-pub fn query_device(state: &[u8], command: &[u8]) -> Result<Ack, Refusal>
-    requires { length state.now ≡ state_size }
+pub fn query_device(state: &State, command: &[u8]) -> Result<Ack, Refusal>
     ensures { Ran state.now (bare Command.query_device command.now) result state.now }
 {
     if command.len() != HEAD_SIZE {

@@ -19,6 +19,7 @@ use tables::limits::{
     INLINE_FLAG, LOCAL_LENGTH, LOCAL_PROTECTION, LOCAL_WRITE, MOST_MESSAGE, READ, REMOTE_ACCESS,
     REMOTE_INVALID, REMOTE_READ, REMOTE_WRITE, SUCCESS,
 };
+use tables::rows::State;
 use tables::{QueuePair, ReceiveRecord, SendRecord, Sge, queue};
 
 fn is_inline(s: SendRecord) -> bool
@@ -56,8 +57,8 @@ fn party_of(p: QueuePair) -> Party
 }
 
 // Step 3: whether each byte of the sender's own entries is permitted.
-fn own_permitted(state: &[u8], p: Party, s: SendRecord, sges: [Sge; 4]) -> bool
-    requires { (length state.now ≡ state_size) × (is_inline s ≡ false → s.count ≤ 4) }
+fn own_permitted(state: &State, p: Party, s: SendRecord, sges: [Sge; 4]) -> bool
+    requires { is_inline s ≡ false → s.count ≤ 4 }
     ensures { result ≡ allows_all (card state.now) p (own_mask s.opcode) (own_by s sges) }
 {
     if is_inline(s) {
@@ -139,7 +140,7 @@ fn far_fault(opcode: u8) -> u8
 
 // Step 6: moves the message, inline bytes or those of entries, to the peer's side or, for a read, back.
 fn move_bytes(
-    state: &[u8],
+    state: &State,
     memory: &mut [u8],
     s: SendRecord,
     sges: [Sge; 4],
@@ -163,8 +164,8 @@ fn move_bytes(
 }
 
 // The receive that a request takes; nothing where it takes none.
-pub fn taken_receive(state: &[u8], d: usize, opcode: u8) -> ReceiveRecord
-    requires { (d < qp_count) × (length state.now ≡ state_size) × ((row_at waiting_t state.now d).first < most_waiting) }
+pub fn taken_receive(state: &State, d: usize, opcode: u8) -> ReceiveRecord
+    requires { (d < qp_count) × ((row_at waiting_t state.now d).first < most_waiting) }
     ensures { result ≡ taken_row state.now d opcode }
 {
     if meet::takes_receive(opcode) {
@@ -175,7 +176,7 @@ pub fn taken_receive(state: &[u8], d: usize, opcode: u8) -> ReceiveRecord
 
 // Steps 4 to 6 of a message of n bytes, of which step 3 found no fault.
 fn deliver_far(
-    state: &[u8],
+    state: &State,
     memory: &mut [u8],
     e: Ends,
     s: SendRecord,
@@ -201,7 +202,7 @@ fn deliver_far(
 }
 
 // Step 6 of a request of one entry and a remote range.
-fn move_single(state: &[u8], memory: &mut [u8], s: SendRecord, a: Sge)
+fn move_single(state: &State, memory: &mut [u8], s: SendRecord, a: Sge)
     requires ready { Ready state.now memory.old × (is_single s ≡ true) }
     requires carries { Carries (card state.now) s [] (a ∷ []) (far_list s no_record a.length) }
     ensures { memory.new ≡ carried (card state.now) s [] (a ∷ []) (far_list s no_record a.length) memory.old }
@@ -215,7 +216,7 @@ fn move_single(state: &[u8], memory: &mut [u8], s: SendRecord, a: Sge)
 }
 
 // Steps 3 to 6 of such a request; no array is made of its one entry.
-pub fn deliver_single(state: &[u8], memory: &mut [u8], e: Ends, s: SendRecord, a: Sge) -> u8
+pub fn deliver_single(state: &State, memory: &mut [u8], e: Ends, s: SendRecord, a: Sge) -> u8
     requires { Ready state.now memory.old × (is_single s ≡ true) }
     ensures { Delivery state.now memory.old e s (a ∷ []) [] no_record a.length result memory.new }
 {
@@ -249,7 +250,7 @@ pub fn deliver_single(state: &[u8], memory: &mut [u8], e: Ends, s: SendRecord, a
 
 // Steps 3 to 6 of a message of total bytes: the status, and on success the message moved.
 pub fn deliver(
-    state: &[u8],
+    state: &State,
     memory: &mut [u8],
     e: Ends,
     s: SendRecord,

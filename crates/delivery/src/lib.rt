@@ -13,6 +13,7 @@ ghost use Rattle.delivery.specs.Run.{request_by, Bounded, Met, Carried, CarriedO
 use meet::Ends;
 use rules::{Answer, Cause};
 use tables::limits::{ERROR, FLUSHED};
+use tables::rows::State;
 use tables::{QueuePair, SendRecord, Sge, rows};
 
 pub mod deliver;
@@ -20,7 +21,7 @@ pub mod meet;
 pub mod settle;
 
 // Steps 3 to 6 of a write or a read of one entry, without arrays.
-fn carry_single(state: &mut [u8], memory: &mut [u8], e: Ends, s: SendRecord, a: Sge) -> u8
+fn carry_single(state: &mut State, memory: &mut [u8], e: Ends, s: SendRecord, a: Sge) -> u8
     requires ready { Ready state.old memory.old }
     requires s_value { (is_single s ≡ true) × Met state.old e s.opcode }
     ensures { CarriedOne state.old e.q s a memory.old result state.new memory.new }
@@ -32,7 +33,7 @@ fn carry_single(state: &mut [u8], memory: &mut [u8], e: Ends, s: SendRecord, a: 
 
 // Steps 3 to 6 of any request: the status, and all that the request leaves.
 fn carry_out(
-    state: &mut [u8],
+    state: &mut State,
     memory: &mut [u8],
     e: Ends,
     s: SendRecord,
@@ -52,7 +53,7 @@ fn carry_out(
 
 // A request of queue pair q, whose row is own and which is not in error: what holds it, or the request carried out.
 pub fn run(
-    state: &mut [u8],
+    state: &mut State,
     memory: &mut [u8],
     q: usize,
     own: QueuePair,
@@ -79,7 +80,7 @@ pub fn run(
 }
 
 // A request of queue pair q, whose row is own and which is in error: what holds it, or the request flushed.
-pub fn flush(state: &mut [u8], q: usize, own: QueuePair, s: SendRecord) -> Answer
+pub fn flush(state: &mut State, q: usize, own: QueuePair, s: SendRecord) -> Answer
     requires { Sender state.old q own × (own.state ≡ 6) }
     ensures { Flushed state.old q s result state.new }
 {
@@ -93,7 +94,7 @@ pub fn flush(state: &mut [u8], q: usize, own: QueuePair, s: SendRecord) -> Answe
 // A request of queue pair q, which is live, that nothing holds: carried out, or flushed where it is in error. A second way to carry_out beside run, whose
 // machine code a second caller of run would make slower.
 pub fn finish(
-    state: &mut [u8],
+    state: &mut State,
     memory: &mut [u8],
     q: usize,
     s: SendRecord,

@@ -11,7 +11,8 @@ ghost use Rattle.delivery.specs.Meet.{answers, places_by, peer_meeting, has_plac
 
 use rules::{Answer, Cause};
 use tables::limits::{ERROR, QP_COUNT, RTR, RTS, SEND, SEND_IMM, WRITE_IMM};
-use tables::{QueueHead, QueuePair, rows};
+use tables::rows::State;
+use tables::{Kind, QueueHead, QueuePair, WorkQueue, rows};
 
 // A sender and its peer: their numbers and rows.
 #[derive(Clone, Copy)]
@@ -37,11 +38,11 @@ pub fn fills_receive(opcode: u8) -> bool
 }
 
 // Whether queue pair n is live.
-pub fn is_live(state: &[u8], n: usize) -> bool
-    requires { (n < qp_count) × (length state.now ≡ state_size) }
+pub fn is_live(state: &State, n: usize) -> bool
+    requires { n < qp_count }
     ensures { result ≡ is_live (row_at qp_flag_t state.now n) }
 {
-    rows::load_qp_flag(state, n) == 1
+    rows::load_flag(state, Kind::Qp, n) == 1
 }
 
 // Whether a queue pair, live or not, is ready and names q back.
@@ -67,8 +68,8 @@ fn places_needed(both: bool) -> u32
 }
 
 // A place for each completion: in the send queue s, and where a receive is taken in the receive queue r, which may be the same.
-fn has_places(state: &[u8], s: u8, r: u8, opcode: u8) -> bool
-    requires { (s < cq_count) × (r < cq_count) × (length state.now ≡ state_size) }
+fn has_places(state: &State, s: u8, r: u8, opcode: u8) -> bool
+    requires { (s < cq_count) × (r < cq_count) }
     ensures { result ≡ places_by (row_at cq_t state.now s) (row_at cq_t state.now r) (eqb s r) opcode }
 {
     let first = rows::load_cq(state, s as usize);
@@ -83,11 +84,11 @@ fn has_places(state: &[u8], s: u8, r: u8, opcode: u8) -> bool
 }
 
 // The tests of a peer that is ready: a receive that waits, and places for the completions.
-fn meet_peer(state: &[u8], e: Ends, opcode: u8) -> Result<Ends, Answer>
-    requires { (e.own.scq < cq_count) × (e.far.rcq < cq_count) × (e.d < qp_count) × (length state.now ≡ state_size) }
+fn meet_peer(state: &State, e: Ends, opcode: u8) -> Result<Ends, Answer>
+    requires { (e.own.scq < cq_count) × (e.far.rcq < cq_count) × (e.d < qp_count) }
     ensures { result ≡ peer_meeting state.now e opcode }
 {
-    let h = rows::load_waiting(state, e.d);
+    let h = rows::load_head(state, WorkQueue::Receive, e.d);
     if takes_receive(opcode) & (h.count == 0) {
         return Err(Answer::Held(Cause::Peer));
     }
@@ -98,7 +99,7 @@ fn meet_peer(state: &[u8], e: Ends, opcode: u8) -> Result<Ends, Answer>
 }
 
 // The tests that hold a request of queue pair q, which is not in error: those of its peer.
-pub fn meet(state: &[u8], q: usize, own: QueuePair, opcode: u8) -> Result<Ends, Answer>
+pub fn meet(state: &State, q: usize, own: QueuePair, opcode: u8) -> Result<Ends, Answer>
     requires { Sender state.now q own × (own.state ≡ 6 → ⊥) }
     ensures { result ≡ holding state.now q opcode }
 {
@@ -116,8 +117,8 @@ pub fn meet(state: &[u8], q: usize, own: QueuePair, opcode: u8) -> Result<Ends, 
 }
 
 // The test of a queue pair in error, whose row is own: a place for its completion. No peer is looked at.
-pub fn has_place(state: &[u8], own: QueuePair) -> bool
-    requires { (own.scq < cq_count) × (length state.now ≡ state_size) }
+pub fn has_place(state: &State, own: QueuePair) -> bool
+    requires { own.scq < cq_count }
     ensures { result ≡ has_place state.now own }
 {
     let h = rows::load_cq(state, own.scq as usize);
@@ -125,8 +126,8 @@ pub fn has_place(state: &[u8], own: QueuePair) -> bool
 }
 
 // Whether nothing holds a request of queue pair q, which is live.
-pub fn is_free(state: &[u8], q: usize, opcode: u8) -> bool
-    requires { (accepts state.now ≡ true) × (length state.now ≡ state_size) × (((card state.now).qp q).live ≡ true) }
+pub fn is_free(state: &State, q: usize, opcode: u8) -> bool
+    requires { (accepts state.now ≡ true) × (((card state.now).qp q).live ≡ true) }
     ensures { result ≡ is_free state.now q opcode }
 {
     let own = rows::load_qp(state, q);

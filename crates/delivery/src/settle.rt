@@ -17,7 +17,8 @@ use tables::limits::{
     ERROR, FLUSHED, LOCAL_LENGTH, LOCAL_PROTECTION, READ, READ_BACK, RECEIVED, RECEIVED_WRITE,
     REMOTE_INVALID, SEND_IMM, SENT, SIGNALED_FLAG, SUCCESS, WRITE_IMM, WRITTEN,
 };
-use tables::{Completion, QueuePair, ReceiveRecord, SendRecord, queue, rows};
+use tables::rows::State;
+use tables::{Completion, QueuePair, ReceiveRecord, SendRecord, WorkQueue, queue, rows};
 
 // The opcode of the sender's completion: 0 send, 1 write, 2 read.
 fn sender_opcode(opcode: u8) -> u8
@@ -77,8 +78,8 @@ fn receiver_status(st: u8, n: u64, w: ReceiveRecord) -> u8
 }
 
 // A completion of queue pair q's work wr, in completion queue cqn.
-pub fn put_work(state: &mut [u8], cqn: u8, q: usize, wr: u64, opcode: u8, st: u8, told: u32)
-    requires { (q < qp_count) × (cqn < cq_count) × (length state.old ≡ state_size) × ((row_at cq_t state.old cqn).count < most_places) }
+pub fn put_work(state: &mut State, cqn: u8, q: usize, wr: u64, opcode: u8, st: u8, told: u32)
+    requires { (q < qp_count) × (cqn < cq_count) × ((row_at cq_t state.old cqn).count < most_places) }
     ensures { state.new ≡ push_bytes state.old cqn (sender_entry q wr opcode st told) }
 {
     let entry = Completion {
@@ -100,8 +101,8 @@ fn is_put(own: QueuePair, s: SendRecord, st: u8) -> bool
 }
 
 // The sender's completion, where one is put.
-fn put_sender(state: &mut [u8], q: usize, own: QueuePair, s: SendRecord, st: u8, n: u64)
-    requires q_lt_qp_count { (q < qp_count) × (own.scq < cq_count) × (length state.old ≡ state_size) × ((row_at cq_t state.old own.scq).count < most_places) }
+fn put_sender(state: &mut State, q: usize, own: QueuePair, s: SendRecord, st: u8, n: u64)
+    requires q_lt_qp_count { (q < qp_count) × (own.scq < cq_count) × ((row_at cq_t state.old own.scq).count < most_places) }
     requires n_le_most_message { st ≡ 0 → n ≤ most_message }
     ensures { state.new ≡ push_all state.old (put_first q own s st n) }
 {
@@ -111,8 +112,8 @@ fn put_sender(state: &mut [u8], q: usize, own: QueuePair, s: SendRecord, st: u8,
 }
 
 // The receiver's completion, where the receive is consumed.
-fn put_receiver(state: &mut [u8], e: Ends, s: SendRecord, w: ReceiveRecord, st: u8, n: u64)
-    requires d_lt_qp_count { (e.d < qp_count) × (w.count ≤ 2) × (length state.old ≡ state_size) × (st ≡ 0 → n ≤ most_message) }
+fn put_receiver(state: &mut State, e: Ends, s: SendRecord, w: ReceiveRecord, st: u8, n: u64)
+    requires d_lt_qp_count { (e.d < qp_count) × (w.count ≤ 2) × (st ≡ 0 → n ≤ most_message) }
     requires rcq_lt_cq_count { consumes s.opcode st ≡ true → (e.far.rcq < cq_count) × ((row_at cq_t state.old e.far.rcq).count < most_places) }
     ensures { state.new ≡ push_all state.old (put_second e s w st n) }
 {
@@ -140,8 +141,8 @@ fn is_consumed(opcode: u8, st: u8) -> bool
 }
 
 // Queue pair q goes to error, where b holds.
-fn fail_if(state: &mut [u8], b: bool, q: usize)
-    requires { (q < qp_count) × (length state.old ≡ state_size) }
+fn fail_if(state: &mut State, b: bool, q: usize)
+    requires { q < qp_count }
     ensures { state.new ≡ error_bytes b state.old q }
 {
     if b {
@@ -151,17 +152,17 @@ fn fail_if(state: &mut [u8], b: bool, q: usize)
 }
 
 // The oldest receive of queue pair q is consumed, where b holds.
-fn consume_if(state: &mut [u8], b: bool, q: usize)
-    requires { (q < qp_count) × (length state.old ≡ state_size) × (b ≡ true → 0 < (row_at waiting_t state.old q).count) }
+fn consume_if(state: &mut State, b: bool, q: usize)
+    requires { (q < qp_count) × (b ≡ true → 0 < (row_at waiting_t state.old q).count) }
     ensures { state.new ≡ consume_bytes b state.old q }
 {
     if b {
-        queue::take_receive(state, q);
+        queue::drop_oldest(state, WorkQueue::Receive, q);
     }
 }
 
 // What a delivery with a status leaves in the state: its completions, the sender's error, the receive consumed, the peer's error.
-pub fn settle(state: &mut [u8], e: Ends, s: SendRecord, w: ReceiveRecord, st: u8, n: u64)
+pub fn settle(state: &mut State, e: Ends, s: SendRecord, w: ReceiveRecord, st: u8, n: u64)
     requires { Settling state.old e s w st n }
     ensures { state.new ≡ settled_bytes state.old e s w st n }
 {
@@ -173,7 +174,7 @@ pub fn settle(state: &mut [u8], e: Ends, s: SendRecord, w: ReceiveRecord, st: u8
 }
 
 // What is left of that by a request that takes no receive: no byte where it succeeds silently.
-pub fn settle_single(state: &mut [u8], e: Ends, s: SendRecord, st: u8, n: u64)
+pub fn settle_single(state: &mut State, e: Ends, s: SendRecord, st: u8, n: u64)
     requires { Settling state.old e s no_record st n × (takes s.opcode ≡ false) × (eqb st 7 ≡ false) }
     ensures { state.new ≡ settled_bytes state.old e s no_record st n }
 {

@@ -7,18 +7,18 @@ ghost use Rattle.dma.specs.Grants.{region_of, admits, allows_all, spans};
 
 use rules::Party;
 use tables::limits::{LOCAL_WRITE, MR_COUNT};
-use tables::{Region, Sge, rows};
+use tables::rows::State;
+use tables::{Kind, Region, Sge, rows};
 
 // The live region that has exactly a key, if there is one; who may touch it does not depend on its kind, which is left out.
-fn region_of(state: &[u8], key: u32) -> Option<Region>
-    requires { length state.now ≡ state_size }
+fn region_of(state: &State, key: u32) -> Option<Region>
     ensures { result ≡ region_of (card state.now).mr key }
 {
     let slot = (key / 256) as usize;
     if MR_COUNT <= slot {
         return None;
     }
-    if rows::load_mr_flag(state, slot) != 1 {
+    if rows::load_flag(state, Kind::Mr, slot) != 1 {
         return None;
     }
     let r = rows::load_mr(state, slot);
@@ -48,8 +48,7 @@ fn holds_ends(r: Region, address: u64, n: u64) -> bool
 }
 
 // Whether each of the n bytes from an address on is permitted: it looks at the two ends only, and of an empty range at no key and no flags.
-pub fn range_permitted(state: &[u8], p: Party, mask: u8, address: u64, n: u64, key: u32) -> bool
-    requires { length state.now ≡ state_size }
+pub fn range_permitted(state: &State, p: Party, mask: u8, address: u64, n: u64, key: u32) -> bool
     ensures { result ≡ allows_all (card state.now) p mask (range address key n) }
 {
     if n == 0 {
@@ -62,8 +61,7 @@ pub fn range_permitted(state: &[u8], p: Party, mask: u8, address: u64, n: u64, k
 }
 
 // Whether each byte of the entries is permitted.
-pub fn sges_permitted(state: &[u8], p: Party, mask: u8, sges: &[Sge]) -> bool
-    requires { length state.now ≡ state_size }
+pub fn sges_permitted(state: &State, p: Party, mask: u8, sges: &[Sge]) -> bool
     ensures { result ≡ allows_all (card state.now) p mask (sge_bytes sges.now) }
 {
     sges.iter().all(|s| range_permitted(state, p, mask, s.address, s.length as u64, s.key))

@@ -15,20 +15,21 @@ use delivery::meet;
 use rules::Answer;
 use rules::numbers::{BAD_STATE, IN_USE, NOT_LIVE, OTHER_MEMORY, WRONG_STATE};
 use tables::limits::{ERROR, QP_COUNT, RTS};
-use tables::{QueuePair, SendRecord, Sge, records, rows};
+use tables::rows::State;
+use tables::{QueuePair, SendRecord, Sge, WorkQueue, records, rows};
 use validate::accept;
 
 // 02, M-108: "A direct send answers 10 .. while its QP's queue isn't empty"
-fn is_queued(state: &[u8], q: usize) -> bool
-    requires { (q < qp_count) × (length state.now ≡ state_size) }
+fn is_queued(state: &State, q: usize) -> bool
+    requires { q < qp_count }
     ensures { result ≡ not (eqb (row_at send_head_t state.now q).count 0) }
 {
-    let h = rows::load_sends(state, q);
+    let h = rows::load_head(state, WorkQueue::Send, q);
     h.count != 0
 }
 
 // A request on the queue pair q in error, whose row is own: 10, or the request flushed.
-fn direct_error(state: &mut [u8], q: usize, own: QueuePair, s: SendRecord) -> Answer
+fn direct_error(state: &mut State, q: usize, own: QueuePair, s: SendRecord) -> Answer
     requires { Sender state.old q own × (own.state ≡ 6) }
     ensures { (sges : List Sge) (b m : List ℕ) → Ran delivery_checks state.old q (request_by s sges b) m result state.new m }
 {
@@ -40,7 +41,7 @@ fn direct_error(state: &mut [u8], q: usize, own: QueuePair, s: SendRecord) -> An
 
 // "QP 2; QP not in RTS 3", 10, and then the request run on the queue pair.
 fn direct(
-    state: &mut [u8],
+    state: &mut State,
     memory: &mut [u8],
     qpn: u32,
     s: SendRecord,

@@ -14,7 +14,8 @@ use delivery::meet;
 use rules::Answer;
 use rules::numbers::{BAD_STATE, NOTHING_THERE, OTHER_MEMORY};
 use tables::limits::QP_COUNT;
-use tables::{records, rows, sends};
+use tables::rows::State;
+use tables::{WorkQueue, records, rows, sends};
 use validate::accept;
 
 // A turn's answer, and the queue pair that it served; 0 where it served none.
@@ -34,14 +35,14 @@ fn refused(n: u8) -> Turned
 }
 
 // Whether queue pair q has a queue whose head isn't held.
-fn can_run(state: &[u8], q: usize) -> bool
+fn can_run(state: &State, q: usize) -> bool
     requires { (accepts state.now ≡ true) × (q < qp_count) }
     ensures { result ≡ runnable (card state.now) q }
 {
     if !meet::is_live(state, q) {
         return false;
     }
-    let h = rows::load_sends(state, q);
+    let h = rows::load_head(state, WorkQueue::Send, q);
     if h.count == 0 {
         return false;
     }
@@ -50,7 +51,7 @@ fn can_run(state: &[u8], q: usize) -> bool
 }
 
 // How many queue pairs a turn passes over that visits them from `next` on; 8 where no head may run.
-fn first_runnable(state: &[u8], next: usize) -> usize
+fn first_runnable(state: &State, next: usize) -> usize
     requires { (accepts state.now ≡ true) × (next < qp_count) }
     ensures { result ≡ passed_over next (runnable (card state.now)) }
 {
@@ -65,7 +66,7 @@ fn first_runnable(state: &[u8], next: usize) -> usize
 }
 
 // The head of queue pair q's queue, run: its status. The record is copied out, since the state is written while it is read.
-fn run_head(state: &mut [u8], memory: &mut [u8], q: usize) -> u8
+fn run_head(state: &mut State, memory: &mut [u8], q: usize) -> u8
     requires { Ready state.old memory.old × (runnable (card state.old) q ≡ true) }
     ensures { Carried state.old q (head_of (card state.old) q) memory.old result
         state.new memory.new }
@@ -78,12 +79,12 @@ fn run_head(state: &mut [u8], memory: &mut [u8], q: usize) -> u8
 }
 
 // The head is run and leaves its queue, and the next turn begins after q.
-fn serve(state: &mut [u8], memory: &mut [u8], q: usize) -> u8
+fn serve(state: &mut State, memory: &mut [u8], q: usize) -> u8
     requires { Ready state.old memory.old × (runnable (card state.old) q ≡ true) }
     ensures { Serves state.old q memory.old result state.new memory.new }
 {
     let st = run_head(state, memory, q);
-    sends::pop_send(state, q);
+    queue::drop_oldest(state, WorkQueue::Send, q);
     rows::store_turn(state, ((q + 1) % QP_COUNT) as u8);
     st
 }

@@ -12,7 +12,7 @@ use borrow.Author.Tests.{ne_eqb, eqb-true, eqb-false, ltb-true, leb-false}
 use Rattle.wire.specs.Table.{row_at}
 use Rattle.wire.proofs.RingLaws.{ring_length}
 use Rattle.tables.specs.Card.{Cq, Qp, receive_of}
-use Rattle.tables.specs.Layout.{cq_flag_t, cq_t, qp_flag_t, qp_t, waiting_t, send_head_t}
+use Rattle.tables.specs.Layout.{cq_flag_t, cq_t, qp_flag_t, qp_t, waiting_t, send_head_t, heads_of, places_of}
 use Rattle.tables.specs.Limits.{cq_count, qp_count, most_places, most_waiting, most_queued}
 use Rattle.tables.specs.State.{card, queue_at, pair_at, ring_at, receives_at, posted, no_completion, no_record}
 use Rattle.tables.specs.declared.QueueHead.{QueueHead}
@@ -25,7 +25,9 @@ use Rattle.validate.proofs.QueueLaws.{queue_is, queue_sound}
 use Rattle.validate.proofs.WaitingLaws.{pair_sound}
 use Rattle.rules.specs.Lists.{is_empty}
 use Rattle.rules.specs.Send.{room}
-use Rattle.queues.specs.Live.{LiveQueue, LivePair}
+use Rattle.queues.specs.Live.{LiveQueue, LivePair, queue_length as Live·queue_length}
+use Rattle.tables.specs.declared.WorkQueue.{WorkQueue}
+use Rattle.tables.specs.declared.WorkQueue.TheVariants.{Receive, Send}
 
 empty_is : {A : Type 0} (xs : List A) → is_empty xs ≡ eqb (length xs) 0
 empty_is [] = refl
@@ -115,6 +117,10 @@ module _ {l : List ℕ} {q : ℕ} (s : LivePair l q) where
 
   pub queue_count : length ((card l).qp q).queue ≡ (row_at send_head_t l q).count
   queue_count = queue_length l q pair_below pair_flag
+
+  pub length_head : (k : WorkQueue) → leb (places_of k) (row_at (heads_of k) l q).count ≡ leb (places_of k) (Live·queue_length k ((card l).qp q))
+  length_head Receive = rw waiting_count
+  length_head Send = rw queue_count
 
   -- a ninth queued send does not fit, and an eighth does
   pub queue_room : leb most_queued (length ((card l).qp q).queue) ≡ false → (row_at send_head_t l q).count < most_queued

@@ -1,12 +1,13 @@
 -- The cases of a reset. Assumes nothing.
 use mathlib.Core.Path.{◌≡◌, refl, ◌∙◌}
-use mathlib.Core.Bool.{cond, not}
+use mathlib.Core.Bool.{cond, not, true, false}
 use mathlib.Core.List.{List, []}
 use mathlib.Core.Option.{none, some}
 use Prim.Native.Nat.{ℕ, ◌<◌, ◌≤◌}
 use lib.ListN.{length}
-use lib.Dec.{eqb}
-use borrow.Author.Tests.{eq-eqb, ne_eqb, le-leb, lt-leb}
+use lib.Dec.{eqb, leb}
+use borrow.Author.Tests.{eq-eqb, ne_eqb, leb-true}
+use Rattle.wire.proofs.ScanLaws.{and_left, and_right}
 use Rattle.wire.specs.Checks.{refusal}
 use Rattle.tables.specs.Layout.{state_size}
 use Rattle.tables.specs.Limits.{most_memory}
@@ -34,15 +35,12 @@ module _ (l : List ℕ) (n : ℕ) where
   reset_15 e = refused_owes l k 15 (order ∙ rw (ne_eqb (length l) state_size e))
 
   module _ (sized : length l ≡ state_size) where
-    pub reset_none : n < 1 → Owes l k (Refused 11) l [] []
-    reset_none h = refused_owes l k 11 (order ∙ rw (eq-eqb (length l) state_size sized, lt-leb 1 n h))
+    pub reset_range : memory_ok n ≡ false → Owes l k (Refused 11) l [] []
+    reset_range e = refused_owes l k 11 (order ∙ rw (eq-eqb (length l) state_size sized, e))
 
-    module _ (least : 1 ≤ n) where
-      pub reset_long : most_memory < n → Owes l k (Refused 11) l [] []
-      reset_long h = refused_owes l k 11 (order ∙ rw (eq-eqb (length l) state_size sized, le-leb 1 n least, lt-leb n most_memory h))
-
-      pub reset_done : n ≤ most_memory → (l' : List ℕ) → l' ≡ reset_bytes n → Owes l k (Done 0) l' [] []
-      unfolding status_of memory_after buffer_after effect effect_bytes
-      reset_done most l' s =
-          done_owes l k refl (order ∙ rw (eq-eqb (length l) state_size sized, le-leb 1 n least, le-leb n most_memory most)) (reset_card n least most)
-          (reset_accepted n least most) l' s
+    pub reset_done : memory_ok n ≡ true → (l' : List ℕ) → l' ≡ reset_bytes n → Owes l k (Done 0) l' [] []
+    unfolding status_of memory_after buffer_after effect effect_bytes
+    reset_done e l' s =
+        let least : 1 ≤ n = leb-true 1 n (and_left (leb 1 n) _ e) in
+        let most : n ≤ most_memory = leb-true n most_memory (and_right (leb 1 n) _ e) in
+        done_owes l k refl (order ∙ rw (eq-eqb (length l) state_size sized, e)) (reset_card n least most) (reset_accepted n least most) l' s

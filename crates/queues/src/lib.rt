@@ -12,13 +12,12 @@ ghost use Rattle.rules.specs.Contract.{Owes};
 ghost use Rattle.queues.specs.Live.{LiveQueue, LivePair, Flushing};
 ghost use Rattle.queues.specs.Receive.{Posts};
 
-use rules::numbers::{
-    BAD_RANGE, BAD_STATE, FULL, NOT_LIVE, NOTHING_THERE, SHORT_BUFFER, WRONG_STATE,
-};
 use rules::{Answer, Cause};
-use tables::limits::{FLUSHED, MOST_MEMORY};
-use tables::{ReceiveRecord, queue, records, reset as fresh, rows};
-use validate::accept;
+use tables::limits::{ERROR, FLUSHED, MOST_MEMORY, RESET};
+use tables::refusal::Refusal;
+use tables::rows::{STATE_SIZE, State};
+use tables::{Kind, ReceiveRecord, WorkQueue, queue, records, reset as fresh, rows};
+use validate::live;
 
 // ---- reset
 
@@ -26,14 +25,12 @@ use validate::accept;
 pub fn reset(state: &mut [u8], memory: u64) -> Answer
     ensures { Owes state.old (Call.reset memory) result state.new [] [] }
 {
-    if state.len() != rows::STATE_SIZE {
-        return Answer::Refused(BAD_STATE);
-    }
-    if memory < 1 {
-        return Answer::Refused(BAD_RANGE);
-    }
-    if MOST_MEMORY < memory {
-        return Answer::Refused(BAD_RANGE);
+    let Some(state) = state.as_mut_array::<STATE_SIZE>() else {
+        return Refusal::BadState.into();
+    };
+    let fits = (1 <= memory) & (memory <= MOST_MEMORY);
+    if !fits {
+        return Refusal::BadRange.into();
     }
     fresh::reset(state, memory);
     Answer::Done(0)
@@ -42,14 +39,14 @@ pub fn reset(state: &mut [u8], memory: u64) -> Answer
 // ---- poll
 
 // A poll of a live completion queue into a buffer that has room.
-fn poll_live(state: &mut [u8], n: usize, buffer: &mut [u8]) -> Answer
+fn poll_live(state: &mut State, n: usize, buffer: &mut [u8]) -> Answer
     requires { LiveQueue state.old n × (24 ≤ length buffer.old) }
     ensures { Owes state.old
         (Call.poll n buffer.old) result state.new [] buffer.new }
 {
     let h = rows::load_cq(state, n);
     if h.count == 0 {
-        return Answer::Refused(NOTHING_THERE);
+        return Refusal::NothingThere.into();
     }
     let front = queue::take_front(state, n);
     records::put_completion(buffer, 0, front);
@@ -61,14 +58,14 @@ pub fn poll(state: &mut [u8], cqn: u32, buffer: &mut [u8]) -> Answer
     ensures { Owes state.old
         (Call.poll cqn buffer.old) result state.new [] buffer.new }
 {
-    if !accept::accepted(state) {
-        return Answer::Refused(BAD_STATE);
-    }
+    let Some(state) = live::acceptable(state) else {
+        return Refusal::BadState.into();
+    };
     if buffer.len() < rows::ENTRY_SIZE {
-        return Answer::Refused(SHORT_BUFFER);
+        return Refusal::ShortBuffer.into();
     }
-    if !accept::cq_live(state, cqn) {
-        return Answer::Refused(NOT_LIVE);
+    if !live::is_live(state, Kind::Cq, cqn) {
+        return Refusal::NotLive.into();
     }
     poll_live(state, cqn as usize, buffer)
 }
@@ -76,7 +73,7 @@ pub fn poll(state: &mut [u8], cqn: u32, buffer: &mut [u8]) -> Answer
 // ---- post receive
 
 // The receive of a record on a queue pair in error on which none waits: it is flushed.
-fn flush_new(state: &mut [u8], q: usize, w: ReceiveRecord) -> Answer
+fn flush_new(state: &mut State, q: usize, w: ReceiveRecord) -> Answer
     requires { Flushing state.old q }
     ensures { Posts state.old q w result state.new }
 {
@@ -88,30 +85,30 @@ fn flush_new(state: &mut [u8], q: usize, w: ReceiveRecord) -> Answer
 }
 
 // The receive of a record on a live queue pair: it is flushed, or it waits behind the others.
-fn post_live(state: &mut [u8], q: usize, w: ReceiveRecord) -> Answer
+fn post_live(state: &mut State, q: usize, w: ReceiveRecord) -> Answer
     requires { LivePair state.old q }
     ensures { Posts state.old q w result state.new }
 {
-    if pair::in_reset(state, q) {
-        return Answer::Refused(WRONG_STATE);
+    if pair::in_state(state, q, RESET) {
+        return Refusal::WrongState.into();
     }
     if pair::flushes_at_once(state, q) {
         return flush_new(state, q, w);
     }
-    if pair::receives_full(state, q) {
-        return Answer::Refused(FULL);
+    if pair::is_full(state, WorkQueue::Receive, q) {
+        return Refusal::Full.into();
     }
     queue::post_receive(state, q, w);
     Answer::Done(0)
 }
 
 // The same on any queue pair of an accepted state.
-fn post_record(state: &mut [u8], qpn: u32, w: ReceiveRecord) -> Answer
+fn post_record(state: &mut State, qpn: u32, w: ReceiveRecord) -> Answer
     requires { accepts state.old ≡ true }
     ensures { Posts state.old qpn w result state.new }
 {
-    if !pair::live(state, qpn) {
-        return Answer::Refused(NOT_LIVE);
+    if !live::is_live(state, Kind::Qp, qpn) {
+        return Refusal::NotLive.into();
     }
     post_live(state, qpn as usize, w)
 }
@@ -120,9 +117,9 @@ fn post_record(state: &mut [u8], qpn: u32, w: ReceiveRecord) -> Answer
 pub fn post_receive(state: &mut [u8], qpn: u32, posted: &[u8]) -> Answer
     ensures { Owes state.old (Call.receive qpn posted.now) result state.new [] [] }
 {
-    if !accept::accepted(state) {
-        return Answer::Refused(BAD_STATE);
-    }
+    let Some(state) = live::acceptable(state) else {
+        return Refusal::BadState.into();
+    };
     match records::read_receive(posted) {
         Ok(w) => post_record(state, qpn, w),
         Err(reason) => Answer::from(reason),
@@ -132,15 +129,15 @@ pub fn post_receive(state: &mut [u8], qpn: u32, posted: &[u8]) -> Answer
 // ---- flush
 
 // A flush of a live queue pair.
-fn flush_live(state: &mut [u8], q: usize) -> Answer
+fn flush_live(state: &mut State, q: usize) -> Answer
     requires { LivePair state.old q }
     ensures { Owes state.old (Call.flush q) result state.new [] [] }
 {
-    if !pair::in_error(state, q) {
-        return Answer::Refused(WRONG_STATE);
+    if !pair::in_state(state, q, ERROR) {
+        return Refusal::WrongState.into();
     }
     if pair::none_waiting(state, q) {
-        return Answer::Refused(NOTHING_THERE);
+        return Refusal::NothingThere.into();
     }
     if !pair::has_place(state, q) {
         return Answer::Held(Cause::Place);
@@ -153,11 +150,11 @@ fn flush_live(state: &mut [u8], q: usize) -> Answer
 pub fn flush(state: &mut [u8], qpn: u32) -> Answer
     ensures { Owes state.old (Call.flush qpn) result state.new [] [] }
 {
-    if !accept::accepted(state) {
-        return Answer::Refused(BAD_STATE);
-    }
-    if !pair::live(state, qpn) {
-        return Answer::Refused(NOT_LIVE);
+    let Some(state) = live::acceptable(state) else {
+        return Refusal::BadState.into();
+    };
+    if !live::is_live(state, Kind::Qp, qpn) {
+        return Refusal::NotLive.into();
     }
     flush_live(state, qpn as usize)
 }

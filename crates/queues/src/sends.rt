@@ -8,32 +8,33 @@ ghost use Rattle.queues.specs.Enqueue.{Sent, Enqueues};
 
 use crate::pair;
 use rules::Answer;
-use rules::numbers::{BAD_STATE, FULL, NOT_LIVE, OTHER_MEMORY, WRONG_STATE};
-use tables::{records, rows, sends};
-use validate::accept;
+use tables::refusal::Refusal;
+use tables::rows::State;
+use tables::{Kind, WorkQueue, records, rows, sends};
+use validate::live;
 
 // A record that passed its own tests, on a live queue pair.
-fn enqueue_live(state: &mut [u8], q: usize, sent: &[u8]) -> Answer
+fn enqueue_live(state: &mut State, q: usize, sent: &[u8]) -> Answer
     requires { LivePair state.old q × Sent sent.now }
     ensures { Enqueues state.old q sent.now result state.new }
 {
     if !pair::may_queue(state, q) {
-        return Answer::Refused(WRONG_STATE);
+        return Refusal::WrongState.into();
     }
-    if pair::queue_full(state, q) {
-        return Answer::Refused(FULL);
+    if pair::is_full(state, WorkQueue::Send, q) {
+        return Refusal::Full.into();
     }
     sends::push_send(state, q, sent);
     Answer::Done(0)
 }
 
 // The same on any queue pair of an accepted state.
-fn enqueue_record(state: &mut [u8], qpn: u32, sent: &[u8]) -> Answer
+fn enqueue_record(state: &mut State, qpn: u32, sent: &[u8]) -> Answer
     requires { (accepts state.old ≡ true) × Sent sent.now }
     ensures { Enqueues state.old qpn sent.now result state.new }
 {
-    if !pair::live(state, qpn) {
-        return Answer::Refused(NOT_LIVE);
+    if !live::is_live(state, Kind::Qp, qpn) {
+        return Refusal::NotLive.into();
     }
     enqueue_live(state, qpn as usize, sent)
 }
@@ -43,11 +44,11 @@ pub fn enqueue(state: &mut [u8], memory: &[u8], qpn: u32, sent: &[u8]) -> Answer
     ensures { Owes state.old
         (Call.enqueue qpn sent.now memory.now) result state.new memory.now [] }
 {
-    if !accept::accepted(state) {
-        return Answer::Refused(BAD_STATE);
-    }
+    let Some(state) = live::acceptable(state) else {
+        return Refusal::BadState.into();
+    };
     if memory.len() as u64 != rows::load_memory(state) {
-        return Answer::Refused(OTHER_MEMORY);
+        return Refusal::OtherMemory.into();
     }
     match records::read_send(sent) {
         Ok(_) => enqueue_record(state, qpn, sent),

@@ -57,6 +57,10 @@ module _ (l : List ℕ) where
   pub turn_below : Accepted l → row_at turn_t l 0 < qp_count
   turn_below ok = ltb-true (row_at turn_t l 0) qp_count ok.turn
 
+  -- an acceptable state has the length of a state
+  pub accepted_size : accepts l ≡ true → length l ≡ state_size
+  accepted_size e = (accepted e).sized
+
   pub accepting : Accepted l → accepts l ≡ true
   unfolding accepts
   accepting a =

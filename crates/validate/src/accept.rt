@@ -9,33 +9,15 @@ ghost use Rattle.tables.specs.Layout.{state_size, memory_t, turn_t};
 ghost use Rattle.tables.specs.Limits.{pd_count, cq_count, qp_count, most_places, most_waiting};
 ghost use Rattle.validate.specs.Accept.{accepts, memory_ok, turn_ok, is_status, is_state, completion_ok, receive_ok, queue_ok, pair_ok, pd_ok, cq_ok, qp_ok, names_ok, receives_ok};
 
+use crate::live::is_live;
 use crate::{regions, sends, together};
 use tables::limits::{
     CQ_COUNT, ERROR, FLUSHED, LOCAL_LENGTH, LOCAL_PROTECTION, MOST_ACCESS, MOST_MEMORY,
     MOST_MESSAGE, MOST_PLACES, MOST_RECEIVE_SGES, MOST_WAITING, PD_COUNT, QP_COUNT, RECEIVED_WRITE,
     REMOTE_ACCESS, REMOTE_INVALID, RTS, SUCCESS,
 };
-use tables::{Completion, QueueHead, QueuePair, WaitingHead, rows};
-
-// Whether protection domain n is live.
-#[tactic(auto, using(tables::proofs::ObjectLaws::pd_is, tables::proofs::ObjectLaws::pd_out))]
-pub fn pd_live(state: &[u8], n: u32) -> bool
-    requires { length state.now ≡ state_size }
-    ensures { result ≡ (card state.now).pd n }
-{
-    let i = n as usize;
-    i < PD_COUNT && rows::load_pd_flag(state, i) == 1
-}
-
-// Whether completion queue n is live.
-#[tactic(auto, using(tables::proofs::ObjectLaws::cq_live_lem, tables::proofs::ObjectLaws::cq_out))]
-pub fn cq_live(state: &[u8], n: u32) -> bool
-    requires { length state.now ≡ state_size }
-    ensures { result ≡ cq_live (card state.now) n }
-{
-    let i = n as usize;
-    i < CQ_COUNT && rows::load_cq_flag(state, i) == 1
-}
+use tables::rows::{STATE_SIZE, State};
+use tables::{Completion, Kind, QueueHead, QueuePair, WaitingHead, WorkQueue, rows};
 
 fn is_status(s: u8) -> bool
     ensures { result ≡ is_status s }
@@ -74,8 +56,8 @@ fn pair_ok(n: usize, p: QueuePair) -> bool
 }
 
 // The unread completions of queue n, whose head is h.
-fn entries_ok(state: &[u8], n: usize, h: QueueHead) -> bool
-    requires { (n < cq_count) × (h.first < most_places) × (length state.now ≡ state_size) }
+fn entries_ok(state: &State, n: usize, h: QueueHead) -> bool
+    requires { (n < cq_count) × (h.first < most_places) }
     ensures { result ≡ all completion_ok (ring_list no_completion most_places (ring_at state.now n) h.first h.count) }
 {
     together::completions_pass(state, n, h.count)
@@ -85,8 +67,8 @@ fn entries_ok(state: &[u8], n: usize, h: QueueHead) -> bool
 }
 
 // The waiting receives of queue pair n, whose head is h.
-fn receives_ok(state: &[u8], n: usize, h: WaitingHead) -> bool
-    requires { (n < qp_count) × (h.first < most_waiting) × (length state.now ≡ state_size) }
+fn receives_ok(state: &State, n: usize, h: WaitingHead) -> bool
+    requires { (n < qp_count) × (h.first < most_waiting) }
     ensures { result ≡ all receive_ok (ring_list no_record most_waiting (receives_at state.now n) h.first h.count) }
 {
     together::receives_pass(state, n, h.count)
@@ -104,11 +86,11 @@ fn queue_ok(h: QueueHead) -> bool
 }
 
 #[tactic(auto, unfolding(crate::specs::Accept::cq_ok, tables::specs::State::queue_at))]
-fn cq_ok(state: &[u8], n: usize) -> bool
-    requires { (n < cq_count) × (length state.now ≡ state_size) }
+fn cq_ok(state: &State, n: usize) -> bool
+    requires { n < cq_count }
     ensures { result ≡ cq_ok state.now n }
 {
-    match rows::load_cq_flag(state, n) {
+    match rows::load_flag(state, Kind::Cq, n) {
         0 => true,
         1 => {
             let h = rows::load_cq(state, n);
@@ -119,33 +101,32 @@ fn cq_ok(state: &[u8], n: usize) -> bool
 }
 
 // The domain and the completion queues that a queue pair names are live.
-fn names_ok(state: &[u8], p: QueuePair) -> bool
-    requires { length state.now ≡ state_size }
+fn names_ok(state: &State, p: QueuePair) -> bool
     ensures { result ≡ names_ok (card state.now).pd (cq_live (card state.now)) p }
 {
-    pd_live(state, p.pd as u32)
-        && cq_live(state, p.scq as u32)
-        && cq_live(state, p.rcq as u32)
+    is_live(state, Kind::Pd, p.pd as u32)
+        && is_live(state, Kind::Cq, p.scq as u32)
+        && is_live(state, Kind::Cq, p.rcq as u32)
 }
 
 // The waiting receives of queue pair n.
 #[tactic(auto, unfolding(tables::specs::State::pair_at))]
-fn waiting_ok(state: &[u8], n: usize) -> bool
-    requires { (n < qp_count) × (length state.now ≡ state_size) }
+fn waiting_ok(state: &State, n: usize) -> bool
+    requires { n < qp_count }
     ensures { result ≡ receives_ok (pair_at state.now n) }
 {
-    let h = rows::load_waiting(state, n);
+    let h = rows::load_head(state, WorkQueue::Receive, n);
     let first = h.first as usize;
     let count = h.count as usize;
     first < MOST_WAITING && count <= MOST_WAITING && receives_ok(state, n, h)
 }
 
 #[tactic(auto, unfolding(crate::specs::Accept::qp_ok, tables::specs::State::pair_at))]
-fn qp_ok(state: &[u8], n: usize) -> bool
-    requires { (n < qp_count) × (length state.now ≡ state_size) }
+fn qp_ok(state: &State, n: usize) -> bool
+    requires { n < qp_count }
     ensures { result ≡ qp_ok state.now n }
 {
-    match rows::load_qp_flag(state, n) {
+    match rows::load_flag(state, Kind::Qp, n) {
         0 => true,
         1 => {
             let p = rows::load_qp(state, n);
@@ -159,8 +140,7 @@ fn qp_ok(state: &[u8], n: usize) -> bool
 }
 
 // The memory length, and the queue pair that a turn visits first.
-fn header_ok(state: &[u8]) -> bool
-    requires { length state.now ≡ state_size }
+fn header_ok(state: &State) -> bool
     ensures { result ≡ (memory_ok (row_at memory_t state.now 0) && turn_ok (row_at turn_t state.now 0)) }
 {
     let memory = rows::load_memory(state);
@@ -168,22 +148,19 @@ fn header_ok(state: &[u8]) -> bool
     (1 <= memory) & (memory <= MOST_MEMORY) & (turn < QP_COUNT)
 }
 
-fn pds_ok(state: &[u8]) -> bool
-    requires { length state.now ≡ state_size }
+fn pds_ok(state: &State) -> bool
     ensures { result ≡ all_below pd_count (pd_ok state.now) }
 {
-    (0..PD_COUNT).all(|n| rows::load_pd_flag(state, n) <= 1)
+    (0..PD_COUNT).all(|n| rows::load_flag(state, Kind::Pd, n) <= 1)
 }
 
-fn cqs_ok(state: &[u8]) -> bool
-    requires { length state.now ≡ state_size }
+fn cqs_ok(state: &State) -> bool
     ensures { result ≡ all_below cq_count (cq_ok state.now) }
 {
     (0..CQ_COUNT).all(|n| cq_ok(state, n))
 }
 
-fn qps_ok(state: &[u8]) -> bool
-    requires { length state.now ≡ state_size }
+fn qps_ok(state: &State) -> bool
     ensures { result ≡ all_below qp_count (qp_ok state.now) }
 {
     (0..QP_COUNT).all(|n| qp_ok(state, n))
@@ -194,8 +171,10 @@ fn qps_ok(state: &[u8]) -> bool
 pub fn accepted(state: &[u8]) -> bool
     ensures { result ≡ accepts state.now }
 {
-    state.len() == rows::STATE_SIZE
-        && header_ok(state)
+    let Some(state) = state.as_array::<STATE_SIZE>() else {
+        return false;
+    };
+    header_ok(state)
         && pds_ok(state)
         && cqs_ok(state)
         && regions::mrs_ok(state, rows::load_memory(state))

@@ -7,17 +7,16 @@ ghost use Rattle.tables.specs.Limits.{mr_count, qp_count};
 ghost use Rattle.validate.specs.Search.{vacant, free_pdn, free_cqn, free_mrn, free_qpn, mr_names, qp_names, pd_in_use, cq_in_use};
 
 use tables::limits::{CQ_COUNT, MR_COUNT, PD_COUNT, QP_COUNT};
-use tables::rows;
+use tables::rows::State;
+use tables::{Kind, rows};
 
-pub fn free_pdn(state: &[u8]) -> usize
-    requires { length state.now ≡ state_size }
+pub fn free_pdn(state: &State) -> usize
     ensures { result ≡ free_pdn (card state.now) }
 {
     wire::lowest_clear(state, rows::PD_FLAGS, PD_COUNT / 8)
 }
 
-pub fn free_cqn(state: &[u8]) -> usize
-    requires { length state.now ≡ state_size }
+pub fn free_cqn(state: &State) -> usize
     ensures { result ≡ free_cqn (card state.now) }
 {
     wire::lowest_clear(state, rows::CQ_FLAGS, CQ_COUNT / 8)
@@ -27,18 +26,18 @@ pub fn free_cqn(state: &[u8]) -> usize
 const LAST_VARIANT: u8 = 255;
 
 // Whether a registration may take slot n: it is free, and not retired.
-fn is_vacant(state: &[u8], n: usize) -> bool
-    requires { (n < mr_count) × (length state.now ≡ state_size) }
+fn is_vacant(state: &State, n: usize) -> bool
+    requires { n < mr_count }
     ensures { result ≡ vacant ((card state.now).mr n) }
 {
-    let live = rows::load_mr_flag(state, n);
+    let live = rows::load_flag(state, Kind::Mr, n);
     let r = rows::load_mr(state, n);
     !(live == 1) & (r.variant < LAST_VARIANT)
 }
 
 // The first of the eight slots from 8 g on that a registration may take, counted from there; 8 where there is none.
-fn vacant_of_eight(state: &[u8], g: usize) -> usize
-    requires { (8 * g + 8 ≤ mr_count) × (length state.now ≡ state_size) }
+fn vacant_of_eight(state: &State, g: usize) -> usize
+    requires { 8 * g + 8 ≤ mr_count }
     ensures { result ≡ lowest 8 (λ i. vacant ((card state.now).mr (8 * g + i))) }
 {
     let mut i = wire::lowest_clear(state, rows::MR_FLAGS + 8 * g, 1);
@@ -52,8 +51,7 @@ fn vacant_of_eight(state: &[u8], g: usize) -> usize
 }
 
 // Eight slots that are all live are passed at once.
-pub fn free_mrn(state: &[u8]) -> usize
-    requires { length state.now ≡ state_size }
+pub fn free_mrn(state: &State) -> usize
     ensures { result ≡ free_mrn (card state.now) }
 {
     let mut g = 0;
@@ -67,22 +65,20 @@ pub fn free_mrn(state: &[u8]) -> usize
     MR_COUNT
 }
 
-pub fn free_qpn(state: &[u8]) -> usize
-    requires { length state.now ≡ state_size }
+pub fn free_qpn(state: &State) -> usize
     ensures { result ≡ free_qpn (card state.now) }
 {
     wire::lowest_clear(state, rows::QP_FLAGS, QP_COUNT / 8)
 }
 
 // Whether a live region names the domain.
-fn named_by_mr(state: &[u8], pd: u32) -> bool
-    requires { length state.now ≡ state_size }
+fn named_by_mr(state: &State, pd: u32) -> bool
     ensures { result ≡ any_below mr_count (mr_names (card state.now) pd) }
 {
     let mut used = false;
     let mut n = 0;
     while n < MR_COUNT {
-        let live = rows::load_mr_flag(state, n);
+        let live = rows::load_flag(state, Kind::Mr, n);
         let r = rows::load_mr(state, n);
         used = (live == 1) & (r.pd as u32 == pd) | used;
         n += 1;
@@ -91,14 +87,13 @@ fn named_by_mr(state: &[u8], pd: u32) -> bool
 }
 
 // Whether a live queue pair names the domain.
-fn named_by_qp(state: &[u8], pd: u32) -> bool
-    requires { length state.now ≡ state_size }
+fn named_by_qp(state: &State, pd: u32) -> bool
     ensures { result ≡ any_below qp_count (qp_names (card state.now) pd) }
 {
     let mut used = false;
     let mut n = 0;
     while n < QP_COUNT {
-        let live = rows::load_qp_flag(state, n);
+        let live = rows::load_flag(state, Kind::Qp, n);
         let p = rows::load_qp(state, n);
         used = (live == 1) & (p.pd as u32 == pd) | used;
         n += 1;
@@ -106,8 +101,7 @@ fn named_by_qp(state: &[u8], pd: u32) -> bool
     used
 }
 
-pub fn pd_in_use(state: &[u8], pd: u32) -> bool
-    requires { length state.now ≡ state_size }
+pub fn pd_in_use(state: &State, pd: u32) -> bool
     ensures { result ≡ pd_in_use (card state.now) pd }
 {
     let by_mr = named_by_mr(state, pd);
@@ -115,14 +109,13 @@ pub fn pd_in_use(state: &[u8], pd: u32) -> bool
     by_mr | by_qp
 }
 
-pub fn cq_in_use(state: &[u8], cq: u32) -> bool
-    requires { length state.now ≡ state_size }
+pub fn cq_in_use(state: &State, cq: u32) -> bool
     ensures { result ≡ cq_in_use (card state.now) cq }
 {
     let mut used = false;
     let mut n = 0;
     while n < QP_COUNT {
-        let live = rows::load_qp_flag(state, n);
+        let live = rows::load_flag(state, Kind::Qp, n);
         let p = rows::load_qp(state, n);
         used = (live == 1) & ((p.scq as u32 == cq) | (p.rcq as u32 == cq)) | used;
         n += 1;

@@ -3,6 +3,7 @@
 
 pub mod accept;
 pub mod find;
+pub mod live;
 pub mod regions;
 mod sends;
 mod together;

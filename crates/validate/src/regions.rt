@@ -8,12 +8,14 @@ ghost use Rattle.tables.specs.Layout.{state_size, memory_t, mr_t};
 ghost use Rattle.tables.specs.Limits.{mr_count, most_pages, page_size};
 ghost use Rattle.validate.specs.Accept.{access_ok, fields_ok, numbers_ok, paged_ok, land_ok, mr_ok};
 
-use crate::{accept, together};
+use crate::live::is_live;
+use crate::together;
 use tables::limits::{
     FLAT, LOCAL_WRITE, MOST_ACCESS, MOST_ADDRESS, MOST_PAGED, MOST_PAGES, MR_COUNT, PAGE_SIZE,
     PAGED, REMOTE_WRITE,
 };
-use tables::{Region, rows};
+use tables::rows::State;
+use tables::{Kind, Region, rows};
 
 // Whether a region may have the access bits.
 pub fn access_ok(access: u32) -> bool
@@ -42,8 +44,8 @@ fn fields_ok(r: Region) -> bool
 }
 
 // The first count page numbers of region slot n.
-fn numbers_ok(state: &[u8], memory: u64, n: usize, count: usize) -> bool
-    requires { (n < mr_count) × (count ≤ most_pages) × (length state.now ≡ state_size) }
+fn numbers_ok(state: &State, memory: u64, n: usize, count: usize) -> bool
+    requires { (n < mr_count) × (count ≤ most_pages) }
     ensures { result ≡ numbers_ok memory count (pages_at state.now n) }
 {
     if together::page_bits_pass(state, MOST_PAGES * n, MOST_PAGES, memory) {
@@ -69,8 +71,8 @@ pub fn pages_needed(start: u64, length: u64) -> u64
 }
 
 // Where a region over pages lies; r is the row of slot n.
-fn paged_ok(state: &[u8], memory: u64, n: usize, r: Region) -> bool
-    requires { (n < mr_count) × (length state.now ≡ state_size) × (r ≡ row_at mr_t state.now n) }
+fn paged_ok(state: &State, memory: u64, n: usize, r: Region) -> bool
+    requires { (n < mr_count) × (r ≡ row_at mr_t state.now n) }
     ensures { result ≡ paged_ok memory (region_at state.now n) }
 {
     if PAGE_SIZE - 1 < r.start {
@@ -83,8 +85,8 @@ fn paged_ok(state: &[u8], memory: u64, n: usize, r: Region) -> bool
 }
 
 // Where a region lies in the memory; r is the row of slot n.
-fn land_ok(state: &[u8], memory: u64, n: usize, r: Region) -> bool
-    requires { (n < mr_count) × (length state.now ≡ state_size) × (r ≡ row_at mr_t state.now n) }
+fn land_ok(state: &State, memory: u64, n: usize, r: Region) -> bool
+    requires { (n < mr_count) × (r ≡ row_at mr_t state.now n) }
     ensures { result ≡ land_ok memory (region_at state.now n) }
 {
     if r.kind == FLAT {
@@ -96,11 +98,11 @@ fn land_ok(state: &[u8], memory: u64, n: usize, r: Region) -> bool
     paged_ok(state, memory, n, r)
 }
 
-fn mr_ok(state: &[u8], memory: u64, n: usize) -> bool
-    requires { (n < mr_count) × (length state.now ≡ state_size) × (memory ≡ row_at memory_t state.now 0) }
+fn mr_ok(state: &State, memory: u64, n: usize) -> bool
+    requires { (n < mr_count) × (memory ≡ row_at memory_t state.now 0) }
     ensures { result ≡ mr_ok state.now n }
 {
-    let live = rows::load_mr_flag(state, n);
+    let live = rows::load_flag(state, Kind::Mr, n);
     if live == 0 {
         return true;
     }
@@ -108,7 +110,7 @@ fn mr_ok(state: &[u8], memory: u64, n: usize) -> bool
         return false;
     }
     let r = rows::load_mr(state, n);
-    if !accept::pd_live(state, r.pd as u32) {
+    if !is_live(state, Kind::Pd, r.pd as u32) {
         return false;
     }
     if !fields_ok(r) {
@@ -118,8 +120,8 @@ fn mr_ok(state: &[u8], memory: u64, n: usize) -> bool
 }
 
 // The eight region slots from 8 g on: together, or one by one.
-fn eight_ok(state: &[u8], memory: u64, g: usize) -> bool
-    requires { (8 * g + 8 ≤ mr_count) × (length state.now ≡ state_size) × (memory ≡ row_at memory_t state.now 0) }
+fn eight_ok(state: &State, memory: u64, g: usize) -> bool
+    requires { (8 * g + 8 ≤ mr_count) × (memory ≡ row_at memory_t state.now 0) }
     ensures { result ≡ all_below 8 (λ i. mr_ok state.now (8 * g + i)) }
 {
     if together::regions_pass(state, memory, g) {
@@ -136,8 +138,8 @@ fn eight_ok(state: &[u8], memory: u64, g: usize) -> bool
 }
 
 // Free slots are passed eight or more at a time: their flags are zero words.
-pub fn mrs_ok(state: &[u8], memory: u64) -> bool
-    requires { (length state.now ≡ state_size) × (memory ≡ row_at memory_t state.now 0) }
+pub fn mrs_ok(state: &State, memory: u64) -> bool
+    requires { memory ≡ row_at memory_t state.now 0 }
     ensures { result ≡ all_below mr_count (mr_ok state.now) }
 {
     let mut g = 0;

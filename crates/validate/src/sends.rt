@@ -12,7 +12,8 @@ ghost use Rattle.validate.specs.Together.{Enough};
 
 use crate::together;
 use tables::limits::{ERROR, MOST_QUEUED, RTS};
-use tables::{SendKind, SendRecord, WaitingHead, records, rows};
+use tables::rows::State;
+use tables::{SendKind, SendRecord, WaitingHead, WorkQueue, records, rows};
 
 // The tests of answer 4, of a queued send's numbers in the column.
 fn kind_bad(k: SendKind) -> bool
@@ -30,8 +31,8 @@ fn kind_bad(k: SendKind) -> bool
 }
 
 // All places of queue pair n, also those that hold nothing, tested together: enough where they pass.
-fn kinds_pass(state: &[u8], n: usize) -> bool
-    requires { (n < qp_count) × (length state.now ≡ state_size) }
+fn kinds_pass(state: &State, n: usize) -> bool
+    requires { n < qp_count }
     ensures { Enough result (all_below most_queued (λ k. queued_ok (place_at state.now (most_queued * n + k)))) }
 {
     !(0..MOST_QUEUED).fold(false, |bad, k| {
@@ -40,8 +41,8 @@ fn kinds_pass(state: &[u8], n: usize) -> bool
 }
 
 // The queued records of queue pair n, whose head is h.
-fn records_ok(state: &[u8], n: usize, h: WaitingHead) -> bool
-    requires { (n < qp_count) × (h.first < most_queued) × (length state.now ≡ state_size) }
+fn records_ok(state: &State, n: usize, h: WaitingHead) -> bool
+    requires { (n < qp_count) × (h.first < most_queued) }
     ensures { result ≡ all queued_ok (ring_list no_queued most_queued (queued_at state.now n) h.first h.count) }
 {
     kinds_pass(state, n)
@@ -58,11 +59,11 @@ fn may_queue(s: u8) -> bool
 
 // The queued sends of queue pair n, whose state is s; an empty queue is its head alone.
 #[tactic(auto, unfolding(tables::specs::State::pair_at))]
-pub fn sends_ok(state: &[u8], n: usize, s: u8) -> bool
-    requires { (n < qp_count) × (length state.now ≡ state_size) × (s ≡ (row_at qp_t state.now n).state) }
+pub fn sends_ok(state: &State, n: usize, s: u8) -> bool
+    requires { (n < qp_count) × (s ≡ (row_at qp_t state.now n).state) }
     ensures { result ≡ sends_ok (pair_at state.now n) }
 {
-    let h = rows::load_sends(state, n);
+    let h = rows::load_head(state, WorkQueue::Send, n);
     let first = h.first as usize;
     let count = h.count as usize;
     first < MOST_QUEUED

@@ -15,6 +15,7 @@ use tables::limits::{
     MOST_PLACES, MOST_RECEIVE_SGES, MOST_WAITING, MR_COUNT, PAGE_SIZE, PAGED, QP_COUNT,
     RECEIVED_WRITE,
 };
+use tables::rows::State;
 use tables::{Region, rows};
 
 // From how many unread completions and waiting receives on all places are looked at.
@@ -24,8 +25,8 @@ const MANY_WAITING: u8 = 2;
 
 // ---- the rows of the eight region slots from 8 g on
 
-fn variants_pass(state: &[u8], g: usize) -> bool
-    requires { (8 * g + 8 ≤ mr_count) × (length state.now ≡ state_size) }
+fn variants_pass(state: &State, g: usize) -> bool
+    requires { 8 * g + 8 ≤ mr_count }
     ensures { result ≡ eight_ok variant_ok state.now g }
 {
     let mut i = 0;
@@ -38,8 +39,8 @@ fn variants_pass(state: &[u8], g: usize) -> bool
     true
 }
 
-fn virts_pass(state: &[u8], g: usize, limit: u64) -> bool
-    requires { (8 * g + 8 ≤ mr_count) × (length state.now ≡ state_size) }
+fn virts_pass(state: &State, g: usize, limit: u64) -> bool
+    requires { 8 * g + 8 ≤ mr_count }
     ensures { Enough result (eight_ok (virt_ok limit) state.now g) }
 {
     let mut any: u64 = 0;
@@ -86,8 +87,8 @@ fn words_ok(any: u32, all: u32, kind: u8, domains: usize) -> bool
 }
 
 // Access, domain and kind.
-fn words_pass(state: &[u8], g: usize, kind: u8, domains: usize) -> bool
-    requires { (8 * g + 8 ≤ mr_count) × (length state.now ≡ state_size) }
+fn words_pass(state: &State, g: usize, kind: u8, domains: usize) -> bool
+    requires { 8 * g + 8 ≤ mr_count }
     ensures { Enough result (eight_ok (word_ok kind domains) state.now g) }
 {
     let mut any: u32 = 0;
@@ -112,8 +113,8 @@ fn range_ok(r: Region, limit: u64) -> bool
     std::num::wrapping_sub_u64(r.length, 1) < limit - r.start
 }
 
-fn ranges_pass(state: &[u8], g: usize, limit: u64) -> bool
-    requires { (8 * g + 8 ≤ mr_count) × (length state.now ≡ state_size) }
+fn ranges_pass(state: &State, g: usize, limit: u64) -> bool
+    requires { 8 * g + 8 ≤ mr_count }
     ensures { result ≡ eight_ok (range_ok limit) state.now g }
 {
     let mut i = 0;
@@ -127,8 +128,8 @@ fn ranges_pass(state: &[u8], g: usize, limit: u64) -> bool
 }
 
 // The offsets into the first page, of regions over pages.
-fn starts_pass(state: &[u8], g: usize) -> bool
-    requires { (8 * g + 8 ≤ mr_count) × (length state.now ≡ state_size) }
+fn starts_pass(state: &State, g: usize) -> bool
+    requires { 8 * g + 8 ≤ mr_count }
     ensures { Enough result (eight_ok (λ r. nat_le r.start (page_size - 1)) state.now g) }
 {
     let mut any: u64 = 0;
@@ -155,8 +156,8 @@ fn larger(a: u16, b: u16) -> u16
 
 // Page numbers, also those that a region does not need, by the bits that they have: the quicker of two ways, and all that it takes where
 // the memory's pages are a power of two.
-pub fn page_bits_pass(state: &[u8], from: usize, many: usize, memory: u64) -> bool
-    requires { (from + many ≤ page_count) × (length state.now ≡ state_size) }
+pub fn page_bits_pass(state: &State, from: usize, many: usize, memory: u64) -> bool
+    requires { from + many ≤ page_count }
     ensures { Enough result (pages_ok memory state.now from many) }
 {
     let mut any: u16 = 0;
@@ -169,8 +170,8 @@ pub fn page_bits_pass(state: &[u8], from: usize, many: usize, memory: u64) -> bo
 }
 
 // The same by the largest.
-fn page_most_pass(state: &[u8], from: usize, many: usize, memory: u64) -> bool
-    requires { (from + many ≤ page_count) × (length state.now ≡ state_size) }
+fn page_most_pass(state: &State, from: usize, many: usize, memory: u64) -> bool
+    requires { from + many ≤ page_count }
     ensures { Enough result (pages_ok memory state.now from many) }
 {
     let mut top: u16 = 0;
@@ -183,8 +184,8 @@ fn page_most_pass(state: &[u8], from: usize, many: usize, memory: u64) -> bool
 }
 
 // The page numbers of the eight region slots from 8 g on.
-fn pages_pass(state: &[u8], g: usize, memory: u64) -> bool
-    requires { (8 * g + 8 ≤ mr_count) × (length state.now ≡ state_size) }
+fn pages_pass(state: &State, g: usize, memory: u64) -> bool
+    requires { 8 * g + 8 ≤ mr_count }
     ensures { Enough result (pages_ok memory state.now (128 * g) 128) }
 {
     let from = 8 * MOST_PAGES * g;
@@ -207,8 +208,8 @@ fn limit_of(kind: u8, memory: u64) -> u64
 }
 
 // What eight rows of one kind show without the pages.
-fn rows_pass(state: &[u8], g: usize, kind: u8, limit: u64, domains: usize) -> bool
-    requires { (8 * g + 8 ≤ mr_count) × (length state.now ≡ state_size) }
+fn rows_pass(state: &State, g: usize, kind: u8, limit: u64, domains: usize) -> bool
+    requires { 8 * g + 8 ≤ mr_count }
     ensures { Enough result (eight_ok (row_ok kind limit domains) state.now g) }
 {
     if !variants_pass(state, g) {
@@ -224,8 +225,8 @@ fn rows_pass(state: &[u8], g: usize, kind: u8, limit: u64, domains: usize) -> bo
 }
 
 // Eight live regions of one kind, whose domains are among the first, which are live.
-fn live_pass(state: &[u8], memory: u64, g: usize, domains: usize) -> bool
-    requires g_bound { (8 * g + 8 ≤ mr_count) × (length state.now ≡ state_size) × (memory ≡ row_at memory_t state.now 0) }
+fn live_pass(state: &State, memory: u64, g: usize, domains: usize) -> bool
+    requires g_bound { (8 * g + 8 ≤ mr_count) × (memory ≡ row_at memory_t state.now 0) }
     requires i_value { all_below 8 (λ i. nat_eq (row_at mr_flag_t state.now (8 * g + i)) 1) ≡ true }
     requires state_value { all_below domains (card state.now).pd ≡ true }
     ensures { Enough result (all_below 8 (λ i. mr_ok state.now (8 * g + i))) }
@@ -247,8 +248,8 @@ fn live_pass(state: &[u8], memory: u64, g: usize, domains: usize) -> bool
 }
 
 // Enough for the eight region slots from 8 g on.
-pub fn regions_pass(state: &[u8], memory: u64, g: usize) -> bool
-    requires { (8 * g + 8 ≤ mr_count) × (length state.now ≡ state_size) × (memory ≡ row_at memory_t state.now 0) }
+pub fn regions_pass(state: &State, memory: u64, g: usize) -> bool
+    requires { (8 * g + 8 ≤ mr_count) × (memory ≡ row_at memory_t state.now 0) }
     ensures { Enough result (all_below 8 (λ i. mr_ok state.now (8 * g + i))) }
 {
     if wire::lowest_clear(state, rows::MR_FLAGS + 8 * g, 1) < 8 {
@@ -272,8 +273,8 @@ fn four_words(s: &[u8], at: usize) -> u64
 }
 
 // Past eights of region slots from this one on that are all free, four at a time.
-pub fn past_free(state: &[u8], from: usize) -> usize
-    requires { (from ≤ 32) × (length state.now ≡ state_size) }
+pub fn past_free(state: &State, from: usize) -> usize
+    requires { from ≤ 32 }
     ensures { (from ≤ result) × (result ≤ 32) × Enough (all_below (8 * from) (mr_ok state.now)) (all_below (8 * result) (mr_ok state.now)) }
 {
     let mut g = from;
@@ -305,8 +306,8 @@ pub fn ring_passes<F: Fn(usize) -> bool>(cap: usize, first: u8, count: u8, test:
 }
 
 // All places of completion queue n, whatever its first is: worth it where many hold an unread completion.
-pub fn completions_pass(state: &[u8], n: usize, count: u8) -> bool
-    requires { (n < cq_count) × (length state.now ≡ state_size) }
+pub fn completions_pass(state: &State, n: usize, count: u8) -> bool
+    requires { n < cq_count }
     ensures { Enough result (all_below most_places (λ k. completion_ok (row_at entry_t state.now (most_places * n + k)))) }
 {
     if count < MANY_UNREAD {
@@ -330,8 +331,8 @@ pub fn completions_pass(state: &[u8], n: usize, count: u8) -> bool
 }
 
 // All places of queue pair n's receives.
-pub fn receives_pass(state: &[u8], n: usize, count: u8) -> bool
-    requires { (n < qp_count) × (length state.now ≡ state_size) }
+pub fn receives_pass(state: &State, n: usize, count: u8) -> bool
+    requires { n < qp_count }
     ensures { Enough result (all_below most_waiting (λ k. receive_ok (row_at receive_t state.now (most_waiting * n + k)))) }
 {
     if count < MANY_WAITING {

@@ -1,7 +1,7 @@
 use mathlib.Core.Path.{ap}
 use native.Mathlib.Omega.{arith}
 use Rattle.tables.specs.declared.QueueHead.{QueueHead}
-use Rattle.queues.proofs.LiveLaws.{queue_ok_lem, queue_below, queue_first}
+use Rattle.queues.proofs.LiveLaws.{queue_below, queue_first}
 use Rattle.queues.proofs.PollLaws.{poll_empty, poll_done}
 use Rattle.queues.proofs.poll_live.Goals as goal
 
@@ -9,21 +9,21 @@ pub load_cq-h-requires : goal.load_cq-h-requires
 load_cq-h-requires c =
     let s = c.requires.0 in
     let b = queue_below s in
-    (omega arith, (queue_ok_lem s).sized)
+    omega arith
 
 pub returns-then-h-eq0 : goal.returns-then-h-eq0
 returns-then-h-eq0 c =
     let c1 = c in
     let c2 = c1 in
     let a = c2.args in
-    poll_empty a.state.now a.n a.buffer.now c2.requires.1 c2.requires.0 _ c1.load_cq-h.ensures c.if-h-eq0.true
+    rw c.into.ensures (poll_empty a.state.now a.n a.buffer.now c2.requires.1 c2.requires.0 _ c1.load_cq-h.ensures c.if-h-eq0.true)
 
 pub take_front-front-requires : goal.take_front-front-requires
 take_front-front-requires c =
     let c1 = c in
     let s = c1.requires.0 in
     let k = ap (λ (h : QueueHead). h.count) c1.load_cq-h.ensures in
-    (queue_below s, (queue_ok_lem s).sized, queue_first s, omega arith)
+    (queue_below s, queue_first s, omega arith)
 
 pub returns : goal.returns
 returns c =

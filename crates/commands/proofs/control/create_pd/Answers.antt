@@ -18,4 +18,4 @@ returns c =
     let right = room in
     let s = right in
     rw (bare_right s.args.state.now s.args.command.now Command.create_pd right.if-command-ne-HEAD_SIZE.false)
-    (create_pd_done _ room.free_pdn-n.result room.free_pdn-n.ensures room.if-n-ge-PD_COUNT.false _ c.store_pd_flag.ensures)
+    (create_pd_done _ room.free_pdn-n.result room.free_pdn-n.ensures room.if-n-ge-PD_COUNT.false _ c.store_flag.ensures)

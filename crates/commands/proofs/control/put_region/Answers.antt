@@ -32,4 +32,4 @@ returns c =
     let s = made in
     let v : made.load_mr-variant.result.variant + 1 ≡ new_variant (card s.args.state.now) =
     ap (λ (x : Region). x.variant + 1) made.load_mr-variant.ensures ∙ new_variant_lem _ _ s.requires.2 s.requires.0 in
-    (v, rw (c.store_mr_flag.ensures, c.store_mr.ensures, v, s.requires.2))
+    (v, rw (c.store_flag.ensures, c.store_mr.ensures, v, s.requires.2))

@@ -20,7 +20,7 @@ returns c =
       row.moved_pair.ensures,
       sends.moved_head-s.ensures,
       waiting.moved_head-w.ensures,
-      sends.load_sends.ensures,
-      waiting.load_waiting.ensures,
+      sends.load_head.ensures,
+      waiting.load_head.ensures,
       waiting.load_qp-p.ensures,
     ))

@@ -12,4 +12,4 @@ returns c =
     let row = c in
     let heads = row in
     let s = heads in
-    rw (c.store_qp_flag.ensures, row.store_qp.ensures, heads.store_heads.ensures, row.new_pair.ensures, s.requires.2)
+    rw (c.store_flag.ensures, row.store_qp.ensures, heads.store_heads.ensures, row.new_pair.ensures, s.requires.2)

@@ -9,10 +9,10 @@ use Rattle.dma.proofs.permit.region_of.Goals as goal
 pub returns-then-slot-ge-MR_COUNT : goal.returns-then-slot-ge-MR_COUNT
 returns-then-slot-ge-MR_COUNT c = let a = c.args in sym (region_out a.state.now a.key (search rules))
 
-pub returns-then-load_mr_flag-ne1 : goal.returns-then-load_mr_flag-ne1
-returns-then-load_mr_flag-ne1 c =
+pub returns-then-load_flag-ne1 : goal.returns-then-load_flag-ne1
+returns-then-load_flag-ne1 c =
     let a = c.args in
-    sym (region_free a.state.now a.key (search rules) (λ e. c.if-load_mr_flag-ne1.true (cc)))
+    sym (region_free a.state.now a.key (search rules) (λ e. c.if-load_flag-ne1.true (cc)))
 
 pub returns-then-r-key : goal.returns-then-r-key
 returns-then-r-key c =

@@ -21,14 +21,14 @@ returns-then-not-is_live c =
     let b = c in
     sym (dead b.args.state.now b.requires.0 b.args.q b.requires.1 (sym c.is_live.ensures ∙ c.if-not-is_live.true))
 
-pub load_sends-h-requires : goal.load_sends-h-requires
-load_sends-h-requires c = let b = c in (b.requires.1, (accepted _ b.requires.0).sized)
+pub load_head-h-requires : goal.load_head-h-requires
+load_head-h-requires c = let b = c in (b.requires.1, (accepted _ b.requires.0).sized)
 
 pub returns-then-h-eq0 : goal.returns-then-h-eq0
 returns-then-h-eq0 c =
     let b = c in
     let live = sym c.is_live.ensures ∙ c.if-not-is_live.false in
-    let none = ap (λ (x : WaitingHead). x.count) (sym c.load_sends-h.ensures) ∙ c.if-h-eq0.true in
+    let none = ap (λ (x : WaitingHead). x.count) (sym c.load_head-h.ensures) ∙ c.if-h-eq0.true in
     sym (nothing_queued b.args.state.now b.requires.0 b.args.q b.requires.1 live none)
 
 pub first_opcode-opcode-requires : goal.first_opcode-opcode-requires
@@ -48,6 +48,6 @@ pub returns : goal.returns
 returns c =
     let b = c in
     let live = sym c.is_live.ensures ∙ c.if-not-is_live.false in
-    let some-queued : (row_at send_head_t b.args.state.now b.args.q).count ≢ 0 = (λ z. c.if-h-eq0.false (ap (λ (x : WaitingHead). x.count) c.load_sends-h.ensures ∙ z)) in
+    let some-queued : (row_at send_head_t b.args.state.now b.args.q).count ≢ 0 = (λ z. c.if-h-eq0.false (ap (λ (x : WaitingHead). x.count) c.load_head-h.ensures ∙ z)) in
     c.is_free.ensures
     ∙ sym (runs_by b.args.state.now b.requires.0 b.args.q b.requires.1 live some-queued _ c.first_opcode-opcode.ensures)

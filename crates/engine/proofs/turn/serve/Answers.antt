@@ -33,6 +33,6 @@ returns c =
       status = r.status;
       bytes =
           c.store_turn.ensures
-          ∙ ap (λ (l : List ℕ). put_row turn_t l 0 (after c.args.q)) (c.pop_send.ensures ∙ ap (λ (l : List ℕ). unqueue_bytes l c.args.q) r.bytes);
+          ∙ ap (λ (l : List ℕ). put_row turn_t l 0 (after c.args.q)) (c.drop_oldest.ensures ∙ ap (λ (l : List ℕ). unqueue_bytes l c.args.q) r.bytes);
       memory = r.memory;
     }

@@ -1,8 +1,8 @@
-use Rattle.queues.proofs.LiveLaws.{pair_ok_lem, pair_below, waiting_none}
+use Rattle.queues.proofs.LiveLaws.{pair_below, waiting_none}
 use Rattle.queues.proofs.pair.none_waiting.Goals as goal
 
-pub load_waiting-h-requires : goal.load_waiting-h-requires
-load_waiting-h-requires c = let s = c.requires in (pair_below s, (pair_ok_lem s).sized)
+pub load_head-requires : goal.load_head-requires
+load_head-requires c = pair_below c.requires
 
 pub returns : goal.returns
-returns c = rw (waiting_none c.requires, ← c.load_waiting-h.ensures)
+returns c = rw (waiting_none c.requires, ← c.load_head.ensures)

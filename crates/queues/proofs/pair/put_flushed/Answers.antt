@@ -1,10 +1,10 @@
-use Rattle.queues.proofs.LiveLaws.{pair_ok_lem, pair_below, pair_queues}
+use Rattle.queues.proofs.LiveLaws.{pair_below, pair_queues}
 use Rattle.queues.proofs.PutLaws.{put_free, put_bytes_lem}
 use native.Mathlib.Omega.{arith}
 use Rattle.queues.proofs.pair.put_flushed.Goals as goal
 
 pub load_qp-p-requires : goal.load_qp-p-requires
-load_qp-p-requires c = let s = c.requires.pair in (pair_below s, (pair_ok_lem s).sized)
+load_qp-p-requires c = let s = c.requires.pair in pair_below s
 
 pub overflow_cast-e : goal.overflow_cast-e
 overflow_cast-e c = let b = pair_below c.requires.pair in omega arith
@@ -13,7 +13,7 @@ pub push_completion-requires : goal.push_completion-requires
 push_completion-requires c =
     let c1 = c in
     let f = c1.requires in
-    rw c1.load_qp-p.ensures ((pair_queues f.pair).1, (pair_ok_lem f.pair).sized, put_free f)
+    rw c1.load_qp-p.ensures ((pair_queues f.pair).1, put_free f)
 
 pub returns : goal.returns
 returns c =
