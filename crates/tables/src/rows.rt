@@ -161,11 +161,11 @@ pub fn load_cq(state: &[u8], n: usize) -> QueueHead
     requires { (n < cq_count) × (length state.now ≡ state_size) }
     ensures { result ≡ row_at cq_t state.now n }
 {
-    let [places, first, count, _] = wire::get_bytes::<4>(state, CQS + n * CQ_SIZE);
+    let at = CQS + n * CQ_SIZE;
     QueueHead {
-        places,
-        first,
-        count,
+        places: wire::get(state, at),
+        first: wire::get(state, at + 1),
+        count: wire::get(state, at + 2),
     }
 }
 
@@ -198,12 +198,11 @@ pub fn load_mr(state: &[u8], n: usize) -> Region
     ensures { result ≡ row_at mr_t state.now n }
 {
     let at = MRS + n * MR_SIZE;
-    let [access, variant, pd, kind] = wire::get_bytes::<4>(state, at);
     Region {
-        access,
-        variant,
-        pd,
-        kind,
+        access: wire::get(state, at),
+        variant: wire::get(state, at + 1),
+        pd: wire::get(state, at + 2),
+        kind: wire::get(state, at + 3),
         start: wire::get(state, at + 8),
         length: wire::get(state, at + 16),
         virt: wire::get(state, at + 24),
@@ -242,18 +241,15 @@ pub fn load_qp(state: &[u8], n: usize) -> QueuePair
     requires { (n < qp_count) × (length state.now ≡ state_size) }
     ensures { result ≡ row_at qp_t state.now n }
 {
-    let [pd, signal, scq, rcq, state, dest, rights, _] = wire::get_bytes::<8>(
-        state,
-        QPS + n * QP_SIZE,
-    );
+    let at = QPS + n * QP_SIZE;
     QueuePair {
-        pd,
-        signal,
-        scq,
-        rcq,
-        state,
-        dest,
-        rights,
+        pd: wire::get(state, at),
+        signal: wire::get(state, at + 1),
+        scq: wire::get(state, at + 2),
+        rcq: wire::get(state, at + 3),
+        state: wire::get(state, at + 4),
+        dest: wire::get(state, at + 5),
+        rights: wire::get(state, at + 6),
     }
 }
 
@@ -274,8 +270,11 @@ pub fn load_waiting(state: &[u8], n: usize) -> WaitingHead
     requires { (n < qp_count) × (length state.now ≡ state_size) }
     ensures { result ≡ row_at waiting_t state.now n }
 {
-    let [first, count] = wire::get_bytes::<2>(state, WAITING + n * WAITING_SIZE);
-    WaitingHead { first, count }
+    let at = WAITING + n * WAITING_SIZE;
+    WaitingHead {
+        first: wire::get(state, at),
+        count: wire::get(state, at + 1),
+    }
 }
 
 pub fn store_waiting(state: &mut [u8], n: usize, r: WaitingHead)
@@ -319,8 +318,11 @@ pub fn load_sends(state: &[u8], n: usize) -> WaitingHead
     requires { (n < qp_count) × (length state.now ≡ state_size) }
     ensures { result ≡ row_at send_head_t state.now n }
 {
-    let [first, count] = wire::get_bytes::<2>(state, SENDS + n * WAITING_SIZE);
-    WaitingHead { first, count }
+    let at = SENDS + n * WAITING_SIZE;
+    WaitingHead {
+        first: wire::get(state, at),
+        count: wire::get(state, at + 1),
+    }
 }
 
 pub fn store_sends(state: &mut [u8], n: usize, r: WaitingHead)
@@ -335,11 +337,11 @@ pub fn load_kind(state: &[u8], n: usize) -> SendKind
     requires { (n < queued_count) × (length state.now ≡ state_size) }
     ensures { result ≡ row_at kind_t state.now n }
 {
-    let w = wire::get::<u32>(state, KINDS + n * KIND_SIZE);
+    let at = KINDS + n * KIND_SIZE;
     SendKind {
-        opcode: (w % 256) as u8,
-        flags: (w / 256 % 256) as u8,
-        count: (w / 65536) as u16,
+        opcode: wire::get(state, at),
+        flags: wire::get(state, at + 1),
+        count: wire::get(state, at + 2),
     }
 }
 
