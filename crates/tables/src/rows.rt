@@ -198,11 +198,12 @@ pub fn load_mr(state: &[u8], n: usize) -> Region
     ensures { result ≡ row_at mr_t state.now n }
 {
     let at = MRS + n * MR_SIZE;
+    let [access, variant, pd, kind] = wire::get_bytes::<4>(state, at);
     Region {
-        access: wire::get(state, at),
-        variant: wire::get(state, at + 1),
-        pd: wire::get(state, at + 2),
-        kind: wire::get(state, at + 3),
+        access,
+        variant,
+        pd,
+        kind,
         start: wire::get(state, at + 8),
         length: wire::get(state, at + 16),
         virt: wire::get(state, at + 24),
