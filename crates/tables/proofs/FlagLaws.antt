@@ -58,13 +58,11 @@ unfolding waiting_t send_head_t
 head_within Receive n h = omega arith
 head_within Send n h = omega arith
 
-abbrev head_in : List ℕ → WaitingHead
-head_in b = record { first = slice_index_or b 0 0; count = slice_index_or b 1 0 }
-
-pub head_read : (k : WorkQueue) (l : List ℕ) (n : ℕ) → head_in (fields_at (bytes_from 2 0) l ((heads_of k).base + n * 2)) ≡ row_at (heads_of k) l n
-unfolding row_at waiting_codec place bytes_from waiting_t send_head_t
-head_read Receive l n = refl
-head_read Send l n = refl
+pub head_read : (k : WorkQueue) (l : List ℕ) (n : ℕ)
+    → record { first = le_at 1 l ((heads_of k).base + n * 2); count = le_at 1 l ((heads_of k).base + n * 2 + 1) } ≡ row_at (heads_of k) l n
+unfolding row_at waiting_codec fields_at place waiting_t send_head_t
+head_read Receive l n = rw add-zero refl
+head_read Send l n = rw add-zero refl
 
 pub head_put : (k : WorkQueue) (l : List ℕ) (n : ℕ) (r : WaitingHead)
     → put_fields (bytes_from 2 0) l ((heads_of k).base + n * 2) (r.first ∷ r.count ∷ []) ≡ put_row (heads_of k) l n r

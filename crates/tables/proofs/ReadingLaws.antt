@@ -4,7 +4,7 @@ use mathlib.Core.Logic.{◌⊎◌, inl, inr}
 use mathlib.Core.Bool.{Bool, true, false, not, ◌&&◌, ◌||◌}
 use mathlib.Core.List.{List, [], ◌∷◌}
 use mathlib.Core.Option.{Option, none, some}
-use Prim.Native.Nat.{ℕ, zero, suc, ◌+◌, ◌*◌, ◌/◌, ◌%◌, ◌≤◌, ◌<◌}
+use Prim.Native.Nat.{ℕ, zero, suc, ◌+◌, ◌*◌, ◌%◌, ◌≤◌, ◌<◌}
 use native.Mathlib.Nat.{add-zero, add_assoc}
 use native.Mathlib.Omega.{arith}
 use native.Mathlib.Decide.{dec_le}
@@ -96,21 +96,6 @@ inline_length_lem x =
     let b : le_at 2 x 560 < 65536 = le_at_below 2 x 560 in
     let g : le_at 2 x 560 ≡ le_at 4 x 560 % 65536 = omega arith in
     g
-
--- a row of the queued sends' column, read as one number
-pub kind_word : (l : List ℕ) (at w : ℕ) → w ≡ le_at 4 l at → record { opcode = w % 256; flags = w / 256 % 256; count = w / 65536 } ≡ decode kind_codec l at
-unfolding kind_codec fields_at
-kind_word l at w e =
-    let s : le_at 4 l at ≡ le_at 2 l at + 65536 * le_at 2 l (at + 2) = le_at_split 2 2 l at in
-    let t : le_at 2 l at ≡ le_at 1 l at + 256 * le_at 1 l (at + 1) = le_at_split 1 1 l at in
-    let b : le_at 1 l at < 256 = le_at_below 1 l at in
-    let c : le_at 1 l (at + 1) < 256 = le_at_below 1 l (at + 1) in
-    let d : le_at 2 l at < 65536 = le_at_below 2 l at in
-    let opcode : w % 256 ≡ le_at 1 l at = omega arith in
-    let high : w / 256 ≡ le_at 1 l (at + 1) + 256 * le_at 2 l (at + 2) = omega arith in
-    let flags : w / 256 % 256 ≡ le_at 1 l (at + 1) = rw high (omega arith) in
-    let count : w / 65536 ≡ le_at 2 l (at + 2) = omega arith in
-    rw (add-zero, opcode, flags, count)
 
 -- the tests after the first, as two
 two : (a b i o l m z : Bool)

@@ -145,11 +145,11 @@ pub fn load_cq(state: &State, n: usize) -> QueueHead
     requires { n < cq_count }
     ensures { result ≡ row_at cq_t state.now n }
 {
-    let [places, first, count, _] = wire::get_bytes::<4>(state, CQS + n * CQ_SIZE);
+    let at = CQS + n * CQ_SIZE;
     QueueHead {
-        places,
-        first,
-        count,
+        places: wire::get(state, at),
+        first: wire::get(state, at + 1),
+        count: wire::get(state, at + 2),
     }
 }
 
@@ -226,18 +226,15 @@ pub fn load_qp(state: &State, n: usize) -> QueuePair
     requires { n < qp_count }
     ensures { result ≡ row_at qp_t state.now n }
 {
-    let [pd, signal, scq, rcq, state, dest, rights, _] = wire::get_bytes::<8>(
-        state,
-        QPS + n * QP_SIZE,
-    );
+    let at = QPS + n * QP_SIZE;
     QueuePair {
-        pd,
-        signal,
-        scq,
-        rcq,
-        state,
-        dest,
-        rights,
+        pd: wire::get(state, at),
+        signal: wire::get(state, at + 1),
+        scq: wire::get(state, at + 2),
+        rcq: wire::get(state, at + 3),
+        state: wire::get(state, at + 4),
+        dest: wire::get(state, at + 5),
+        rights: wire::get(state, at + 6),
     }
 }
 
@@ -280,8 +277,11 @@ pub fn load_head(state: &State, queue: WorkQueue, n: usize) -> WaitingHead
     requires { n < qp_count }
     ensures { result ≡ row_at (heads_of queue) state.now n }
 {
-    let [first, count] = wire::get_bytes::<2>(state, queue.heads() + n * WAITING_SIZE);
-    WaitingHead { first, count }
+    let at = queue.heads() + n * WAITING_SIZE;
+    WaitingHead {
+        first: wire::get(state, at),
+        count: wire::get(state, at + 1),
+    }
 }
 
 pub fn store_head(state: &mut State, queue: WorkQueue, n: usize, r: WaitingHead)
@@ -325,11 +325,11 @@ pub fn load_kind(state: &State, n: usize) -> SendKind
     requires { n < queued_count }
     ensures { result ≡ row_at kind_t state.now n }
 {
-    let w = wire::get::<u32>(state, KINDS + n * KIND_SIZE);
+    let at = KINDS + n * KIND_SIZE;
     SendKind {
-        opcode: (w % 256) as u8,
-        flags: (w / 256 % 256) as u8,
-        count: (w / 65536) as u16,
+        opcode: wire::get(state, at),
+        flags: wire::get(state, at + 1),
+        count: wire::get(state, at + 2),
     }
 }
 
