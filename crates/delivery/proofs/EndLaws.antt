@@ -5,6 +5,7 @@ use mathlib.Core.List.{List, [], ◌∷◌}
 use mathlib.Core.Option.{Option, none, some}
 use Prim.Native.Nat.{ℕ, ◌^◌, ◌≤◌, ◌<◌}
 use native.Mathlib.Omega.{arith}
+use lib.Dec.{lit<}
 use lib.ListN.{length, take}
 use borrow.Author.Tests.{eq-eqb, ne_eqb}
 use Rattle.wire.specs.Checks.{refusal}
@@ -260,8 +261,16 @@ module _ (l : List ℕ) (q : ℕ) (own : QueuePair) (at : Sender l q own) (s : S
     goes_on : Runs l q o
     goes_on = record { live = sender_live l q o own at; good = free; runs = runs_then other }
 
-    pub dest_below : (sges : List Sge) (b : List ℕ) → Told s b → own.dest < qp_count
-    dest_below sges b t = rw at.row (peer_below l [] q at.accepted s sges b t goes_on (ends_at l q) refl)
+    -- whatever the request is but for its opcode
+    pub dest_below : own.dest < qp_count
+    dest_below =
+        let h : SendRecord = record { wr = 0; opcode = o; flags = 0; imm = 0; address = 0; key = 0; count = 0 } in
+        let t : Told h [] = record {
+          limits = record { plain = λ i. omega arith; short = λ i. omega arith; there = λ i. absurd (false≢true i) };
+          wr = lit< tt;
+          imm = lit< tt;
+        } in
+        rw at.row (peer_below l [] q at.accepted h [] [] t goes_on (ends_at l q) refl)
 
     pub met_rows : (far : QueuePair) → far ≡ row_at qp_t l own.dest → Met l (record { q = q; own = own; d = own.dest; far = far }) o
     met_rows far is = record { rows = rw (is, at.row); good = goes_on }

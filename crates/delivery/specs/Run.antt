@@ -1,11 +1,10 @@
 -- A request that is run on a queue pair, document 01, "Posting and delivering", steps 1 to 6: what each part of the code hands to the next, in
 -- the rules' words. A request is its head s, its scatter/gather entries sges, of which it has count, and its inline bytes b, wherever these
 -- stand. Assumes nothing.
-use Rattle.std.specs.Prelude.{◌≡◌, true, false, List, [], ◌∷◌, ℕ, ◌≤◌, length, take}
+use Rattle.std.specs.Prelude.{◌≡◌, true, false, List, [], ◌∷◌, ℕ, take}
 use Rattle.std.proofs.Math.Option.{Option, none, some}
 use Rattle.wire.specs.Checks.{Check, refusal}
 use Rattle.tables.specs.Card.{Card}
-use Rattle.tables.specs.Limits.{most_sges, most_inline}
 use Rattle.tables.specs.Records.{is_signaled, is_inline}
 use Rattle.tables.specs.State.{card}
 use Rattle.tables.specs.declared.SendRecord.{SendRecord}
@@ -13,9 +12,9 @@ use Rattle.tables.specs.declared.Sge.{Sge}
 use Rattle.rules.specs.Answer.{answered}
 use Rattle.rules.specs.Bytes.{send_bytes}
 use Rattle.rules.specs.Send.{hold_checks, is_in_error, send_status, send_memory}
-use Rattle.rules.specs.Touch.{reads}
 use Rattle.tables.specs.Records.{Request}
 use Rattle.rules.specs.declared.Answer.{Answer}
+pub use Rattle.delivery.specs.Request.{Bounded}
 use Rattle.delivery.specs.Meet.{bare, ends_at}
 use Rattle.delivery.specs.declared.meet.Ends.{Ends}
 
@@ -32,12 +31,6 @@ request_by s sges b =
       key = s.key;
       sges = take s.count sges;
     }
-
--- what its record's own tests have shown: "inline with opcode 4, inline length over 512, or count over 4 gives 4"
-pub record Bounded (s : SendRecord) (b : List ℕ) : Type 0 where
-  pub plain : is_inline s ≡ false → s.count ≤ most_sges
-  pub short : is_inline s ≡ true → length b ≤ most_inline
-  pub there : is_inline s ≡ true → reads s.opcode ≡ false
 
 -- nothing holds a request of the opcode o on the queue pair q, which is live and not in error
 pub record Runs (l : List ℕ) (q o : ℕ) : Type 0 where

@@ -13,38 +13,14 @@ ghost use Rattle.delivery.specs.Deliver.{party_in, taken_row, Sending, Delivery,
 
 use crate::meet;
 use crate::meet::Ends;
+use crate::request::WorkRequest;
 use dma::{permit, transfer};
 use rules::Party;
 use tables::limits::{
-    INLINE_FLAG, LOCAL_LENGTH, LOCAL_PROTECTION, LOCAL_WRITE, MOST_MESSAGE, READ, REMOTE_ACCESS,
-    REMOTE_INVALID, REMOTE_READ, REMOTE_WRITE, SUCCESS,
+    LOCAL_LENGTH, LOCAL_PROTECTION, LOCAL_WRITE, MOST_MESSAGE, READ, REMOTE_ACCESS, REMOTE_INVALID,
+    REMOTE_READ, REMOTE_WRITE, SUCCESS,
 };
-use tables::rows::State;
 use tables::{QueuePair, ReceiveRecord, SendRecord, Sge, queue};
-
-fn is_inline(s: SendRecord) -> bool
-    ensures { result ≡ is_inline s }
-{
-    s.flags & INLINE_FLAG != 0
-}
-
-// Whether the request is a write or a read of one entry, which takes no receive.
-pub fn is_single(s: SendRecord) -> bool
-    ensures { result ≡ is_single s }
-{
-    !is_inline(s) & (s.count == 1) & !meet::takes_receive(s.opcode)
-}
-
-// The number of bytes of the message.
-pub fn total_of(s: SendRecord, sges: [Sge; 4], inline: &[u8]) -> u64
-    requires { is_inline s ≡ false → s.count ≤ 4 }
-    ensures { result ≡ total_by s sges inline.now }
-{
-    if is_inline(s) {
-        return inline.len() as u64;
-    }
-    permit::sges_total(&sges[..s.count as usize])
-}
 
 // Whose use of memory a queue pair's is.
 fn party_of(p: QueuePair) -> Party
@@ -57,14 +33,11 @@ fn party_of(p: QueuePair) -> Party
 }
 
 // Step 3: whether each byte of the sender's own entries is permitted.
-fn own_permitted(state: &State, p: Party, s: SendRecord, sges: [Sge; 4]) -> bool
-    requires { is_inline s ≡ false → s.count ≤ 4 }
-    ensures { result ≡ allows_all (card state.now) p (own_mask s.opcode) (own_by s sges) }
+fn own_permitted(state: &[u8], p: Party, r: &WorkRequest) -> bool
+    requires { length state.now ≡ state_size }
+    ensures { result ≡ allows_all (card state.now) p (own_mask r.now.head.opcode) (own_by r.now.head r.now.sges.now) }
 {
-    if is_inline(s) {
-        return true;
-    }
-    permit::sges_permitted(state, p, own_mask(s.opcode), &sges[..s.count as usize])
+    r.is_inline() || permit::sges_permitted(state, p, own_mask(r.head.opcode), r.sges)
 }
 
 // Whether a message of n bytes fits the receive that it fills.
@@ -139,33 +112,23 @@ fn far_fault(opcode: u8) -> u8
 }
 
 // Step 6: moves the message, inline bytes or those of entries, to the peer's side or, for a read, back.
-fn move_bytes(
-    state: &State,
-    memory: &mut [u8],
-    s: SendRecord,
-    sges: [Sge; 4],
-    inline: &[u8],
-    far: &[Sge],
-)
-    requires ready { Ready state.now memory.old × (is_inline s ≡ false → s.count ≤ 4) }
-    requires carries { Carries (card state.now) s inline.now (take s.count sges) far.now }
-    ensures { memory.new ≡ carried (card state.now) s inline.now (take s.count sges) far.now memory.old }
+fn move_bytes(state: &[u8], memory: &mut [u8], r: &WorkRequest, far: &[Sge])
+    requires ready { Ready state.now memory.old }
+    requires carries { Carries (card state.now) r.now.head r.now.inline.now (take r.now.head.count r.now.sges.now) far.now }
+    ensures { memory.new ≡ carried (card state.now) r.now.head r.now.inline.now (take r.now.head.count r.now.sges.now) far.now memory.old }
 {
-    if is_inline(s) {
-        transfer::scatter_inline(state, memory, inline, far);
-        return;
-    }
-    let own = &sges[..s.count as usize];
-    if s.opcode == READ {
-        transfer::transfer(state, memory, far, own);
+    if r.is_inline() {
+        transfer::scatter_inline(state, memory, r.inline, far);
+    } else if r.head.opcode == READ {
+        transfer::transfer(state, memory, far, r.sges);
     } else {
-        transfer::transfer(state, memory, own, far);
+        transfer::transfer(state, memory, r.sges, far);
     }
 }
 
 // The receive that a request takes; nothing where it takes none.
-pub fn taken_receive(state: &State, d: usize, opcode: u8) -> ReceiveRecord
-    requires { (d < qp_count) × ((row_at waiting_t state.now d).first < most_waiting) }
+pub fn taken_receive(state: &[u8], d: usize, opcode: u8) -> ReceiveRecord
+    requires { (d < qp_count) × (length state.now ≡ state_size) × ((row_at waiting_t state.now d).first < most_waiting) }
     ensures { result ≡ taken_row state.now d opcode }
 {
     if meet::takes_receive(opcode) {
@@ -176,33 +139,33 @@ pub fn taken_receive(state: &State, d: usize, opcode: u8) -> ReceiveRecord
 
 // Steps 4 to 6 of a message of n bytes, of which step 3 found no fault.
 fn deliver_far(
-    state: &State,
+    state: &[u8],
     memory: &mut [u8],
     e: Ends,
-    s: SendRecord,
-    sges: [Sge; 4],
-    inline: &[u8],
+    r: &WorkRequest,
     w: ReceiveRecord,
     n: u32,
 ) -> u8
-    requires ready { Ready state.now memory.old }
-    requires count_bound { (w.count ≤ 2) × Sending s sges inline.now n × OwnSide (card state.now) e s sges n }
-    ensures { Delivery state.now memory.old e s sges inline.now w n result memory.new }
+    requires ready { Ready state.now memory.old × (w.count ≤ 2) }
+    requires total { total_by r.now.head r.now.sges.now r.now.inline.now ≡ n }
+    requires side { OwnSide (card state.now) e r.now.head r.now.sges.now n }
+    ensures { Delivery state.now memory.old e r.now.head r.now.sges.now r.now.inline.now w n result memory.new }
 {
-    if !fits_receive(s.opcode, w, n) {
+    let opcode = r.head.opcode;
+    if !fits_receive(opcode, w, n) {
         return REMOTE_INVALID;
     }
-    let sges_far = far_sges(s, w, n);
-    let far = &sges_far[..far_count(s.opcode, w)];
-    if !permit::sges_permitted(state, party_of(e.far), far_mask(s.opcode), far) {
-        return far_fault(s.opcode);
+    let sges_far = far_sges(r.head, w, n);
+    let far = &sges_far[..far_count(opcode, w)];
+    if !permit::sges_permitted(state, party_of(e.far), far_mask(opcode), far) {
+        return far_fault(opcode);
     }
-    move_bytes(state, memory, s, sges, inline, far);
+    move_bytes(state, memory, r, far);
     SUCCESS
 }
 
 // Step 6 of a request of one entry and a remote range.
-fn move_single(state: &State, memory: &mut [u8], s: SendRecord, a: Sge)
+fn move_single(state: &[u8], memory: &mut [u8], s: SendRecord, a: Sge)
     requires ready { Ready state.now memory.old × (is_single s ≡ true) }
     requires carries { Carries (card state.now) s [] (a ∷ []) (far_list s no_record a.length) }
     ensures { memory.new ≡ carried (card state.now) s [] (a ∷ []) (far_list s no_record a.length) memory.old }
@@ -216,7 +179,7 @@ fn move_single(state: &State, memory: &mut [u8], s: SendRecord, a: Sge)
 }
 
 // Steps 3 to 6 of such a request; no array is made of its one entry.
-pub fn deliver_single(state: &State, memory: &mut [u8], e: Ends, s: SendRecord, a: Sge) -> u8
+pub fn deliver_single(state: &[u8], memory: &mut [u8], e: Ends, s: SendRecord, a: Sge) -> u8
     requires { Ready state.now memory.old × (is_single s ≡ true) }
     ensures { Delivery state.now memory.old e s (a ∷ []) [] no_record a.length result memory.new }
 {
@@ -250,24 +213,22 @@ pub fn deliver_single(state: &State, memory: &mut [u8], e: Ends, s: SendRecord, 
 
 // Steps 3 to 6 of a message of total bytes: the status, and on success the message moved.
 pub fn deliver(
-    state: &State,
+    state: &[u8],
     memory: &mut [u8],
     e: Ends,
-    s: SendRecord,
-    sges: [Sge; 4],
-    inline: &[u8],
+    r: &WorkRequest,
     w: ReceiveRecord,
     total: u64,
 ) -> u8
-    requires ready { Ready state.now memory.old }
-    requires count_bound { (w.count ≤ 2) × Sending s sges inline.now total }
-    ensures { Delivery state.now memory.old e s sges inline.now w total result memory.new }
+    requires ready { Ready state.now memory.old × (w.count ≤ 2) }
+    requires total { total_by r.now.head r.now.sges.now r.now.inline.now ≡ total }
+    ensures { Delivery state.now memory.old e r.now.head r.now.sges.now r.now.inline.now w total result memory.new }
 {
     if (MOST_MESSAGE as u64) < total {
         return LOCAL_LENGTH;
     }
-    if !own_permitted(state, party_of(e.own), s, sges) {
+    if !own_permitted(state, party_of(e.own), r) {
         return LOCAL_PROTECTION;
     }
-    deliver_far(state, memory, e, s, sges, inline, w, total as u32)
+    deliver_far(state, memory, e, r, w, total as u32)
 }

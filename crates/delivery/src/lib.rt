@@ -8,20 +8,22 @@ ghost use Rattle.rules.specs.Send.{hold_checks};
 ghost use Rattle.dma.specs.Moves.{Ready};
 ghost use Rattle.delivery.specs.Meet.{Sender, is_free};
 ghost use Rattle.delivery.specs.Deliver.{is_single};
-ghost use Rattle.delivery.specs.Run.{request_by, Bounded, Met, Carried, CarriedOne, Ran, Flushed};
+ghost use Rattle.delivery.specs.Asked.{asked};
+ghost use Rattle.delivery.specs.Run.{Met, Carried, CarriedOne, Ran, Flushed};
 
 use meet::Ends;
+use request::WorkRequest;
 use rules::{Answer, Cause};
 use tables::limits::{ERROR, FLUSHED};
-use tables::rows::State;
 use tables::{QueuePair, SendRecord, Sge, rows};
 
 pub mod deliver;
 pub mod meet;
+pub mod request;
 pub mod settle;
 
 // Steps 3 to 6 of a write or a read of one entry, without arrays.
-fn carry_single(state: &mut State, memory: &mut [u8], e: Ends, s: SendRecord, a: Sge) -> u8
+fn carry_single(state: &mut [u8], memory: &mut [u8], e: Ends, s: SendRecord, a: Sge) -> u8
     requires ready { Ready state.old memory.old }
     requires s_value { (is_single s ≡ true) × Met state.old e s.opcode }
     ensures { CarriedOne state.old e.q s a memory.old result state.new memory.new }
@@ -32,55 +34,35 @@ fn carry_single(state: &mut State, memory: &mut [u8], e: Ends, s: SendRecord, a:
 }
 
 // Steps 3 to 6 of any request: the status, and all that the request leaves.
-fn carry_out(
-    state: &mut State,
-    memory: &mut [u8],
-    e: Ends,
-    s: SendRecord,
-    sges: [Sge; 4],
-    inline: &[u8],
-) -> u8
+fn carry_out(state: &mut [u8], memory: &mut [u8], e: Ends, r: &WorkRequest) -> u8
     requires ready { Ready state.old memory.old }
-    requires bounded { Bounded s inline.now × Met state.old e s.opcode }
-    ensures { Carried state.old e.q (request_by s sges inline.now) memory.old result state.new memory.new }
+    requires met { Met state.old e r.now.head.opcode }
+    ensures { Carried state.old e.q (asked r.now) memory.old result state.new memory.new }
 {
-    let total = deliver::total_of(s, sges, inline);
-    let w = deliver::taken_receive(state, e.d, s.opcode);
-    let st = deliver::deliver(state, memory, e, s, sges, inline, w, total);
-    settle::settle(state, e, s, w, st, total);
+    let total = r.total();
+    let w = deliver::taken_receive(state, e.d, r.head.opcode);
+    let st = deliver::deliver(state, memory, e, r, w, total);
+    settle::settle(state, e, r.head, w, st, total);
     st
 }
 
 // A request of queue pair q, whose row is own and which is not in error: what holds it, or the request carried out.
-pub fn run(
-    state: &mut State,
-    memory: &mut [u8],
-    q: usize,
-    own: QueuePair,
-    s: SendRecord,
-    sges: [Sge; 4],
-    inline: &[u8],
-) -> Answer
-    requires ready { Ready state.old memory.old × Sender state.old q own × (own.state ≡ 6 → ⊥) }
-    requires bounded { Bounded s inline.now }
-    ensures { Ran hold_checks state.old q (request_by s sges inline.now) memory.old result state.new memory.new }
+pub fn run(state: &mut [u8], memory: &mut [u8], q: usize, own: QueuePair, r: &WorkRequest) -> Answer
+    requires { Ready state.old memory.old × Sender state.old q own × (own.state ≡ 6 → ⊥) }
+    ensures { Ran hold_checks state.old q (asked r.now) memory.old result state.new memory.new }
 {
-    match meet::meet(state, q, own, s.opcode) {
-        Ok(e) => {
-            if deliver::is_single(s) {
-                let a = sges[0];
-                let st = carry_single(state, memory, e, s, a);
-                return Answer::Done(st);
-            }
-            let st = carry_out(state, memory, e, s, sges, inline);
-            Answer::Done(st)
-        }
-        Err(a) => a,
+    let e = match meet::meet(state, q, own, r.head.opcode) {
+        Ok(e) => e,
+        Err(a) => return a,
+    };
+    if r.is_single() {
+        return Answer::Done(carry_single(state, memory, e, r.head, r.sges[0]));
     }
+    Answer::Done(carry_out(state, memory, e, r))
 }
 
 // A request of queue pair q, whose row is own and which is in error: what holds it, or the request flushed.
-pub fn flush(state: &mut State, q: usize, own: QueuePair, s: SendRecord) -> Answer
+pub fn flush(state: &mut [u8], q: usize, own: QueuePair, s: SendRecord) -> Answer
     requires { Sender state.old q own × (own.state ≡ 6) }
     ensures { Flushed state.old q s result state.new }
 {
@@ -93,25 +75,17 @@ pub fn flush(state: &mut State, q: usize, own: QueuePair, s: SendRecord) -> Answ
 
 // A request of queue pair q, which is live, that nothing holds: carried out, or flushed where it is in error. A second way to carry_out beside run, whose
 // machine code a second caller of run would make slower.
-pub fn finish(
-    state: &mut State,
-    memory: &mut [u8],
-    q: usize,
-    s: SendRecord,
-    sges: [Sge; 4],
-    inline: &[u8],
-) -> u8
-    requires ready { Ready state.old memory.old × (((card state.old).qp q).live ≡ true) × (is_free state.old q s.opcode ≡ true) }
-    requires bounded { Bounded s inline.now }
-    ensures { Carried state.old q (request_by s sges inline.now) memory.old result state.new memory.new }
+pub fn finish(state: &mut [u8], memory: &mut [u8], q: usize, r: &WorkRequest) -> u8
+    requires { Ready state.old memory.old × (((card state.old).qp q).live ≡ true) × (is_free state.old q r.now.head.opcode ≡ true) }
+    ensures { Carried state.old q (asked r.now) memory.old result state.new memory.new }
 {
     let own = rows::load_qp(state, q);
     if own.state == ERROR {
-        settle::put_work(state, own.scq, q, s.wr, s.opcode, FLUSHED, 0);
+        settle::put_work(state, own.scq, q, r.head.wr, r.head.opcode, FLUSHED, 0);
         return FLUSHED;
     }
     let d = own.dest as usize;
     let far = rows::load_qp(state, d);
     let e = Ends { q, own, d, far };
-    carry_out(state, memory, e, s, sges, inline)
+    carry_out(state, memory, e, r)
 }

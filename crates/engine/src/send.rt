@@ -8,15 +8,16 @@ ghost use Rattle.rules.specs.Call.{Call};
 ghost use Rattle.rules.specs.Contract.{Owes};
 ghost use Rattle.rules.specs.Send.{delivery_checks};
 ghost use Rattle.dma.specs.Moves.{Ready};
+ghost use Rattle.delivery.specs.Asked.{asked};
 ghost use Rattle.delivery.specs.Meet.{Sender};
-ghost use Rattle.delivery.specs.Run.{request_by, Bounded, Ran};
+ghost use Rattle.delivery.specs.Run.{request_by, Ran};
 
 use delivery::meet;
+use delivery::request::WorkRequest;
 use rules::Answer;
 use rules::numbers::{BAD_STATE, IN_USE, NOT_LIVE, OTHER_MEMORY, WRONG_STATE};
 use tables::limits::{ERROR, QP_COUNT, RTS};
-use tables::rows::State;
-use tables::{QueuePair, SendRecord, Sge, WorkQueue, records, rows};
+use tables::{QueuePair, SendRecord, records, rows};
 use validate::accept;
 
 // 02, M-108: "A direct send answers 10 .. while its QP's queue isn't empty"
@@ -40,17 +41,9 @@ fn direct_error(state: &mut State, q: usize, own: QueuePair, s: SendRecord) -> A
 }
 
 // "QP 2; QP not in RTS 3", 10, and then the request run on the queue pair.
-fn direct(
-    state: &mut State,
-    memory: &mut [u8],
-    qpn: u32,
-    s: SendRecord,
-    sges: [Sge; 4],
-    inline: &[u8],
-) -> Answer
-    requires ready { Ready state.old memory.old }
-    requires bounded { Bounded s inline.now }
-    ensures { Ran delivery_checks state.old qpn (request_by s sges inline.now) memory.old result state.new memory.new }
+fn direct(state: &mut [u8], memory: &mut [u8], qpn: u32, r: &WorkRequest) -> Answer
+    requires { Ready state.old memory.old }
+    ensures { Ran delivery_checks state.old qpn (asked r.now) memory.old result state.new memory.new }
 {
     let q = qpn as usize;
     if QP_COUNT <= q {
@@ -61,7 +54,7 @@ fn direct(
     }
     let own = rows::load_qp(state, q);
     if own.state == ERROR {
-        return direct_error(state, q, own, s);
+        return direct_error(state, q, own, r.head);
     }
     if own.state != RTS {
         return Answer::Refused(WRONG_STATE);
@@ -69,7 +62,7 @@ fn direct(
     if is_queued(state, q) {
         return Answer::Refused(IN_USE);
     }
-    delivery::run(state, memory, q, own, s, sges, inline)
+    delivery::run(state, memory, q, own, r)
 }
 
 // Post send: the state's and the memory's tests, the record's, and then the request that it is.
@@ -85,8 +78,8 @@ pub fn post_send(state: &mut [u8], memory: &mut [u8], qpn: u32, sent: &[u8]) -> 
     match records::read_send(sent) {
         Ok(s) => {
             let sges = records::send_sges(sent);
-            let inline = records::inline_bytes(sent);
-            direct(state, memory, qpn, s, sges, inline)
+            let r = WorkRequest::new(s, &sges, records::inline_bytes(sent));
+            direct(state, memory, qpn, &r)
         }
         Err(reason) => Answer::from(reason),
     }

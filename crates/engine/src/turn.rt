@@ -11,6 +11,7 @@ ghost use Rattle.delivery.specs.Run.{Carried};
 ghost use Rattle.engine.specs.Turn.{Serves, turn_leaves};
 
 use delivery::meet;
+use delivery::request::WorkRequest;
 use rules::Answer;
 use rules::numbers::{BAD_STATE, NOTHING_THERE, OTHER_MEMORY};
 use tables::limits::QP_COUNT;
@@ -74,8 +75,8 @@ fn run_head(state: &mut State, memory: &mut [u8], q: usize) -> u8
     let mut record = [0u8; 640];
     let s = sends::first_send(state, q, &mut record);
     let sges = records::send_sges(&record);
-    let inline = records::inline_of(&record, s);
-    delivery::finish(state, memory, q, s, sges, inline)
+    let r = WorkRequest::new(s, &sges, records::inline_of(&record, s));
+    delivery::finish(state, memory, q, &r)
 }
 
 // The head is run and leaves its queue, and the next turn begins after q.

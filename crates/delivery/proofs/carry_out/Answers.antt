@@ -6,47 +6,41 @@ use Rattle.delivery.proofs.carry_out.Goals as goal
 
 pub taken_receive-w-requires : goal.taken_receive-w-requires
 taken_receive-w-requires c =
-    let told : Told c.args.s c.args.inline.now = record { limits = c.requires.bounded.0; wr = search rules; imm = search rules } in
-    let b = c in
-    let a = b.args in
-    let l = a.state.now in
-    let m = a.memory.now in
-    let x = a.inline.now in
-    let y = b.requires.ready.accepted in
-    let g = b.requires.bounded.1.good in
-    let h = b.requires.bounded.1.rows in (
-      peer_below l m a.e.q y a.s a.sges x told g a.e h,
-      b.requires.ready.size,
-      head_below l m a.e.q y a.s a.sges x told g a.e h,
+    let a = c.args in
+    let r = a.r.now in
+    let told : Told c.args.r.now.head c.args.r.now.inline.now = record { limits = c.args.r.now.bounded; wr = search rules; imm = search rules } in (
+      peer_below a.state.now a.memory.now a.e.q c.requires.ready.accepted r.head r.sges.now r.inline.now told c.requires.met.good a.e c.requires.met.rows,
+      c.requires.ready.size,
+      head_below a.state.now a.memory.now a.e.q c.requires.ready.accepted r.head r.sges.now r.inline.now told c.requires.met.good a.e c.requires.met.rows,
     )
 
-pub deliver-st-requires : goal.deliver-st-requires
-deliver-st-requires c =
-    let told : Told c.args.s c.args.inline.now = record { limits = c.requires.bounded.0; wr = search rules; imm = search rules } in
-    let ends : let a = c.args in Ending a.state.now a.memory.now a.e.q a.s a.sges a.inline.now a.e c.taken_receive-w.result c.total_of-total.result = let b = c in
-    let a = b.args in
-    ending a.state.now a.memory.now a.e.q b.requires.ready.accepted a.s a.sges a.inline.now told b.requires.bounded.1.good a.e
-    b.requires.bounded.1.rows _ c.total_of-total.ensures _ c.taken_receive-w.ensures in
-    let k = c in
-    let z = ends in
-    record { ready = k.requires.ready; count_bound = (z.count, z.sending) }
+pub deliver-st-requires-clause-ready : goal.deliver-st-requires-clause-ready
+deliver-st-requires-clause-ready c =
+    let a = c.args in
+    let r = a.r.now in
+    let told : Told c.args.r.now.head c.args.r.now.inline.now = record { limits = c.args.r.now.bounded; wr = search rules; imm = search rules } in
+    let ends : Ending a.state.now a.memory.now a.e.q r.head r.sges.now r.inline.now a.e c.taken_receive-w.result c.total-total.result =
+    ending a.state.now a.memory.now a.e.q c.requires.ready.accepted r.head r.sges.now r.inline.now told c.requires.met.good a.e
+    c.requires.met.rows _ c.total-total.ensures _ c.taken_receive-w.ensures in
+    (c.requires.ready, ends.count)
 
 pub settle-requires : goal.settle-requires
 settle-requires c =
-    let told : Told c.args.s c.args.inline.now = record { limits = c.requires.bounded.0; wr = search rules; imm = search rules } in
-    let ends : let a = c.args in Ending a.state.now a.memory.now a.e.q a.s a.sges a.inline.now a.e c.taken_receive-w.result c.total_of-total.result = let b = c in
-    let a = b.args in
-    ending a.state.now a.memory.now a.e.q b.requires.ready.accepted a.s a.sges a.inline.now told b.requires.bounded.1.good a.e
-    b.requires.bounded.1.rows _ c.total_of-total.ensures _ c.taken_receive-w.ensures in
-    let d = c in ends.settling _ _ d.deliver-st.ensures
+    let a = c.args in
+    let r = a.r.now in
+    let told : Told c.args.r.now.head c.args.r.now.inline.now = record { limits = c.args.r.now.bounded; wr = search rules; imm = search rules } in
+    let ends : Ending a.state.now a.memory.now a.e.q r.head r.sges.now r.inline.now a.e c.taken_receive-w.result c.total-total.result =
+    ending a.state.now a.memory.now a.e.q c.requires.ready.accepted r.head r.sges.now r.inline.now told c.requires.met.good a.e
+    c.requires.met.rows _ c.total-total.ensures _ c.taken_receive-w.ensures in
+    ends.settling _ _ c.deliver-st.ensures
 
 pub returns : goal.returns
 returns c =
-    let told : Told c.args.s c.args.inline.now = record { limits = c.requires.bounded.0; wr = search rules; imm = search rules } in
-    let ends : let a = c.args in Ending a.state.now a.memory.now a.e.q a.s a.sges a.inline.now a.e c.taken_receive-w.result c.total_of-total.result = let b = c in
-    let a = b.args in
-    ending a.state.now a.memory.now a.e.q b.requires.ready.accepted a.s a.sges a.inline.now told b.requires.bounded.1.good a.e
-    b.requires.bounded.1.rows _ c.total_of-total.ensures _ c.taken_receive-w.ensures in
-    let d = c in
-    let y = ends.carried _ _ d.deliver-st.ensures in
+    let a = c.args in
+    let r = a.r.now in
+    let told : Told c.args.r.now.head c.args.r.now.inline.now = record { limits = c.args.r.now.bounded; wr = search rules; imm = search rules } in
+    let ends : Ending a.state.now a.memory.now a.e.q r.head r.sges.now r.inline.now a.e c.taken_receive-w.result c.total-total.result =
+    ending a.state.now a.memory.now a.e.q c.requires.ready.accepted r.head r.sges.now r.inline.now told c.requires.met.good a.e
+    c.requires.met.rows _ c.total-total.ensures _ c.taken_receive-w.ensures in
+    let y = ends.carried _ _ c.deliver-st.ensures in
     record { status = y.status; bytes = c.settle.ensures ∙ y.bytes; memory = y.memory }

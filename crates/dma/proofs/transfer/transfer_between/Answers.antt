@@ -1,59 +1,58 @@
--- each side lies in one run of memory
 use native.Mathlib.Omega.{arith}
 use lib.Dec.{eqb}
-use lib.ListN.{length}
 use borrow.Author.Tests.{eqb-true}
 use Rattle.wire.proofs.ScanLaws.{and_left, and_right}
 use Rattle.tables.specs.State.{card}
-use Rattle.dma.specs.Moves.{Lies}
 use Rattle.dma.proofs.SgeLaws.{one_total}
 use Rattle.dma.proofs.MoveLaws.{whole_lies, room, between}
 use Rattle.dma.proofs.transfer.transfer_between.Goals as goal
 
 pub run_of-requires : goal.run_of-requires
 run_of-requires c =
-    let s = c in
-    record { ready = s.requires.ready; s_value = (s.requires.message.sources, omega (arith, s.requires.message.most, one_total s.args.a)) }
+    record { ready = c.requires.ready; s_value = (c.requires.message.sources, omega (arith, c.requires.message.most, one_total c.args.a)) }
 
 pub run_of-requires-2 : goal.run_of-requires-2
 run_of-requires-2 c =
-    let s = c in
-    record { ready = s.requires.ready; s_value = (s.requires.message.targets, omega (arith, s.requires.message.most, s.requires.message.total, one_total s.args.b)) }
+    record { ready = c.requires.ready; s_value = (c.requires.message.targets, omega (arith, c.requires.message.most, c.requires.message.total, one_total c.args.b)) }
 
-pub deliver_between-requires : goal.deliver_between-requires
-deliver_between-requires c =
-    let lie : let a = c.args in Lies (card a.state.now) (length a.memory.now) a.a × Lies (card a.state.now) (length a.memory.now) a.b = let a = c.args in
+pub deliver_one-requires : goal.deliver_one-requires
+deliver_one-requires c =
     let t = c.if-run_of-a.true in
-    let first = c in
-    let second = c in
-    let f = eqb first.run_of.result a.a.length in
-    let g = eqb second.run_of-2.result a.b.length in (
-      whole_lies _ _ _ _ first.run_of.ensures (eqb-true _ _ (and_left f g t)),
-      whole_lies _ _ _ _ second.run_of-2.ensures (eqb-true _ _ (and_right f g t)),
-    ) in
-    let s = c in
-    let a = s.args in
-    let m = s.requires.message in
-    let l = lie in
-    let x = room (card a.state.now) a.memory.now a.a l.0 _ c.place_of-x.ensures in
-    let y = room (card a.state.now) a.memory.now a.b l.1 _ c.place_of-y.ensures in
-    let f = one_total a.a in
-    let t = one_total a.b in
+    let f = eqb c.run_of.result c.args.a.length in
+    let g = eqb c.run_of-2.result c.args.b.length in
+    let m = c.requires.message in
+    let x = room (card c.args.state.now) c.args.memory.now c.args.a (whole_lies _ _ _ _ c.run_of.ensures (eqb-true _ _ (and_left f g t))) _ c.place_of-x.ensures in
+    let y = room (card c.args.state.now) c.args.memory.now c.args.b (whole_lies _ _ _ _ c.run_of-2.ensures (eqb-true _ _ (and_right f g t))) _ c.place_of-y.ensures in
+    let p = one_total c.args.a in
+    let q = one_total c.args.b in
+    (omega (arith, m.most), omega (arith, m.total), x)
+
+pub deliver_one-requires-else-back : goal.deliver_one-requires-else-back
+deliver_one-requires-else-back c =
+    let t = c.if-run_of-a.true in
+    let f = eqb c.run_of.result c.args.a.length in
+    let g = eqb c.run_of-2.result c.args.b.length in
+    let m = c.requires.message in
+    let x = room (card c.args.state.now) c.args.memory.now c.args.a (whole_lies _ _ _ _ c.run_of.ensures (eqb-true _ _ (and_left f g t))) _ c.place_of-x.ensures in
+    let y = room (card c.args.state.now) c.args.memory.now c.args.b (whole_lies _ _ _ _ c.run_of-2.ensures (eqb-true _ _ (and_right f g t))) _ c.place_of-y.ensures in
+    let p = one_total c.args.a in
+    let q = one_total c.args.b in
     (omega (arith, m.most), x, omega (arith, m.total))
 
-pub returns-then-run_of-a : goal.returns-then-run_of-a
-returns-then-run_of-a c =
-    let lie : let a = c.args in Lies (card a.state.now) (length a.memory.now) a.a × Lies (card a.state.now) (length a.memory.now) a.b = let a = c.args in
+pub returns-then-back : goal.returns-then-back
+returns-then-back c =
     let t = c.if-run_of-a.true in
-    let first = c in
-    let second = c in
-    let f = eqb first.run_of.result a.a.length in
-    let g = eqb second.run_of-2.result a.b.length in (
-      whole_lies _ _ _ _ first.run_of.ensures (eqb-true _ _ (and_left f g t)),
-      whole_lies _ _ _ _ second.run_of-2.ensures (eqb-true _ _ (and_right f g t)),
-    ) in
-    let s = c in
-    let a = s.args in
-    let l = lie in
-    between (card a.state.now) a.memory.now _ a.a a.b c.place_of-x.result c.place_of-y.result a.back l.0 l.1
-    c.place_of-x.ensures c.place_of-y.ensures s.requires.message.total c.deliver_between.ensures
+    let f = eqb c.run_of.result c.args.a.length in
+    let g = eqb c.run_of-2.result c.args.b.length in
+    between (card c.args.state.now) c.args.memory.now _ c.args.a c.args.b c.place_of-x.result c.place_of-y.result c.args.back
+    (whole_lies _ _ _ _ c.run_of.ensures (eqb-true _ _ (and_left f g t))) (whole_lies _ _ _ _ c.run_of-2.ensures (eqb-true _ _ (and_right f g t)))
+    c.place_of-x.ensures c.place_of-y.ensures c.requires.message.total (rw c.if-back.true c.deliver_one.ensures)
+
+pub returns-else-back : goal.returns-else-back
+returns-else-back c =
+    let t = c.if-run_of-a.true in
+    let f = eqb c.run_of.result c.args.a.length in
+    let g = eqb c.run_of-2.result c.args.b.length in
+    between (card c.args.state.now) c.args.memory.now _ c.args.a c.args.b c.place_of-x.result c.place_of-y.result c.args.back
+    (whole_lies _ _ _ _ c.run_of.ensures (eqb-true _ _ (and_left f g t))) (whole_lies _ _ _ _ c.run_of-2.ensures (eqb-true _ _ (and_right f g t)))
+    c.place_of-x.ensures c.place_of-y.ensures c.requires.message.total (rw c.if-back.false c.deliver_one-else-back.ensures)

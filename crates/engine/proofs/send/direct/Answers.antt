@@ -1,45 +1,34 @@
 use mathlib.Core.Path.{sym, ◌∙◌}
 use Rattle.tables.specs.Records.{Request}
 use Rattle.delivery.specs.Meet.{Sender}
-use Rattle.delivery.specs.Run.{request_by}
+use Rattle.delivery.specs.Asked.{asked}
 use Rattle.engine.proofs.DirectLaws.{no_pair, not_live, not_ready, sends, has_queue, run_on}
 use Rattle.engine.proofs.send.direct.Goals as goal
 
 pub returns-then-q-ge-QP_COUNT : goal.returns-then-q-ge-QP_COUNT
 returns-then-q-ge-QP_COUNT c =
-    let asked : Request = request_by c.args.s c.args.sges c.args.inline.now in
+    let r : Request = asked c.args.r.now in
     let b = c in
-    no_pair b.args.state.now b.args.qpn asked b.args.memory.now c.if-q-ge-QP_COUNT.true
+    no_pair b.args.state.now b.args.qpn r b.args.memory.now c.if-q-ge-QP_COUNT.true
 
 pub returns-then-not-is_live : goal.returns-then-not-is_live
 returns-then-not-is_live c =
-    let asked : Request = request_by c.args.s c.args.sges c.args.inline.now in
+    let r : Request = asked c.args.r.now in
     let b = c in
-    not_live b.args.state.now b.args.qpn asked b.args.memory.now c.if-q-ge-QP_COUNT.false
+    not_live b.args.state.now b.args.qpn r b.args.memory.now c.if-q-ge-QP_COUNT.false
     (sym c.is_live.ensures ∙ c.if-not-is_live.true)
-
-pub direct_error-requires : goal.direct_error-requires
-direct_error-requires c =
-    let its : let a = c.args in Sender a.state.now a.qpn c.load_qp-own.result = record {
-      accepted = c.requires.ready.accepted;
-      size = c.requires.ready.size;
-      below = c.if-q-ge-QP_COUNT.false;
-      live = sym c.is_live.ensures ∙ c.if-not-is_live.false;
-      row = c.load_qp-own.ensures;
-    } in
-    (its, c.if-own-eq-ERROR.true)
 
 pub returns-then-own-eq-ERROR : goal.returns-then-own-eq-ERROR
 returns-then-own-eq-ERROR c =
     let b = c in
-    c.direct_error.ensures b.args.sges b.args.inline.now b.args.memory.now
+    c.direct_error.ensures b.args.r.now.sges.now b.args.r.now.inline.now b.args.memory.now
 
 pub returns-then-own-ne-RTS : goal.returns-then-own-ne-RTS
 returns-then-own-ne-RTS c =
-    let asked : Request = request_by c.args.s c.args.sges c.args.inline.now in
+    let r : Request = asked c.args.r.now in
     let its : let a = c.args in Sender a.state.now a.qpn c.load_qp-own.result = record {
-      accepted = c.requires.ready.accepted;
-      size = c.requires.ready.size;
+      accepted = c.requires.accepted;
+      size = c.requires.size;
       below = c.if-q-ge-QP_COUNT.false;
       live = sym c.is_live.ensures ∙ c.if-not-is_live.false;
       row = c.load_qp-own.ensures;
@@ -47,25 +36,14 @@ returns-then-own-ne-RTS c =
     let k = c in
     let b = k in
     let y = its in
-    not_ready b.args.state.now b.args.qpn asked b.args.memory.now y.below y.live _ y.row c.if-own-eq-ERROR.false c.if-own-ne-RTS.true
-
-pub is_queued-requires : goal.is_queued-requires
-is_queued-requires c =
-    let its : let a = c.args in Sender a.state.now a.qpn c.load_qp-own.result = record {
-      accepted = c.requires.ready.accepted;
-      size = c.requires.ready.size;
-      below = c.if-q-ge-QP_COUNT.false;
-      live = sym c.is_live.ensures ∙ c.if-not-is_live.false;
-      row = c.load_qp-own.ensures;
-    } in
-    let y = its in (y.below, y.size)
+    not_ready b.args.state.now b.args.qpn r b.args.memory.now y.below y.live _ y.row c.if-own-eq-ERROR.false c.if-own-ne-RTS.true
 
 pub returns-then-is_queued : goal.returns-then-is_queued
 returns-then-is_queued c =
-    let asked : Request = request_by c.args.s c.args.sges c.args.inline.now in
+    let r : Request = asked c.args.r.now in
     let its : let a = c.args in Sender a.state.now a.qpn c.load_qp-own.result = record {
-      accepted = c.requires.ready.accepted;
-      size = c.requires.ready.size;
+      accepted = c.requires.accepted;
+      size = c.requires.size;
       below = c.if-q-ge-QP_COUNT.false;
       live = sym c.is_live.ensures ∙ c.if-not-is_live.false;
       row = c.load_qp-own.ensures;
@@ -73,29 +51,16 @@ returns-then-is_queued c =
     let k = c in
     let b = k in
     let y = its in
-    has_queue b.args.state.now b.args.qpn asked b.args.memory.now y.below y.live _ y.row
-    (sends b.args.state.now b.args.qpn asked b.args.memory.now y.below y.live _ y.row c.if-own-ne-RTS.false) _
+    has_queue b.args.state.now b.args.qpn r b.args.memory.now y.below y.live _ y.row
+    (sends b.args.state.now b.args.qpn r b.args.memory.now y.below y.live _ y.row c.if-own-ne-RTS.false) _
     c.is_queued.ensures c.if-is_queued.true
-
-pub run-requires : goal.run-requires
-run-requires c =
-    let its : let a = c.args in Sender a.state.now a.qpn c.load_qp-own.result = record {
-      accepted = c.requires.ready.accepted;
-      size = c.requires.ready.size;
-      below = c.if-q-ge-QP_COUNT.false;
-      live = sym c.is_live.ensures ∙ c.if-not-is_live.false;
-      row = c.load_qp-own.ensures;
-    } in
-    let k = c in
-    let b = k in
-    record { ready = (b.requires.ready, its, c.if-own-eq-ERROR.false); bounded = b.requires.bounded }
 
 pub returns : goal.returns
 returns c =
-    let asked : Request = request_by c.args.s c.args.sges c.args.inline.now in
+    let r : Request = asked c.args.r.now in
     let its : let a = c.args in Sender a.state.now a.qpn c.load_qp-own.result = record {
-      accepted = c.requires.ready.accepted;
-      size = c.requires.ready.size;
+      accepted = c.requires.accepted;
+      size = c.requires.size;
       below = c.if-q-ge-QP_COUNT.false;
       live = sym c.is_live.ensures ∙ c.if-not-is_live.false;
       row = c.load_qp-own.ensures;
@@ -104,6 +69,6 @@ returns c =
     let b = k in
     let e = c in
     let y = its in
-    run_on b.args.state.now b.args.qpn asked b.args.memory.now y.below y.live _ y.row
-    (sends b.args.state.now b.args.qpn asked b.args.memory.now y.below y.live _ y.row c.if-own-ne-RTS.false) _
+    run_on b.args.state.now b.args.qpn r b.args.memory.now y.below y.live _ y.row
+    (sends b.args.state.now b.args.qpn r b.args.memory.now y.below y.live _ y.row c.if-own-ne-RTS.false) _
     e.is_queued.ensures e.if-is_queued.false _ _ _ c.run.ensures

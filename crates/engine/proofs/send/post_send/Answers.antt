@@ -8,18 +8,9 @@ use Rattle.validate.proofs.AcceptedLaws.{accepted}
 use Rattle.tables.specs.State.{card}
 use Rattle.tables.proofs.ObjectLaws.{memory_is}
 use Rattle.rules.specs.Send.{delivery_checks}
-use Rattle.engine.proofs.OwedLaws.{not_accepted, other_memory, bad_record_lem, ran}
+use Rattle.engine.proofs.OwedLaws.{other_memory, bad_record_lem, ran}
 use Rattle.engine.proofs.RecordLaws.{posted, long_enough, bounded, delivery_opcode, ran_record}
 use Rattle.engine.proofs.send.post_send.Goals as goal
-
-pub returns-then-not-accepted : goal.returns-then-not-accepted
-returns-then-not-accepted c =
-    let b = c in
-    let a = b.args in
-    let l : List ℕ = a.state.now in
-    let m : List ℕ = a.memory.now in
-    let x : List ℕ = a.sent.now in
-    not_accepted l a.qpn x m (sym c.accepted.ensures ∙ c.if-not-accepted.true)
 
 pub load_memory-requires : goal.load_memory-requires
 load_memory-requires c =
@@ -41,11 +32,18 @@ returns-then-memory-load_memory c =
     let y : accepts l ≡ true = sym c.accepted.ensures ∙ c.if-not-accepted.false in
     other_memory l a.qpn x m y (λ z. c.if-memory-load_memory.true (z ∙ memory_is l ∙ sym c.load_memory.ensures))
 
-pub inline_bytes-inline-requires : goal.inline_bytes-inline-requires
-inline_bytes-inline-requires c =
+pub inline_bytes-requires : goal.inline_bytes-requires
+inline_bytes-requires c =
     let r = c in
     let x : List ℕ = r.args.sent.now in
     long_enough x (posted x _ (sym r.read_send.ensures ∙ c.in-Ok.is)).good
+
+pub new-r-requires : goal.new-r-requires
+new-r-requires c =
+    let r = c in
+    let x : List ℕ = r.args.sent.now in
+    rw c.inline_bytes.ensures
+    (bounded x _ (posted x _ (sym r.read_send.ensures ∙ c.in-Ok.is)))
 
 pub direct-requires : goal.direct-requires
 direct-requires c =
@@ -58,11 +56,7 @@ direct-requires c =
     let x : List ℕ = a.sent.now in
     let y : accepts l ≡ true = sym t.accepted.ensures ∙ r.if-not-accepted.false in
     let v : length m ≡ (card l).memory = r.if-memory-load_memory.false ∙ r.load_memory.ensures ∙ sym (memory_is l) in
-    record {
-      ready = record { accepted = y; size = (accepted l y).sized; whole = v ∙ memory_is l };
-      bounded = rw c.inline_bytes-inline.ensures
-          (bounded x _ (posted x _ (sym r.read_send.ensures ∙ c.in-Ok.is)));
-    }
+    record { accepted = y; size = (accepted l y).sized; whole = v ∙ memory_is l }
 
 pub returns-in-Ok : goal.returns-in-Ok
 returns-in-Ok c =
@@ -79,7 +73,7 @@ returns-in-Ok c =
     let v : length m ≡ (card l).memory = r.if-memory-load_memory.false ∙ r.load_memory.ensures ∙ sym (memory_is l) in
     let p = posted x _ (sym r.read_send.ensures ∙ i.in-Ok.is) in
     ran l a.qpn x m y v p.good _ _ _
-    (ran_record delivery_checks delivery_opcode x _ p l a.qpn m _ i.send_sges-sges.ensures _ i.inline_bytes-inline.ensures _ _ _ k.direct.ensures)
+    (ran_record delivery_checks delivery_opcode x _ p l a.qpn m _ i.send_sges-sges.ensures _ i.inline_bytes.ensures _ _ _ (rw k.new-r.ensures.asks at k.direct.ensures))
 
 pub returns-in-Err : goal.returns-in-Err
 returns-in-Err c =
