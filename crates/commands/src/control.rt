@@ -12,15 +12,13 @@ ghost use Rattle.rules.specs.Call.{Call};
 ghost use Rattle.rules.specs.Contract.{Owes};
 ghost use Rattle.rules.specs.Control.{new_variant};
 ghost use Rattle.rules.specs.Permit.{key_of};
-ghost use Rattle.commands.specs.Control.{Ran, Chosen, Classed, read_as, bare, in_range, outcome_ack};
+ghost use Rattle.rules.specs.Verb.{verb_number};
+ghost use Rattle.commands.specs.Control.{verb_read, Ran, Chosen, Classed, read_as, bare, in_range, outcome_ack};
 
 use crate::{Kind, control_qp, destroy, query};
 use acks::queries;
 use rules::Answer;
-use rules::numbers::{
-    CREATE_CQ, CREATE_PD, CREATE_QP, DEREGISTER_MR, DESTROY_CQ, DESTROY_PD, DESTROY_QP, MODIFY_QP,
-    QUERY_DEVICE, QUERY_PORT, REGISTER_MR,
-};
+use rules::verb::Verb;
 use tables::limits::{CQ_COUNT, FLAT, MOST_ADDRESS, MOST_PLACES, MR_COUNT, PD_COUNT};
 use tables::refusal::Refusal;
 use tables::{Ack, QueueHead, Region, Registration, records, rows};
@@ -151,24 +149,30 @@ fn register(state: &mut [u8], read: Option<Registration>) -> Result<Ack, Refusal
 
 // ---- any command
 
-// The command number chooses the reader and the rules.
-fn run(state: &mut [u8], command: &[u8], number: u8) -> Result<Ack, Refusal>
-    requires { (length state.old ≡ state_size) × (number ≡ le_at 1 command.now 1) }
+// The command that a record names.
+pub fn read_verb(command: &[u8]) -> Result<Verb, Refusal>
+    ensures { result ≡ verb_read command.now }
+{
+    Verb::try_from(records::read_head(command)?)
+}
+
+// The command chooses the reader and the rules.
+fn run(state: &mut [u8], command: &[u8], verb: Verb) -> Result<Ack, Refusal>
+    requires { (length state.old ≡ state_size) × (verb_number verb ≡ le_at 1 command.now 1) }
     ensures { Chosen state.old command.now result state.new }
 {
-    match number {
-        QUERY_DEVICE => query::query_device(state, command),
-        QUERY_PORT => query::query_port(state, command),
-        CREATE_CQ => create_cq(state, records::read_data(command)),
-        DESTROY_CQ => destroy::destroy(state, Kind::Cq, records::read_data(command)),
-        CREATE_PD => create_pd(state, command),
-        DESTROY_PD => destroy::destroy(state, Kind::Pd, records::read_data(command)),
-        REGISTER_MR => register(state, records::read_data(command)),
-        DEREGISTER_MR => destroy::destroy(state, Kind::Mr, records::read_data(command)),
-        CREATE_QP => control_qp::create_qp(state, records::read_data(command)),
-        MODIFY_QP => control_qp::modify_qp(state, records::read_data(command)),
-        DESTROY_QP => destroy::destroy(state, Kind::Qp, records::read_data(command)),
-        6 | 11 | 13..=255 => Err(Refusal::Unknown),
+    match verb {
+        Verb::QueryDevice => query::query_device(state, command),
+        Verb::QueryPort => query::query_port(state, command),
+        Verb::CreateCq => create_cq(state, records::read_data(command)),
+        Verb::DestroyCq => destroy::destroy(state, Kind::Cq, records::read_data(command)),
+        Verb::CreatePd => create_pd(state, command),
+        Verb::DestroyPd => destroy::destroy(state, Kind::Pd, records::read_data(command)),
+        Verb::RegisterMr => register(state, records::read_data(command)),
+        Verb::DeregisterMr => destroy::destroy(state, Kind::Mr, records::read_data(command)),
+        Verb::CreateQp => control_qp::create_qp(state, records::read_data(command)),
+        Verb::ModifyQp => control_qp::modify_qp(state, records::read_data(command)),
+        Verb::DestroyQp => destroy::destroy(state, Kind::Qp, records::read_data(command)),
     }
 }
 
@@ -176,19 +180,19 @@ fn dispatch(state: &mut [u8], command: &[u8]) -> Result<Ack, Refusal>
     requires { length state.old ≡ state_size }
     ensures { Classed state.old command.now result state.new }
 {
-    run(state, command, records::read_head(command)?)
+    run(state, command, read_verb(command)?)
 }
 
 // The bytes that the ack buffer must have for a command.
 fn ack_need(command: &[u8]) -> usize
     ensures { result ≡ ack_need command.now }
 {
-    let Ok(n) = records::read_head(command) else {
+    let Ok(verb) = read_verb(command) else {
         return ACK_LEAST;
     };
-    match n {
-        QUERY_DEVICE => queries::DEVICE_ACK,
-        QUERY_PORT => queries::PORT_ACK,
+    match verb {
+        Verb::QueryDevice => queries::DEVICE_ACK,
+        Verb::QueryPort => queries::PORT_ACK,
         _ => ACK_LEAST,
     }
 }

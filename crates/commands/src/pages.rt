@@ -12,7 +12,7 @@ ghost use Rattle.commands.specs.Pages.{count_ok, in_pages, Listed, Recorded};
 use crate::control;
 use crate::control::ACK_LEAST;
 use rules::Answer;
-use rules::numbers::REGISTER_MR;
+use rules::verb::Verb;
 use tables::limits::{MOST_ADDRESS, MOST_PAGED, MOST_PAGES, MR_COUNT, PAGE_SIZE, PAGED};
 use tables::refusal::Refusal;
 use tables::{Ack, Registration, records, rows};
@@ -111,10 +111,10 @@ fn choose(state: &mut [u8], command: &[u8], pages: &[u64]) -> Result<Ack, Refusa
     requires { (accepts state.old ≡ true) × (length state.old ≡ state_size) }
     ensures { Recorded state.old command.now pages.now result state.new }
 {
-    if records::read_head(command)? != REGISTER_MR {
-        return Err(Refusal::Unknown);
+    match control::read_verb(command)? {
+        Verb::RegisterMr => register_paged(state, records::read_data(command), pages),
+        _ => Err(Refusal::Unknown),
     }
-    register_paged(state, records::read_data(command), pages)
 }
 
 // A registration over a page list: its answer, and what it leaves in the state and in the ack buffer.
