@@ -16,6 +16,7 @@ use Rattle.tables.specs.declared.CreateQp.{CreateQp}
 use Rattle.tables.specs.declared.ModifyQp.{ModifyQp}
 use Rattle.tables.specs.declared.Registration.{Registration}
 use Rattle.tables.specs.declared.refusal.Refusal.{Refusal}
+use Rattle.tables.specs.declared.refusal.Refusal.TheVariants.{WrongLength}
 use Rattle.validate.specs.Accept.{is_state}
 use Rattle.validate.specs.Search.{pd_in_use, cq_in_use}
 use Rattle.rules.specs.Bytes.{command_bytes}
@@ -92,6 +93,9 @@ read_as f (Some v) = some (f v)
 read_as f None = none
 
 -- "4 create PD | none", and a query: a command without data is two bytes long
+abbrev pub no_data_read : List ℕ → Result (Unit {0}) Refusal
+no_data_read k = cond (eqb (length k) 2) (Ok tt) (Err WrongLength)
+
 abbrev pub bare : Command → List ℕ → Option Command
 bare q k = cond (eqb (length k) 2) (some q) none
 

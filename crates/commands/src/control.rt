@@ -13,7 +13,7 @@ ghost use Rattle.rules.specs.Contract.{Owes};
 ghost use Rattle.rules.specs.Control.{new_variant};
 ghost use Rattle.rules.specs.Permit.{key_of};
 ghost use Rattle.rules.specs.Verb.{verb_number};
-ghost use Rattle.commands.specs.Control.{verb_read, Ran, Chosen, Classed, read_as, bare, in_range, outcome_ack};
+ghost use Rattle.commands.specs.Control.{no_data_read, verb_read, Ran, Chosen, Classed, read_as, bare, in_range, outcome_ack};
 
 use crate::{Kind, control_qp, destroy, query};
 use acks::queries;
@@ -28,7 +28,17 @@ use validate::{accept, find, regions};
 pub const ACK_LEAST: usize = 13;
 
 // The class byte and the command byte.
-pub const HEAD_SIZE: usize = 2;
+const HEAD_SIZE: usize = 2;
+
+// The test of a command without data.
+pub fn no_data(command: &[u8]) -> Result<(), Refusal>
+    ensures { result ≡ no_data_read command.now }
+{
+    if command.len() != HEAD_SIZE {
+        return Err(Refusal::WrongLength);
+    }
+    Ok(())
+}
 
 // ---- completion queues
 
@@ -75,9 +85,7 @@ fn create_pd(state: &mut [u8], command: &[u8]) -> Result<Ack, Refusal>
     requires { length state.old ≡ state_size }
     ensures { Ran state.old (bare Command.create_pd command.now) result state.new }
 {
-    if command.len() != HEAD_SIZE {
-        return Err(Refusal::WrongLength);
-    }
+    no_data(command)?;
     let n = find::free_pdn(state);
     if PD_COUNT <= n {
         return Err(Refusal::Full);

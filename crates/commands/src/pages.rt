@@ -31,14 +31,7 @@ fn entry_ok(memory: u64, entry: u64) -> bool
 fn entries_ok(memory: u64, pages: &[u64]) -> bool
     ensures { result ≡ entries_ok memory pages.now }
 {
-    let mut i = 0;
-    while i < pages.len() {
-        if !entry_ok(memory, pages[i]) {
-            return false;
-        }
-        i += 1;
-    }
-    true
+    pages.iter().all(|page| entry_ok(memory, *page))
 }
 
 // Whether the list has exactly the pages that the region needs, at most 16; no sum wraps.
@@ -69,11 +62,8 @@ fn put_pages(state: &mut [u8], n: usize, pages: &[u64])
     requires { (n < mr_count) × (length state.old ≡ state_size) × (length pages.now ≤ most_pages) × (entries_ok most_memory pages.now ≡ true) }
     ensures { state.new ≡ put_pages state.old n 0 pages.now }
 {
-    let mut k = 0;
-    while k < pages.len() {
-        let number = (pages[k] / PAGE_SIZE) as u16;
-        rows::store_page(state, MOST_PAGES * n + k, number);
-        k += 1;
+    for (k, page) in pages.iter().enumerate() {
+        rows::store_page(state, MOST_PAGES * n + k, (*page / PAGE_SIZE) as u16);
     }
 }
 
