@@ -69,6 +69,7 @@ fn send_size(s: SendRecord) -> usize
 }
 
 // Reads a send record without its inline bytes and scatter/gather entries.
+#[tactic(auto, using(crate::proofs::ReadingLaws::send_short, crate::proofs::ReadingLaws::send_refused, crate::proofs::ReadingLaws::send_wrong, crate::proofs::ReadingLaws::send_right))]
 pub fn read_send(request: &[u8]) -> Result<SendRecord, Refusal>
     ensures { result ≡ send_read request.now }
 {
@@ -166,6 +167,7 @@ pub fn put_completion(bytes: &mut [u8], at: usize, c: Completion)
 }
 
 // The scatter/gather entry at an offset; one that the record does not have is nothing.
+#[tactic(auto, using(crate::proofs::ReadingLaws::sge_none, crate::proofs::ReadingLaws::sge_some))]
 fn sge_at(request: &[u8], at: usize) -> Sge
     requires { at + 16 < 2 ^ 64 }
     ensures { result ≡ sge_at request.now at }
@@ -226,6 +228,7 @@ pub fn read_receive(request: &[u8]) -> Result<ReceiveRecord, Refusal>
 // ---- control commands: the class byte, the command byte, and the data from byte 2 on
 
 // Reads the class and the command byte.
+#[tactic(auto, using(crate::proofs::ReadingLaws::head_short, crate::proofs::ReadingLaws::head_class, crate::proofs::ReadingLaws::head_right))]
 pub fn read_head(command: &[u8]) -> Result<u8, Refusal>
     ensures { result ≡ head_read command.now }
 {
