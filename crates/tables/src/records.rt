@@ -6,11 +6,10 @@ ghost use Rattle.tables.specs.Limits.{most_sges};
 ghost use Rattle.tables.specs.Commands.{number_codec, register_codec, create_qp_codec, modify_qp_codec, data_read, head_read};
 ghost use Rattle.tables.specs.Records.{sge_codec, sge_at, completion_codec, result_fields, receive_read, send_codec, send_read, send_sge, send_bad, send_size, inline_bytes, inline_in};
 
-use std::array;
-
 use crate::limits::{FLAG_BITS, INLINE_FLAG, MOST_INLINE, MOST_RECEIVE_SGES, MOST_SGES, READ};
 use crate::refusal::Refusal;
 use crate::{Completion, CreateQp, ModifyQp, ReceiveRecord, Registration, SendRecord, Sge};
+use std::array;
 
 // A send record's bytes before its scatter/gather entries, and where its inline bytes begin.
 const SEND_SIZE: usize = 576;
@@ -200,6 +199,7 @@ pub fn send_sges(request: &[u8]) -> [Sge; 4]
 }
 
 // Reads a receive record.
+#[tactic(auto, using(crate::proofs::ReadingLaws::receive_short, crate::proofs::ReadingLaws::receive_many, crate::proofs::ReadingLaws::receive_wrong), unfolding(crate::specs::Records::receive_codec, wire::specs::Codec::fields_at))]
 pub fn read_receive(request: &[u8]) -> Result<ReceiveRecord, Refusal>
     ensures { result ≡ receive_read request.now }
 {
@@ -214,14 +214,11 @@ pub fn read_receive(request: &[u8]) -> Result<ReceiveRecord, Refusal>
     if request.len() != size {
         return Err(Refusal::WrongLength);
     }
-    let wr = wire::get64(request, 0);
-    let a = sge_at(request, RECEIVE_HEAD);
-    let b = sge_at(request, RECEIVE_HEAD + SGE_SIZE);
     Ok(ReceiveRecord {
-        wr,
+        wr: wire::get64(request, 0),
         count,
-        first: a,
-        second: b,
+        first: sge_at(request, RECEIVE_HEAD),
+        second: sge_at(request, RECEIVE_HEAD + SGE_SIZE),
     })
 }
 
