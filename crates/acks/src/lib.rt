@@ -6,6 +6,7 @@ pub mod queries;
 ghost use Rattle.std.specs.Prelude.{◌≡◌, ◌≤◌, length};
 ghost use Rattle.tables.specs.Commands.{ack_least, ack_size, encode_ack};
 
+use queries::Report;
 use tables::Ack;
 
 // Writes an ack; the bytes behind it stay.
@@ -32,11 +33,11 @@ pub fn write_ack(ack: &mut [u8], a: Ack)
         }
         Ack::Device(d) => {
             wire::put8(ack, 0, 0);
-            queries::put_device(ack, d);
+            d.put(ack);
         }
         Ack::Port(p) => {
             wire::put8(ack, 0, 0);
-            queries::put_port(ack, p);
+            p.put(ack);
         }
     }
 }

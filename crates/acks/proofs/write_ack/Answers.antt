@@ -7,14 +7,14 @@ use Rattle.tables.specs.declared.Ack.{Ack}
 use borrow.Author.Rules.{rules}
 use Rattle.acks.proofs.write_ack.Goals as goal
 
-pub put_device-requires : goal.put_device-requires
-put_device-requires c =
+pub put-requires : goal.put-requires
+put-requires c =
     let a = c.args in
     let r : 129 ≤ length a.ack.now = rw c.in-Device.is at c.requires.1 in
     search rules
 
-pub put_port-requires : goal.put_port-requires
-put_port-requires c =
+pub put-requires-in-Port : goal.put-requires-in-Port
+put-requires-in-Port c =
     let a = c.args in
     let r : 33 ≤ length a.ack.now = rw c.in-Port.is at c.requires.1 in
     search rules
@@ -37,8 +37,8 @@ returns-in-Keys c = rw (c.put32-in-Keys-2.ensures, c.put32-in-Keys.ensures, c.pu
 
 pub returns-in-Device : goal.returns-in-Device
 unfolding put_fields
-returns-in-Device c = rw c.put8-in-Device.ensures at c.put_device.ensures ∙ ap (λ (a : Ack). encode_ack a c.args.ack.now) (sym c.in-Device.is)
+returns-in-Device c = rw c.put8-in-Device.ensures at c.put.ensures ∙ ap (λ (a : Ack). encode_ack a c.args.ack.now) (sym c.in-Device.is)
 
 pub returns-in-Port : goal.returns-in-Port
 unfolding put_fields
-returns-in-Port c = rw c.put8-in-Port.ensures at c.put_port.ensures ∙ ap (λ (a : Ack). encode_ack a c.args.ack.now) (sym c.in-Port.is)
+returns-in-Port c = rw c.put8-in-Port.ensures at c.put-in-Port.ensures ∙ ap (λ (a : Ack). encode_ack a c.args.ack.now) (sym c.in-Port.is)
