@@ -10,6 +10,7 @@ use queries::Report;
 use tables::Ack;
 
 // Writes an ack; the bytes behind it stay.
+#[tactic(auto, unfolding(wire::specs::Codec::put_fields))]
 pub fn write_ack(ack: &mut [u8], a: Ack)
     requires { (ack_least ≤ length ack.old) × (ack_size a ≤ length ack.old) }
     ensures { ack.new ≡ encode_ack a ack.old }
