@@ -6,9 +6,11 @@ pub mod queries;
 ghost use Rattle.std.specs.Prelude.{◌≡◌, ◌≤◌, length};
 ghost use Rattle.tables.specs.Commands.{ack_least, ack_size, encode_ack};
 
+use queries::Report;
 use tables::Ack;
 
 // Writes an ack; the bytes behind it stay.
+#[tactic(auto, unfolding(wire::specs::Codec::put_fields))]
 pub fn write_ack(ack: &mut [u8], a: Ack)
     requires { (ack_least ≤ length ack.old) × (ack_size a ≤ length ack.old) }
     ensures { ack.new ≡ encode_ack a ack.old }
@@ -32,11 +34,11 @@ pub fn write_ack(ack: &mut [u8], a: Ack)
         }
         Ack::Device(d) => {
             wire::put::<u8>(ack, 0, 0);
-            queries::put_device(ack, d);
+            d.put(ack);
         }
         Ack::Port(p) => {
             wire::put::<u8>(ack, 0, 0);
-            queries::put_port(ack, p);
+            p.put(ack);
         }
     }
 }

@@ -1,7 +1,9 @@
 // The acks of the queries, written and read by one layout each: tables, specs/Queries.antt.
-ghost use Rattle.std.specs.Prelude.{◌≡◌, ◌+◌, ◌≤◌, length};
+#![tactic(auto, unfolding(tables::specs::Queries::device_codec, tables::specs::Queries::port_codec, wire::specs::Codec::fields_at, wire::specs::Codec::put_fields))]
+
+ghost use Rattle.std.specs.Prelude.{List, ◌≡◌, ℕ, ◌≤◌, ◌<◌, length};
 ghost use Rattle.wire.specs.Codec.{decode, encode, fields_of, values_of, put_fields};
-ghost use Rattle.tables.specs.Queries.{caps_lines, work_lines, objects_lines, device_codec, device_read, port_codec, port_read};
+ghost use Rattle.tables.specs.Queries.{caps_lines, work_lines, objects_lines, device_codec, port_codec, report_read};
 
 use tables::refusal::Refusal;
 use tables::{Device, DeviceCaps, DeviceObjects, DeviceWork, Port};
@@ -11,7 +13,7 @@ pub const DEVICE_ACK: usize = 129;
 
 pub const PORT_ACK: usize = 33;
 
-// ---- writing
+// ---- a device's report, written by its parts
 
 fn put_caps(ack: &mut [u8], d: DeviceCaps)
     requires { 129 ≤ length ack.old }
@@ -46,28 +48,7 @@ fn put_objects(ack: &mut [u8], d: DeviceObjects)
     wire::put(ack, 69, d.delay);
 }
 
-// Writes what the device is behind the ack byte; the rest of its 128 bytes is zero.
-pub fn put_device(ack: &mut [u8], d: Device)
-    requires { 129 ≤ length ack.old }
-    ensures { ack.new ≡ encode device_codec ack.old 1 d }
-{
-    put_caps(ack, d.caps);
-    put_work(ack, d.work);
-    put_objects(ack, d.objects);
-    wire::put_zeros(ack, 70, 59);
-}
-
-// Writes what the port is behind the ack byte; the rest of its 32 bytes is zero.
-pub fn put_port(ack: &mut [u8], p: Port)
-    requires { 33 ≤ length ack.old }
-    ensures { ack.new ≡ encode port_codec ack.old 1 p }
-{
-    wire::put(ack, 1, p.gids);
-    wire::put(ack, 5, p.message);
-    wire::put_zeros(ack, 9, 24);
-}
-
-// ---- reading
+// ---- and read
 
 fn get_caps(ack: &[u8]) -> DeviceCaps
     requires { 129 ≤ length ack.now }
@@ -108,35 +89,86 @@ fn get_objects(ack: &[u8]) -> DeviceObjects
     }
 }
 
-// Reads an ack of command 0.
-pub fn read_device(ack: &[u8]) -> Result<Device, Refusal>
-    ensures { result ≡ device_read ack.now }
-{
-    if ack.len() < DEVICE_ACK {
-        return Err(Refusal::WrongLength);
-    }
-    if wire::get::<u8>(ack, 0) != 0 {
-        return Err(Refusal::BadField);
-    }
-    Ok(Device {
-        caps: get_caps(ack),
-        work: get_work(ack),
-        objects: get_objects(ack),
-    })
+// ---- what a query reports, in the SIZE bytes behind the ack byte
+
+pub trait Report {
+    const SIZE: usize;
+
+    ghost SIZE: { ℕ };
+
+    ghost written: { List ℕ → Self → List ℕ };
+
+    ghost told: { List ℕ → Self };
+
+    // Bytes of no field are written as zero.
+    fn put(self, ack: &mut [u8])
+        requires { SIZE < length ack.old }
+        ensures { ack.new ≡ written ack.old self };
+
+    fn get(ack: &[u8]) -> Self
+        requires { SIZE < length ack.now }
+        ensures { result ≡ told ack.now };
 }
 
-// Reads an ack of command 1.
-pub fn read_port(ack: &[u8]) -> Result<Port, Refusal>
-    ensures { result ≡ port_read ack.now }
+// Reads a query's ack.
+pub fn read_report<T: Report>(ack: &[u8]) -> Result<T, Refusal>
+    ensures { result ≡ report_read T.SIZE T.told ack.now }
 {
-    if ack.len() < PORT_ACK {
+    if ack.len() <= T::SIZE {
         return Err(Refusal::WrongLength);
     }
     if wire::get::<u8>(ack, 0) != 0 {
         return Err(Refusal::BadField);
     }
-    Ok(Port {
-        gids: wire::get(ack, 1),
-        message: wire::get(ack, 5),
-    })
+    Ok(T::get(ack))
+}
+
+// The report of command 0.
+impl Report for Device {
+    const SIZE: usize = DEVICE_ACK - 1;
+
+    ghost SIZE = { 128 };
+
+    ghost written = { λ a d. encode device_codec a 1 d };
+
+    ghost told = { λ a. decode device_codec a 1 };
+
+    fn put(self, ack: &mut [u8]) {
+        put_caps(ack, self.caps);
+        put_work(ack, self.work);
+        put_objects(ack, self.objects);
+        wire::put_zeros(ack, 70, 59);
+    }
+
+    fn get(ack: &[u8]) -> Device {
+        Device {
+            caps: get_caps(ack),
+            work: get_work(ack),
+            objects: get_objects(ack),
+        }
+    }
+}
+
+// The report of command 1.
+impl Report for Port {
+    const SIZE: usize = PORT_ACK - 1;
+
+    ghost SIZE = { 32 };
+
+    ghost written = { λ a p. encode port_codec a 1 p };
+
+    ghost told = { λ a. decode port_codec a 1 };
+
+    fn put(self, ack: &mut [u8]) {
+        wire::put(ack, 1, self.gids);
+        wire::put(ack, 5, self.message);
+        wire::put_zeros(ack, 9, 24);
+    }
+
+    fn get(ack: &[u8]) -> Port {
+        Port {
+            gids: wire::get(ack, 1),
+            message: wire::get(ack, 5),
+        }
+    }
 }

@@ -1,6 +1,5 @@
 -- Any control command: which command its bytes are, the tests before its own, and what the call owes. Assumes nothing.
 use mathlib.Core.Path.{◌≡◌, refl, sym, ◌∙◌}
-use mathlib.Core.Logic.{◌⊎◌, inl, inr}
 use mathlib.Core.Bool.{Bool, true, false, cond, ◌&&◌, false≢true}
 use mathlib.Core.List.{List, [], ◌++◌}
 use mathlib.Core.Option.{Option, none, some, some-ne-none}
@@ -8,7 +7,7 @@ use Prim.Native.Nat.{ℕ, ◌+◌, ◌≤◌, ◌<◌}
 use lib.Dec.{eqb, leb}
 use lib.ListN.{length}
 use native.Mathlib.Omega.{arith}
-use borrow.Author.Tests.{lt-ltb, le-ltb, le-leb, leb-true, ltb-false, ne_eqb, not-false}
+use borrow.Author.Tests.{lt-ltb, le-ltb, le-leb, leb-true, ltb-false, not-false}
 use Rattle.wire.specs.Checks.{Check, refusal}
 use Rattle.wire.proofs.CheckLaws.{passed}
 use Rattle.wire.specs.Le.{le_at}
@@ -17,7 +16,7 @@ use Rattle.validate.specs.Accept.{accepts}
 use Rattle.validate.proofs.AcceptedLaws.{Accepted, accepted}
 use Rattle.tables.specs.Card.{Card}
 use Rattle.tables.specs.State.{card}
-use Rattle.tables.specs.Commands.{head_checks, head_read, data_read, encode_ack, ack_size, ack_need, room_by, control_class, Command, ack_least, data_size, command_of}
+use Rattle.tables.specs.Commands.{head_checks, data_read, encode_ack, ack_size, ack_need, room_by, control_class, Command, ack_least, data_size, command_of}
 use Rattle.tables.specs.declared.Ack.{Ack}
 use Rattle.tables.specs.declared.Ack.TheVariants as ack
 use Rattle.tables.proofs.AckLaws.{need_least}
@@ -30,13 +29,17 @@ use Rattle.rules.specs.Call.{Call}
 use Rattle.rules.specs.Calls.{checks, control_checks, owed_checks, status_of, effect, memory_after, buffer_after}
 use Rattle.rules.specs.Contract.{Owes}
 use Rattle.rules.specs.Control.{command_checks, command_ack, command_effect}
+use Rattle.rules.specs.Verb.{verb_number, verb_of}
+use Rattle.rules.specs.declared.verb.Verb.{Verb}
+use Rattle.rules.specs.declared.verb.Verb.TheVariants.{QueryDevice, QueryPort, CreateCq, DestroyCq, CreatePd, DestroyPd, RegisterMr, DeregisterMr, CreateQp, ModifyQp, DestroyQp}
+use Rattle.rules.proofs.VerbLaws.{verb_known, verb_unknown, no_command}
 use Rattle.rules.specs.Lists.{is_some, maybe}
 use Rattle.rules.specs.declared.Answer.{Answer}
 use Rattle.rules.specs.declared.Answer.TheVariants as answer
-use Rattle.commands.specs.Control.{Ran, Chosen, Classed, number_checks, class_checks, read_as, bare, outcome_ack}
+use Rattle.commands.specs.Control.{verb_by, verb_read, Ran, Chosen, Classed, number_checks, class_checks, read_as, bare, outcome_ack}
 use Rattle.std.specs.Prelude.{Result, Ok, Err, Some, None}
 use Rattle.std.specs.Prelude.{Option as Read}
-use Rattle.tables.specs.Refusal.{refusal_of, result_by}
+use Rattle.tables.specs.Refusal.{refusal_of}
 use Rattle.tables.specs.declared.refusal.Refusal.{Refusal}
 use Rattle.tables.specs.declared.refusal.Refusal.TheVariants.{Unknown}
 use Rattle.commands.proofs.EndLaws.{quiet, ended}
@@ -54,6 +57,14 @@ made f n of k = go (eqb (length k) n)
     go : (b : Bool) → read_as f (cond b (Some (of k)) None) ≡ cond b (some (f (of k))) none
     go true = refl
     go false = refl
+
+-- what a command that was read tells
+pub verb_named : (k : List ℕ) (v : Verb) → verb_read k ≡ Ok v → (refusal (head_checks k) ≡ none) × (le_at 1 k 1 ≡ verb_number v)
+verb_named k v e = go (refusal (head_checks k)) e
+  where
+    go : (o : Option ℕ) → verb_by o (verb_of (le_at 1 k 1)) ≡ Ok v → (o ≡ none) × (le_at 1 k 1 ≡ verb_number v)
+    go none e = (refl, verb_known (le_at 1 k 1) v e)
+    go (some n) e = (cc, cc)
 
 module _ (l k : List ℕ) where
   -- the number says that it is the command q; o is q where its data has its length
@@ -74,37 +85,22 @@ module _ (l k : List ℕ) where
     pub by_nothing : (q : Command) → command_of k ≡ some q → data_size q ≡ 0 → Ran l (bare q k) r l' → Chosen l k r l'
     by_nothing q c s = chosen q c (bare q k) (rw s) r l'
 
-  -- no command has the number
-  by_none : command_of k ≡ none → Chosen l k (Err Unknown) l
-  by_none e = record { outcome = rw e; bytes = rw e }
-
-  module _ (n : ℕ) (is : n ≡ le_at 1 k 1) where
-    pub run_gap : (n ≡ 6) ⊎ (n ≡ 11) → Chosen l k (Err Unknown) l
-    unfolding command_of
-    run_gap (inl e) = by_none (rw (← is, e))
-    run_gap (inr e) = by_none (rw (← is, e))
-
-    pub run_unknown : (n ≡ 0 → ⊥) → (n ≡ 1 → ⊥) → (n ≡ 2 → ⊥) → (n ≡ 3 → ⊥) → (n ≡ 4 → ⊥) → (n ≡ 5 → ⊥) → (n ≡ 7 → ⊥) → (n ≡ 8 → ⊥) → (n ≡ 9 → ⊥)
-        → (n ≡ 10 → ⊥) → (n ≡ 12 → ⊥) → Chosen l k (Err Unknown) l
-    unfolding command_of
-    run_unknown x y a b c d e f g h i =
-        by_none
-        (rw (← is, ne_eqb n 0 x, ne_eqb n 1 y, ne_eqb n 2 a, ne_eqb n 3 b, ne_eqb n 4 c, ne_eqb n 5 d, ne_eqb n 7 e, ne_eqb n 8 f, ne_eqb n 9 g)
-        (rw (ne_eqb n 10 h, ne_eqb n 12 i)))
-
-  -- ---- the tests before: the length, and the class
-  -- the head is refused
-  pub dispatch_stopped : (r : Refusal) → head_read k ≡ Err r → Classed l k (Err r) l
+  -- ---- the tests before: the length, the class and the number
+  -- no command is named
+  pub dispatch_stopped : (r : Refusal) → verb_read k ≡ Err r → Classed l k (Err r) l
   dispatch_stopped r e = go (refusal (head_checks k)) refl e
     where
-      go : (o : Option ℕ) → refusal (head_checks k) ≡ o → result_by o (le_at 1 k 1) ≡ Err r → Classed l k (Err r) l
-      go none i e = cc
+      go : (o : Option ℕ) → refusal (head_checks k) ≡ o → verb_by o (verb_of (le_at 1 k 1)) ≡ Err r → Classed l k (Err r) l
+      go none i e =
+          let u : r ≡ Unknown = verb_unknown (le_at 1 k 1) r e in
+          let z : refusal (class_checks (card l) k) ≡ some 13 = refusal_append (head_checks k) (number_checks (card l) k) ∙ rw (i, no_command k r e) in
+          record { outcome = rw (z, u); bytes = rw z }
       go (some n) i e =
           let z : refusal (class_checks (card l) k) ≡ some n = refusal_append (head_checks k) (number_checks (card l) k) ∙ rw i in
           let q : refusal_of n ≡ r = cc in
           record { outcome = rw (z, q); bytes = rw z }
 
-  -- it is not
+  -- one is
   pub dispatch_passed : refusal (head_checks k) ≡ none → (r : Result Ack Refusal) (l' : List ℕ) → Chosen l k r l' → Classed l k r l'
   dispatch_passed e r l' x =
       let z : refusal (class_checks (card l) k) ≡ refusal (number_checks (card l) k) =
@@ -128,8 +124,8 @@ first_none xs ys e = go (refusal xs) (rw (refusal_append xs ys) at e)
 
 -- ---- room for the ack
 
--- the head is refused, or names a command
-pub need_refused : (k : List ℕ) (n : ℕ) → refusal (head_checks k) ≡ some n → ack_need k ≡ ack_least
+-- the head is refused, or it is not
+need_refused : (k : List ℕ) (n : ℕ) → refusal (head_checks k) ≡ some n → ack_need k ≡ ack_least
 unfolding ack_need
 need_refused k n e = go (leb 2 (length k)) (eqb (le_at 1 k 0) control_class) refl refl
   where
@@ -138,21 +134,64 @@ need_refused k n e = go (leb 2 (length k)) (eqb (le_at 1 k 0) control_class) ref
     go true false x y = rw (x, y)
     go true true x y = absurd (some-ne-none n (sym e ∙ rw (le-ltb (length k) 2 (leb-true 2 (length k) x), y)))
 
-pub need_named : (k : List ℕ) → refusal (head_checks k) ≡ none → ack_need k ≡ room_by (command_of k)
+need_named : (k : List ℕ) → refusal (head_checks k) ≡ none → ack_need k ≡ room_by (command_of k)
 unfolding ack_need
 need_named k e =
     let p = passed (head_checks k) e in
     rw (le-leb 2 (length k) (ltb-false (length k) 2 p.0), not-false (eqb (le_at 1 k 0) control_class) p.1.0)
 
--- by the command's number
-module _ (k : List ℕ) (n : ℕ) (is : n ≡ le_at 1 k 1) where
-  pub room_device : n ≡ 0 → room_by (command_of k) ≡ 129
-  unfolding command_of
-  room_device e = rw (← is, e)
+-- by the command that is named
+abbrev pub room_of : Result Verb Refusal → ℕ
+room_of (Ok QueryDevice) = 129
+room_of (Ok QueryPort) = 33
+room_of (Ok CreateCq) = ack_least
+room_of (Ok DestroyCq) = ack_least
+room_of (Ok CreatePd) = ack_least
+room_of (Ok DestroyPd) = ack_least
+room_of (Ok RegisterMr) = ack_least
+room_of (Ok DeregisterMr) = ack_least
+room_of (Ok CreateQp) = ack_least
+room_of (Ok ModifyQp) = ack_least
+room_of (Ok DestroyQp) = ack_least
+room_of (Err r) = ack_least
 
-  pub room_port : n ≡ 1 → room_by (command_of k) ≡ 33
-  unfolding command_of
-  room_port e = rw (← is, e)
+named_room : (k : List ℕ) (v : Verb) → le_at 1 k 1 ≡ verb_number v → room_by (command_of k) ≡ room_of (Ok v)
+unfolding command_of
+named_room k QueryDevice i = rw i
+named_room k QueryPort i = rw i
+named_room k CreateCq i = rw i
+named_room k DestroyCq i = rw i
+named_room k CreatePd i = rw i
+named_room k DestroyPd i = rw i
+named_room k RegisterMr i = rw i
+named_room k DeregisterMr i = rw i
+named_room k CreateQp i = rw i
+named_room k ModifyQp i = rw i
+named_room k DestroyQp i = rw i
+
+pub need_is : (k : List ℕ) → ack_need k ≡ room_of (verb_read k)
+need_is k = go (refusal (head_checks k)) refl
+  where
+    found : (x : Result Verb Refusal) → verb_of (le_at 1 k 1) ≡ x → room_by (command_of k) ≡ room_of x
+    found (Ok v) i = named_room k v (verb_known (le_at 1 k 1) v i)
+    found (Err r) i = rw (no_command k r i)
+
+    go : (o : Option ℕ) → refusal (head_checks k) ≡ o → ack_need k ≡ room_of (verb_by o (verb_of (le_at 1 k 1)))
+    go none i = need_named k i ∙ found (verb_of (le_at 1 k 1)) refl
+    go (some n) i = need_refused k n i
+
+pub least_room : (v : Verb) → (v ≡ QueryDevice → ⊥) → (v ≡ QueryPort → ⊥) → room_of (Ok v) ≡ ack_least
+least_room QueryDevice a b = absurd (a refl)
+least_room QueryPort a b = absurd (b refl)
+least_room CreateCq a b = refl
+least_room DestroyCq a b = refl
+least_room CreatePd a b = refl
+least_room DestroyPd a b = refl
+least_room RegisterMr a b = refl
+least_room DeregisterMr a b = refl
+least_room CreateQp a b = refl
+least_room ModifyQp a b = refl
+least_room DestroyQp a b = refl
 
 -- an ack fits the room of its command
 ack_room_lem : (c : Card) (o : Option Command) → ack_size (maybe ack.Done (command_ack c) o) ≤ room_by o

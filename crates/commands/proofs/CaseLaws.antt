@@ -7,7 +7,7 @@ use Prim.Native.Nat.{ℕ, ◌+◌, ◌≤◌, ◌<◌}
 use native.Mathlib.Omega.{arith}
 use lib.Dec.{eqb, ltb, leb}
 use lib.ListN.{length}
-use borrow.Author.Tests.{le-leb, lt-leb, leb-true, leb-false, lt-ltb, le-ltb, ne_eqb, eq-eqb}
+use borrow.Author.Tests.{le-leb, lt-leb, leb-true, leb-false, lt-ltb, le-ltb}
 use Rattle.wire.specs.Checks.{Check, ◌if◌, refusal}
 use Rattle.wire.proofs.ScanLaws.{and_right}
 use Rattle.wire.specs.Table.{row_at, put_row}
@@ -27,7 +27,7 @@ use Rattle.rules.specs.Permit.{key_of}
 use Rattle.rules.proofs.Variants.{new_small}
 use Rattle.rules.specs.Control.{command_checks, command_ack, device_of, port_of, new_variant}
 use Rattle.rules.specs.Bytes.{command_bytes, region_bytes}
-use Rattle.commands.specs.Control.{Ran, bare, in_range, destroy_of, live_of, used_of}
+use Rattle.commands.specs.Control.{no_data_read, Ran, bare, in_range, destroy_of, live_of, used_of}
 use Rattle.commands.specs.declared.Kind.{Kind}
 use Rattle.commands.specs.declared.Kind.TheVariants.{Pd, Cq, Mr, Qp}
 use Rattle.std.specs.Prelude.{Result, Ok, Err}
@@ -55,13 +55,21 @@ module _ (l : List ℕ) (q : Command) where
 pub ran_wrong : (l : List ℕ) → Ran l none (Err WrongLength) l
 ran_wrong l = record { outcome = refl; bytes = refl }
 
--- a command without data
+-- a command without data, whose test gave this
 module _ (l k : List ℕ) (q : Command) where
-  pub bare_wrong : (length k ≡ 2 → ⊥) → Ran l (bare q k) (Err WrongLength) l
-  bare_wrong h = let e = ne_eqb (length k) 2 h in record { outcome = rw e; bytes = rw e }
+  pub bare_wrong : (r : Refusal) → no_data_read k ≡ Err r → Ran l (bare q k) (Err r) l
+  bare_wrong r e = go (eqb (length k) 2) e
+    where
+      go : (b : Bool) → cond {A = Result (Unit {0}) Refusal} b (Ok tt) (Err WrongLength) ≡ Err r → Ran l (cond b (some q) none) (Err r) l
+      go true e = cc
+      go false e = let w : WrongLength ≡ r = cc in rw (← w) (ran_wrong l)
 
-  pub bare_right : length k ≡ 2 → bare q k ≡ some q
-  bare_right h = rw (eq-eqb (length k) 2 h)
+  pub bare_right : no_data_read k ≡ Ok tt → bare q k ≡ some q
+  bare_right e = go (eqb (length k) 2) e
+    where
+      go : (b : Bool) → cond {A = Result (Unit {0}) Refusal} b (Ok tt) (Err WrongLength) ≡ Ok tt → cond b (some q) none ≡ some q
+      go true e = refl
+      go false e = cc
 
 -- the fields that a byte of the state holds
 pub places_small : (p : ℕ) → (leb 1 p && leb p most_places) ≡ true → p < 256

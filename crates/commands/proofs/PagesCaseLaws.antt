@@ -12,7 +12,7 @@ use Rattle.wire.specs.Checks.{Check, ◌if◌, refusal}
 use Rattle.wire.specs.Le.{le_at}
 use Rattle.wire.specs.Table.{row_at}
 use Rattle.wire.proofs.ScanLaws.{and_left, and_right, leb_same}
-use Rattle.tables.specs.Commands.{head_checks, head_read, register_codec, register_read}
+use Rattle.tables.specs.Commands.{head_checks, register_codec, register_read}
 use Rattle.tables.specs.Layout.{memory_t}
 use Rattle.tables.specs.Limits.{mr_count, most_memory, most_address, page_size, most_pages}
 use Rattle.tables.specs.State.{card, pages_needed}
@@ -29,10 +29,15 @@ use Rattle.rules.specs.Control.{new_variant}
 use Rattle.rules.specs.Pages.{entries_ok, page_list_checks}
 use Rattle.rules.specs.Permit.{key_of}
 use Rattle.rules.proofs.Tests.{refusal_append}
+use Rattle.rules.specs.Verb.{verb_of}
+use Rattle.rules.specs.declared.verb.Verb.{Verb}
+use Rattle.rules.specs.declared.verb.Verb.TheVariants.{RegisterMr}
+use Rattle.rules.proofs.VerbLaws.{verb_unknown, verb_back}
+use Rattle.commands.specs.Control.{verb_by, verb_read}
 use Rattle.commands.specs.Pages.{count_ok, in_pages, Listed, Recorded, record_checks}
 use Rattle.std.specs.Prelude.{Result, Ok, Err, Some, None}
 use Rattle.std.specs.Prelude.{Option as Read}
-use Rattle.tables.specs.Refusal.{refusal_of, result_by}
+use Rattle.tables.specs.Refusal.{refusal_of}
 use Rattle.tables.specs.declared.refusal.Refusal.{Refusal}
 use Rattle.tables.specs.declared.refusal.Refusal.TheVariants.{BadField, BadRange, Full, NotLive, Unknown, WrongLength}
 use Rattle.commands.proofs.CaseLaws.{over}
@@ -154,16 +159,6 @@ module _ (l ps : List ℕ) where
     abbrev later : (number : ℕ) → List Check
     later n = 13 if not (eqb n 7) ∷ 1 if not (eqb (length k) (2 + register_codec.size)) ∷ page_list_checks (card l) (registration_in k) ps
 
-    pub recorded_stopped : (r : Refusal) → head_read k ≡ Err r → Recorded l k ps (Err r) l
-    recorded_stopped r e = go (refusal (head_checks k)) refl e
-      where
-        go : (o : Maybe ℕ) → refusal (head_checks k) ≡ o → result_by o (le_at 1 k 1) ≡ Err r → Recorded l k ps (Err r) l
-        go none i e = cc
-        go (some n) i e =
-            let z : refusal (record_checks (card l) k ps) ≡ some n = refusal_append (head_checks k) (later (le_at 1 k 1)) ∙ rw i in
-            let q : refusal_of n ≡ r = cc in
-            record { outcome = rw (z, q); bytes = rw z }
-
     module _ (head : refusal (head_checks k) ≡ none) (n : ℕ) (is : n ≡ le_at 1 k 1) where
       rest : refusal (record_checks (card l) k ps) ≡ refusal (later n)
       rest = refusal_append (head_checks k) (later (le_at 1 k 1)) ∙ rw (head, is)
@@ -184,3 +179,15 @@ module _ (l ps : List ℕ) where
           go false q y =
               let z : refusal (record_checks (card l) k ps) ≡ some 1 = rest ∙ rw (eq-eqb n 7 h, q) in
               record { outcome = rw z y.outcome; bytes = rw z y.bytes }
+
+    pub recorded_stopped : (r : Refusal) → verb_read k ≡ Err r → Recorded l k ps (Err r) l
+    recorded_stopped r e = go (refusal (head_checks k)) refl e
+      where
+        go : (o : Maybe ℕ) → refusal (head_checks k) ≡ o → verb_by o (verb_of (le_at 1 k 1)) ≡ Err r → Recorded l k ps (Err r) l
+        go none i e =
+            let u : Unknown ≡ r = sym (verb_unknown (le_at 1 k 1) r e) in
+            rw (← u) (recorded_other i (le_at 1 k 1) refl (λ s. let j : ◌≡◌ {A = Result Verb Refusal} (Ok RegisterMr) (Err r) = sym (verb_back RegisterMr) ∙ sym (ap verb_of s) ∙ e in cc))
+        go (some n) i e =
+            let z : refusal (record_checks (card l) k ps) ≡ some n = refusal_append (head_checks k) (later (le_at 1 k 1)) ∙ rw i in
+            let q : refusal_of n ≡ r = cc in
+            record { outcome = rw (z, q); bytes = rw z }

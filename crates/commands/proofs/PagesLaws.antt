@@ -1,6 +1,6 @@
 -- Page lists, one entry after the other: their tests, and their numbers stored. Assumes nothing.
-use mathlib.Core.Path.{◌≡◌, sym, ap, ◌∙◌}
-use mathlib.Core.Bool.{Bool, true, false, ◌&&◌}
+use mathlib.Core.Path.{◌≡◌, refl, sym, ap, ◌∙◌}
+use mathlib.Core.Bool.{Bool, true, ◌&&◌}
 use mathlib.Core.List.{List, [], ◌∷◌}
 use Prim.Native.Nat.{ℕ, zero, suc, ◌+◌, ◌*◌, ◌/◌, ◌%◌, ◌≤◌, ◌<◌}
 use native.Mathlib.Numerals.{add-one}
@@ -9,9 +9,10 @@ use lib.Dec.{eqb, leb}
 use lib.ListN.{length, get_or, drop, drop_of_length-le}
 use lib.Seq.{drop-cons}
 use borrow.Author.Tests.{leb-true}
+use Rattle.std.specs.List.{list_all}
 use Rattle.wire.specs.Scan.{all}
 use Rattle.wire.specs.Table.{put_row}
-use Rattle.wire.proofs.ScanLaws.{all_nil, all_cons, and_left, and_right}
+use Rattle.wire.proofs.ScanLaws.{and_left, and_right}
 use Rattle.tables.specs.Layout.{page_t}
 use Rattle.tables.specs.Limits.{page_size, most_pages, most_memory}
 use Rattle.rules.specs.Bytes.{put_pages}
@@ -20,20 +21,12 @@ use Rattle.rules.specs.Pages.{entry_ok, entries_ok}
 first_left : (ps : List ℕ) (i : ℕ) → i < length ps → drop i ps ≡ get_or ps i 0 ∷ drop (i + 1) ps
 first_left ps i h = rw (add-one i, drop-cons ps i 0 h)
 
--- ---- the entries left pass a test
+-- ---- the entries pass a test
 
-module _ (p : ℕ → Bool) (ps : List ℕ) (i : ℕ) where
-  first_rest : i < length ps → all p (drop i ps) ≡ (p (get_or ps i 0) && all p (drop (i + 1) ps))
-  first_rest h = ap (all p) (first_left ps i h) ∙ all_cons p (get_or ps i 0) (drop (i + 1) ps)
-
-  pub left_fails : i < length ps → p (get_or ps i 0) ≡ false → all p (drop i ps) ≡ false
-  left_fails h e = first_rest h ∙ rw e
-
-  pub left_passes : i < length ps → p (get_or ps i 0) ≡ true → all p (drop (i + 1) ps) ≡ all p (drop i ps)
-  left_passes h e = sym (first_rest h ∙ rw e)
-
-  pub left_done : length ps ≤ i → all p (drop i ps) ≡ true
-  left_done h = ap (all p) (drop_of_length-le ps {i = i} h) ∙ all_nil p
+pub all_pass : (p : ℕ → Bool) (ps : List ℕ) → list_all p ps ≡ all p ps
+unfolding all
+all_pass p [] = refl
+all_pass p (x ∷ ps) = ap (λ (b : Bool). p x && b) (all_pass p ps)
 
 all_in : (p : ℕ → Bool) (ps : List ℕ) (k : ℕ) → k < length ps → all p ps ≡ true → p (get_or ps k 0) ≡ true
 unfolding all

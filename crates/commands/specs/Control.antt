@@ -4,21 +4,25 @@ use Rattle.std.specs.Prelude.{◌≡◌, Bool, true, false, cond, not, ◌&&◌,
 use Rattle.std.specs.Prelude.{Option as Read}
 use Rattle.std.proofs.Math.Option.{Option, none, some}
 use Rattle.wire.specs.Checks.{Check, ◌if◌, refusal, has, only}
+use Rattle.wire.specs.Le.{le_at}
 use Rattle.tables.specs.Card.{cq_live, Card}
 use Rattle.tables.specs.State.{card}
 use Rattle.tables.specs.Limits.{qp_count, most_address, most_access}
 use Rattle.tables.specs.Commands.{head_checks, Command, data_size, command_of}
-use Rattle.tables.specs.Refusal.{result_by}
+use Rattle.tables.specs.Refusal.{refusal_of, result_by}
 use Rattle.tables.specs.declared.Ack.{Ack}
 use Rattle.tables.specs.declared.Ack.TheVariants as ack
 use Rattle.tables.specs.declared.CreateQp.{CreateQp}
 use Rattle.tables.specs.declared.ModifyQp.{ModifyQp}
 use Rattle.tables.specs.declared.Registration.{Registration}
 use Rattle.tables.specs.declared.refusal.Refusal.{Refusal}
+use Rattle.tables.specs.declared.refusal.Refusal.TheVariants.{WrongLength}
 use Rattle.validate.specs.Accept.{is_state}
 use Rattle.validate.specs.Search.{pd_in_use, cq_in_use}
 use Rattle.rules.specs.Bytes.{command_bytes}
 use Rattle.rules.specs.Control.{command_checks, command_ack, state_bit, rights_bit, dest_bit}
+use Rattle.rules.specs.Verb.{verb_of}
+use Rattle.rules.specs.declared.verb.Verb.{Verb}
 use Rattle.rules.specs.Lists.{is_some, maybe}
 use Rattle.commands.specs.declared.Kind.{Kind}
 use Rattle.commands.specs.declared.Kind.TheVariants.{Pd, Cq, Mr, Qp}
@@ -34,6 +38,16 @@ left_by (some n) l l' = l
 abbrev pub outcome_ack : Result Ack Refusal → Ack
 outcome_ack (Err r) = ack.Error
 outcome_ack (Ok a) = a
+
+-- ---- the command that a record names
+
+abbrev pub verb_by : Option ℕ → Result Verb Refusal → Result Verb Refusal
+verb_by none v = v
+verb_by (some n) v = Err (refusal_of n)
+
+-- "fewer than two bytes 1; 13": by its first two bytes
+abbrev pub verb_read : List ℕ → Result Verb Refusal
+verb_read k = verb_by (refusal (head_checks k)) (verb_of (le_at 1 k 1))
 
 -- ---- what a function owes that runs a command on the state l after these tests: its outcome r, done with what the ack says, and the state's
 -- bytes l', those after the command where it is done
@@ -79,6 +93,9 @@ read_as f (Some v) = some (f v)
 read_as f None = none
 
 -- "4 create PD | none", and a query: a command without data is two bytes long
+abbrev pub no_data_read : List ℕ → Result (Unit {0}) Refusal
+no_data_read k = cond (eqb (length k) 2) (Ok tt) (Err WrongLength)
+
 abbrev pub bare : Command → List ℕ → Option Command
 bare q k = cond (eqb (length k) 2) (some q) none
 

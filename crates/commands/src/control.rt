@@ -12,26 +12,33 @@ ghost use Rattle.rules.specs.Call.{Call};
 ghost use Rattle.rules.specs.Contract.{Owes};
 ghost use Rattle.rules.specs.Control.{new_variant};
 ghost use Rattle.rules.specs.Permit.{key_of};
-ghost use Rattle.commands.specs.Control.{Ran, Chosen, Classed, read_as, bare, in_range, outcome_ack};
+ghost use Rattle.rules.specs.Verb.{verb_number};
+ghost use Rattle.commands.specs.Control.{no_data_read, verb_read, Ran, Chosen, Classed, read_as, bare, in_range, outcome_ack};
 
 use crate::{Kind, control_qp, destroy, query};
 use acks::queries;
 use rules::Answer;
-use rules::numbers::{
-    CREATE_CQ, CREATE_PD, CREATE_QP, DEREGISTER_MR, DESTROY_CQ, DESTROY_PD, DESTROY_QP, MODIFY_QP,
-    QUERY_DEVICE, QUERY_PORT, REGISTER_MR,
-};
+use rules::verb::Verb;
 use tables::limits::{CQ_COUNT, FLAT, MOST_ADDRESS, MOST_PLACES, MR_COUNT, PD_COUNT};
 use tables::refusal::Refusal;
-use tables::rows::State;
-use tables::{Ack, Kind, QueueHead, Region, Registration, records, rows};
+use tables::{Ack, QueueHead, Region, Registration, records, rows};
 use validate::{accept, find, regions};
 
 // "The ack buffer has at least 13 bytes".
 pub const ACK_LEAST: usize = 13;
 
 // The class byte and the command byte.
-pub const HEAD_SIZE: usize = 2;
+const HEAD_SIZE: usize = 2;
+
+// The test of a command without data.
+pub fn no_data(command: &[u8]) -> Result<(), Refusal>
+    ensures { result ≡ no_data_read command.now }
+{
+    if command.len() != HEAD_SIZE {
+        return Err(Refusal::WrongLength);
+    }
+    Ok(())
+}
 
 // ---- completion queues
 
@@ -43,8 +50,8 @@ fn places_fine(n: u32) -> bool
 }
 
 // The free number n is a completion queue with no completion.
-fn put_queue(state: &mut State, n: usize, places: u8)
-    requires { (n < cq_count) × (n ≡ free_cqn (card state.old)) }
+fn put_queue(state: &mut [u8], n: usize, places: u8)
+    requires { (n < cq_count) × (length state.old ≡ state_size) × (n ≡ free_cqn (card state.old)) }
     ensures { state.new ≡ command_bytes state.old (Command.create_cq places) }
 {
     let head = QueueHead {
@@ -53,10 +60,11 @@ fn put_queue(state: &mut State, n: usize, places: u8)
         count: 0,
     };
     rows::store_cq(state, n, head);
-    rows::store_flag(state, Kind::Cq, n, 1);
+    rows::store_cq_flag(state, n, 1);
 }
 
-fn create_cq(state: &mut State, read: Option<u32>) -> Result<Ack, Refusal>
+fn create_cq(state: &mut [u8], read: Option<u32>) -> Result<Ack, Refusal>
+    requires { length state.old ≡ state_size }
     ensures { Ran state.old (read_as Command.create_cq read) result state.new }
 {
     let places = read.ok_or(Refusal::WrongLength)?;
@@ -73,17 +81,16 @@ fn create_cq(state: &mut State, read: Option<u32>) -> Result<Ack, Refusal>
 
 // ---- domains
 
-fn create_pd(state: &mut State, command: &[u8]) -> Result<Ack, Refusal>
+fn create_pd(state: &mut [u8], command: &[u8]) -> Result<Ack, Refusal>
+    requires { length state.old ≡ state_size }
     ensures { Ran state.old (bare Command.create_pd command.now) result state.new }
 {
-    if command.len() != HEAD_SIZE {
-        return Err(Refusal::WrongLength);
-    }
+    no_data(command)?;
     let n = find::free_pdn(state);
     if PD_COUNT <= n {
         return Err(Refusal::Full);
     }
-    rows::store_flag(state, Kind::Pd, n, 1);
+    rows::store_pd_flag(state, n, 1);
     Ok(Ack::Number(n as u32))
 }
 
@@ -106,8 +113,9 @@ pub fn key_of(n: usize, variant: u8) -> u32
 }
 
 // The free slot n holds the region, of either kind, under the slot's next variant, which is returned.
-pub fn put_region(state: &mut State, n: usize, g: Registration, kind: u8) -> u8
-    requires { (n < mr_count) × (n ≡ free_mrn (card state.old)) × (access_ok g.access ≡ true) × ((card state.old).pd g.pd ≡ true) }
+pub fn put_region(state: &mut [u8], n: usize, g: Registration, kind: u8) -> u8
+    requires { (n < mr_count) × (length state.old ≡ state_size) × (n ≡ free_mrn (card state.old))
+        × (access_ok g.access ≡ true) × ((card state.old).pd g.pd ≡ true) }
     ensures { (result ≡ new_variant (card state.old)) × (state.new ≡ region_bytes state.old kind g) }
 {
     let variant = rows::load_mr(state, n).variant + 1;
@@ -121,18 +129,19 @@ pub fn put_region(state: &mut State, n: usize, g: Registration, kind: u8) -> u8
         virt: g.virt,
     };
     rows::store_mr(state, n, row);
-    rows::store_flag(state, Kind::Mr, n, 1);
+    rows::store_mr_flag(state, n, 1);
     variant
 }
 
-fn register(state: &mut State, read: Option<Registration>) -> Result<Ack, Refusal>
+fn register(state: &mut [u8], read: Option<Registration>) -> Result<Ack, Refusal>
+    requires { length state.old ≡ state_size }
     ensures { Ran state.old (read_as Command.register read) result state.new }
 {
     let g = read.ok_or(Refusal::WrongLength)?;
     if !regions::access_ok(g.access) {
         return Err(Refusal::BadField);
     }
-    if !live::is_live(state, Kind::Pd, g.pd) {
+    if !accept::pd_live(state, g.pd) {
         return Err(Refusal::NotLive);
     }
     if !in_range(rows::load_memory(state), g) {
@@ -148,43 +157,50 @@ fn register(state: &mut State, read: Option<Registration>) -> Result<Ack, Refusa
 
 // ---- any command
 
-// The command number chooses the reader and the rules.
-fn run(state: &mut State, command: &[u8], number: u8) -> Result<Ack, Refusal>
-    requires { number ≡ le_at 1 command.now 1 }
+// The command that a record names.
+pub fn read_verb(command: &[u8]) -> Result<Verb, Refusal>
+    ensures { result ≡ verb_read command.now }
+{
+    Verb::try_from(records::read_head(command)?)
+}
+
+// The command chooses the reader and the rules.
+fn run(state: &mut [u8], command: &[u8], verb: Verb) -> Result<Ack, Refusal>
+    requires { (length state.old ≡ state_size) × (verb_number verb ≡ le_at 1 command.now 1) }
     ensures { Chosen state.old command.now result state.new }
 {
-    match number {
-        QUERY_DEVICE => query::query_device(state, command),
-        QUERY_PORT => query::query_port(state, command),
-        CREATE_CQ => create_cq(state, records::read_data(command)),
-        DESTROY_CQ => destroy::destroy(state, Kind::Cq, records::read_data(command)),
-        CREATE_PD => create_pd(state, command),
-        DESTROY_PD => destroy::destroy(state, Kind::Pd, records::read_data(command)),
-        REGISTER_MR => register(state, records::read_data(command)),
-        DEREGISTER_MR => destroy::destroy(state, Kind::Mr, records::read_data(command)),
-        CREATE_QP => control_qp::create_qp(state, records::read_data(command)),
-        MODIFY_QP => control_qp::modify_qp(state, records::read_data(command)),
-        DESTROY_QP => destroy::destroy(state, Kind::Qp, records::read_data(command)),
-        6 | 11 | 13..=255 => Err(Refusal::Unknown),
+    match verb {
+        Verb::QueryDevice => query::query_device(state, command),
+        Verb::QueryPort => query::query_port(state, command),
+        Verb::CreateCq => create_cq(state, records::read_data(command)),
+        Verb::DestroyCq => destroy::destroy(state, Kind::Cq, records::read_data(command)),
+        Verb::CreatePd => create_pd(state, command),
+        Verb::DestroyPd => destroy::destroy(state, Kind::Pd, records::read_data(command)),
+        Verb::RegisterMr => register(state, records::read_data(command)),
+        Verb::DeregisterMr => destroy::destroy(state, Kind::Mr, records::read_data(command)),
+        Verb::CreateQp => control_qp::create_qp(state, records::read_data(command)),
+        Verb::ModifyQp => control_qp::modify_qp(state, records::read_data(command)),
+        Verb::DestroyQp => destroy::destroy(state, Kind::Qp, records::read_data(command)),
     }
 }
 
-fn dispatch(state: &mut State, command: &[u8]) -> Result<Ack, Refusal>
+fn dispatch(state: &mut [u8], command: &[u8]) -> Result<Ack, Refusal>
+    requires { length state.old ≡ state_size }
     ensures { Classed state.old command.now result state.new }
 {
-    run(state, command, records::read_head(command)?)
+    run(state, command, read_verb(command)?)
 }
 
 // The bytes that the ack buffer must have for a command.
 fn ack_need(command: &[u8]) -> usize
     ensures { result ≡ ack_need command.now }
 {
-    let Ok(n) = records::read_head(command) else {
+    let Ok(verb) = read_verb(command) else {
         return ACK_LEAST;
     };
-    match n {
-        QUERY_DEVICE => queries::DEVICE_ACK,
-        QUERY_PORT => queries::PORT_ACK,
+    match verb {
+        Verb::QueryDevice => queries::DEVICE_ACK,
+        Verb::QueryPort => queries::PORT_ACK,
         _ => ACK_LEAST,
     }
 }

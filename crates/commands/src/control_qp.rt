@@ -46,6 +46,7 @@ fn create_live(state: &State, r: CreateQp) -> bool
     pd & scq & rcq
 }
 
+// No From: its numbers must fit a byte, and a From asks nothing of its caller.
 fn new_pair(r: CreateQp) -> QueuePair
     requires { (r.pd < 256) × (r.scq < 256) × (r.rcq < 256) }
     ensures { result ≡ new_pair r }
@@ -143,27 +144,24 @@ fn moved_pair(p: QueuePair, r: ModifyQp) -> QueuePair
     requires { modify_bad r ≡ false }
     ensures { result ≡ moved_pair p r }
 {
-    let mut x = p;
-    x.state = r.state;
-    x.rights = rights_after(p.rights, r);
-    if r.state == RESET {
-        x.dest = NO_DEST;
-        return x;
+    let dest = match r.state {
+        RESET => NO_DEST,
+        RTR => r.dest as u8,
+        _ => p.dest,
+    };
+    QueuePair {
+        state: r.state,
+        dest,
+        rights: rights_after(p.rights, r),
+        ..p
     }
-    if r.state == RTR {
-        x.dest = r.dest as u8;
-    }
-    x
 }
 
 fn moved_head(h: WaitingHead, to: u8) -> WaitingHead
     ensures { result ≡ moved_head h to }
 {
-    let mut r = h;
-    if to == RESET {
-        r.count = 0;
-    }
-    r
+    let count = if to == RESET { 0 } else { h.count };
+    WaitingHead { count, ..h }
 }
 
 // The live queue pair in the state that it moves to; a move to 0 drops its receives, its queued sends, its destination and its

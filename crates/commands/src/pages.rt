@@ -12,7 +12,7 @@ ghost use Rattle.commands.specs.Pages.{count_ok, in_pages, Listed, Recorded};
 use crate::control;
 use crate::control::ACK_LEAST;
 use rules::Answer;
-use rules::numbers::REGISTER_MR;
+use rules::verb::Verb;
 use tables::limits::{MOST_ADDRESS, MOST_PAGED, MOST_PAGES, MR_COUNT, PAGE_SIZE, PAGED};
 use tables::refusal::Refusal;
 use tables::rows::State;
@@ -32,14 +32,7 @@ fn entry_ok(memory: u64, entry: u64) -> bool
 fn entries_ok(memory: u64, pages: &[u64]) -> bool
     ensures { result ≡ entries_ok memory pages.now }
 {
-    let mut i = 0;
-    while i < pages.len() {
-        if !entry_ok(memory, pages[i]) {
-            return false;
-        }
-        i += 1;
-    }
-    true
+    pages.iter().all(|page| entry_ok(memory, *page))
 }
 
 // Whether the list has exactly the pages that the region needs, at most 16; no sum wraps.
@@ -70,11 +63,8 @@ fn put_pages(state: &mut State, n: usize, pages: &[u64])
     requires { (n < mr_count) × (length pages.now ≤ most_pages) × (entries_ok most_memory pages.now ≡ true) }
     ensures { state.new ≡ put_pages state.old n 0 pages.now }
 {
-    let mut k = 0;
-    while k < pages.len() {
-        let number = (pages[k] / PAGE_SIZE) as u16;
-        rows::store_page(state, MOST_PAGES * n + k, number);
-        k += 1;
+    for (k, page) in pages.iter().enumerate() {
+        rows::store_page(state, MOST_PAGES * n + k, (*page / PAGE_SIZE) as u16);
     }
 }
 
@@ -112,10 +102,10 @@ fn choose(state: &mut State, command: &[u8], pages: &[u64]) -> Result<Ack, Refus
     requires { accepts state.old ≡ true }
     ensures { Recorded state.old command.now pages.now result state.new }
 {
-    if records::read_head(command)? != REGISTER_MR {
-        return Err(Refusal::Unknown);
+    match control::read_verb(command)? {
+        Verb::RegisterMr => register_paged(state, records::read_data(command), pages),
+        _ => Err(Refusal::Unknown),
     }
-    register_paged(state, records::read_data(command), pages)
 }
 
 // A registration over a page list: its answer, and what it leaves in the state and in the ack buffer.

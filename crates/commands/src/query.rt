@@ -6,7 +6,7 @@ ghost use Rattle.tables.specs.State.{card};
 ghost use Rattle.rules.specs.Control.{device_of};
 ghost use Rattle.commands.specs.Control.{Ran, bare};
 
-use crate::control::HEAD_SIZE;
+use crate::control::no_data;
 use tables::limits::{
     MOST_MESSAGE, MOST_PLACES, MOST_RECEIVE_SGES, MOST_SGES, MOST_WAITING, MR_COUNT, PAGE_SIZE,
     PD_COUNT,
@@ -48,18 +48,14 @@ fn device_of(state: &State) -> Device
 pub fn query_device(state: &State, command: &[u8]) -> Result<Ack, Refusal>
     ensures { Ran state.now (bare Command.query_device command.now) result state.now }
 {
-    if command.len() != HEAD_SIZE {
-        return Err(Refusal::WrongLength);
-    }
+    no_data(command)?;
     Ok(Ack::Device(device_of(state)))
 }
 
 pub fn query_port(state: &[u8], command: &[u8]) -> Result<Ack, Refusal>
     ensures { Ran state.now (bare Command.query_port command.now) result state.now }
 {
-    if command.len() != HEAD_SIZE {
-        return Err(Refusal::WrongLength);
-    }
+    no_data(command)?;
     Ok(Ack::Port(Port {
         gids: 0,
         message: MOST_MESSAGE,

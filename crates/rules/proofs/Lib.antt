@@ -21,3 +21,4 @@ pub mod Buffers
 pub mod Exported
 pub mod Sent
 pub mod Firm
+pub mod VerbLaws

@@ -1,3 +1,4 @@
+pub mod Verb
 pub mod Answer
 pub mod Lists
 pub mod Touch

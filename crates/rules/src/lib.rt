@@ -2,6 +2,7 @@
 #![tactic(auto)]
 
 pub mod numbers;
+pub mod verb;
 
 ghost use Rattle.std.specs.Prelude.{◌≡◌};
 ghost use Rattle.rules.specs.Answer.{number, status, code_of, refused, outcome_answer};

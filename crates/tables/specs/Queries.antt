@@ -92,8 +92,12 @@ port_codec = record {
 abbrev pub query_checks : (size : ℕ) → List ℕ → List Check
 query_checks size a = 1 if ltb (length a) (1 + size) ∷ 4 if not (eqb (le_at 1 a 0) 0) ∷ []
 
+-- of the size that it has
+abbrev pub report_read : {A : Type 0} → (size : ℕ) → (List ℕ → A) → List ℕ → Result A Refusal
+report_read size of a = result_by (refusal (query_checks size a)) (of a)
+
 unfoldable pub device_read : List ℕ → Result Device Refusal
-device_read a = result_by (refusal (query_checks device_codec.size a)) (decode device_codec a 1)
+device_read = report_read device_codec.size (λ a. decode device_codec a 1)
 
 unfoldable pub port_read : List ℕ → Result Port Refusal
-port_read a = result_by (refusal (query_checks port_codec.size a)) (decode port_codec a 1)
+port_read = report_read port_codec.size (λ a. decode port_codec a 1)

@@ -9,6 +9,7 @@ ghost use Rattle.tables.specs.Records.{sge_codec, sge_at, completion_codec, resu
 use crate::limits::{FLAG_BITS, INLINE_FLAG, MOST_INLINE, MOST_RECEIVE_SGES, MOST_SGES, READ};
 use crate::refusal::Refusal;
 use crate::{Completion, CreateQp, ModifyQp, ReceiveRecord, Registration, SendRecord, Sge};
+use std::array;
 
 // A send record's bytes before its scatter/gather entries, and where its inline bytes begin.
 const SEND_SIZE: usize = 576;
@@ -27,6 +28,7 @@ const SGE_SIZE: usize = 16;
 // ---- work requests
 
 // The numbers of a send record.
+#[tactic(auto, unfolding(crate::specs::Records::send_codec, wire::specs::Codec::fields_at))]
 pub fn send_head(request: &[u8]) -> SendRecord
     requires { 576 ≤ length request.now }
     ensures { result ≡ decode send_codec request.now 0 }
@@ -66,6 +68,7 @@ fn send_size(s: SendRecord) -> usize
 }
 
 // Reads a send record without its inline bytes and scatter/gather entries.
+#[tactic(auto, using(crate::proofs::ReadingLaws::send_short, crate::proofs::ReadingLaws::send_refused, crate::proofs::ReadingLaws::send_wrong, crate::proofs::ReadingLaws::send_right))]
 pub fn read_send(request: &[u8]) -> Result<SendRecord, Refusal>
     ensures { result ≡ send_read request.now }
 {
@@ -84,6 +87,7 @@ pub fn read_send(request: &[u8]) -> Result<SendRecord, Refusal>
 }
 
 // The inline bytes, as a part of the caller's record.
+#[tactic(auto, unfolding(crate::specs::Records::inline_bytes, crate::specs::Records::inline_length))]
 pub fn inline_bytes(request: &[u8]) -> &[u8]
     requires { 576 ≤ length request.now }
     ensures { result.now ≡ inline_bytes request.now }
@@ -101,6 +105,7 @@ pub fn inline_of(request: &[u8], s: SendRecord) -> &[u8]
 
 // ---- scatter/gather entries and completions at an offset
 
+#[tactic(auto, unfolding(crate::specs::Records::sge_codec, wire::specs::Codec::fields_at))]
 pub fn get_sge(bytes: &[u8], at: usize) -> Sge
     requires { at + 16 ≤ length bytes.now }
     ensures { result ≡ decode sge_codec bytes.now at }
@@ -112,6 +117,7 @@ pub fn get_sge(bytes: &[u8], at: usize) -> Sge
     }
 }
 
+#[tactic(auto, unfolding(crate::specs::Records::sge_codec, wire::specs::Codec::put_fields))]
 pub fn put_sge(bytes: &mut [u8], at: usize, s: Sge)
     requires { at + 16 ≤ length bytes.old }
     ensures { bytes.new ≡ encode sge_codec bytes.old at s }
@@ -121,6 +127,7 @@ pub fn put_sge(bytes: &mut [u8], at: usize, s: Sge)
     wire::put(bytes, at + 12, s.key);
 }
 
+#[tactic(auto, unfolding(crate::specs::Records::completion_codec, wire::specs::Codec::fields_at))]
 pub fn get_completion(bytes: &[u8], at: usize) -> Completion
     requires { at + 24 ≤ length bytes.now }
     ensures { result ≡ decode completion_codec bytes.now at }
@@ -136,6 +143,7 @@ pub fn get_completion(bytes: &[u8], at: usize) -> Completion
 }
 
 // A completion's bytes after its wr_id: status, opcode and length.
+#[tactic(auto, unfolding(wire::specs::Codec::put_fields))]
 fn put_result(bytes: &mut [u8], at: usize, c: Completion)
     requires { at + 24 ≤ length bytes.old }
     ensures { bytes.new ≡ put_fields result_fields bytes.old at (c.status ∷ c.opcode ∷ 0 ∷ c.length ∷ []) }
@@ -146,6 +154,7 @@ fn put_result(bytes: &mut [u8], at: usize, c: Completion)
     wire::put(bytes, at + 12, c.length);
 }
 
+#[tactic(auto, unfolding(crate::specs::Records::completion_codec, wire::specs::Codec::put_fields))]
 pub fn put_completion(bytes: &mut [u8], at: usize, c: Completion)
     requires { at + 24 ≤ length bytes.old }
     ensures { bytes.new ≡ encode completion_codec bytes.old at c }
@@ -157,6 +166,7 @@ pub fn put_completion(bytes: &mut [u8], at: usize, c: Completion)
 }
 
 // The scatter/gather entry at an offset; one that the record does not have is nothing.
+#[tactic(auto, using(crate::proofs::ReadingLaws::sge_none, crate::proofs::ReadingLaws::sge_some))]
 fn sge_at(request: &[u8], at: usize) -> Sge
     requires { at + 16 < 2 ^ 64 }
     ensures { result ≡ sge_at request.now at }
@@ -172,6 +182,7 @@ fn sge_at(request: &[u8], at: usize) -> Sge
 }
 
 // Scatter/gather entry i of a send record.
+#[tactic(auto, unfolding(crate::specs::Records::send_sge))]
 pub fn send_sge(request: &[u8], i: usize) -> Sge
     requires { i < most_sges }
     ensures { result ≡ send_sge request.now i }
@@ -180,17 +191,15 @@ pub fn send_sge(request: &[u8], i: usize) -> Sge
 }
 
 // Every scatter/gather entry of a send record, nothing where it has no more.
+#[tactic(auto, unfolding(wire::specs::Rows::rows, wire::specs::Rows::rows_from))]
 pub fn send_sges(request: &[u8]) -> [Sge; 4]
     ensures { result ≡ rows most_sges (send_sge request.now) }
 {
-    let a = send_sge(request, 0);
-    let b = send_sge(request, 1);
-    let c = send_sge(request, 2);
-    let d = send_sge(request, 3);
-    [a, b, c, d]
+    array::from_fn(|i| send_sge(request, i))
 }
 
 // Reads a receive record.
+#[tactic(auto, using(crate::proofs::ReadingLaws::receive_short, crate::proofs::ReadingLaws::receive_many, crate::proofs::ReadingLaws::receive_wrong), unfolding(crate::specs::Records::receive_codec, wire::specs::Codec::fields_at))]
 pub fn read_receive(request: &[u8]) -> Result<ReceiveRecord, Refusal>
     ensures { result ≡ receive_read request.now }
 {
@@ -205,20 +214,18 @@ pub fn read_receive(request: &[u8]) -> Result<ReceiveRecord, Refusal>
     if request.len() != size {
         return Err(Refusal::WrongLength);
     }
-    let wr = wire::get::<u64>(request, 0);
-    let a = sge_at(request, RECEIVE_HEAD);
-    let b = sge_at(request, RECEIVE_HEAD + SGE_SIZE);
     Ok(ReceiveRecord {
-        wr,
+        wr: wire::get(request, 0),
         count,
-        first: a,
-        second: b,
+        first: sge_at(request, RECEIVE_HEAD),
+        second: sge_at(request, RECEIVE_HEAD + SGE_SIZE),
     })
 }
 
 // ---- control commands: the class byte, the command byte, and the data from byte 2 on
 
 // Reads the class and the command byte.
+#[tactic(auto, using(crate::proofs::ReadingLaws::head_short, crate::proofs::ReadingLaws::head_class, crate::proofs::ReadingLaws::head_right))]
 pub fn read_head(command: &[u8]) -> Result<u8, Refusal>
     ensures { result ≡ head_read command.now }
 {

@@ -1,35 +1,22 @@
-use mathlib.Core.Path.{sym, ◌∙◌}
-use Rattle.tables.proofs.ReadingLaws.{head_number, head_refused}
-use Rattle.acks.proofs.Acks.{room_other}
-use Rattle.commands.proofs.CallLaws.{need_refused, need_named, room_device, room_port}
+use mathlib.Core.Path.{sym, ap, ◌∙◌}
+use Rattle.commands.proofs.CallLaws.{room_of, need_is, least_room}
 use Rattle.commands.proofs.control.ack_need.Goals as goal
 
 pub returns-in_default : goal.returns-in_default
-returns-in_default c =
-    let head = c in
-    let k = head.args.command.now in
-    sym (need_refused k _ (head_refused k _ (sym head.read_head.ensures ∙ c.in_default.is)))
+returns-in_default c = sym (need_is c.args.command.now ∙ ap room_of (sym c.read_verb.ensures ∙ c.in_default.is))
 
-pub returns-in-0 : goal.returns-in-0
-returns-in-0 c =
-    let read = c in
-    let head = read in
-    let k = head.args.command.now in
-    let named = head_number k _ (sym head.read_head.ensures ∙ read.in-Ok.is) in
-    sym (need_named k named.0 ∙ room_device k _ (sym named.1) c.in-0.is)
+pub returns-in-QueryDevice : goal.returns-in-QueryDevice
+returns-in-QueryDevice c =
+    let named = c in
+    sym (need_is c.args.command.now ∙ ap room_of (sym named.read_verb.ensures ∙ named.in-Ok.is) ∙ rw c.in-QueryDevice.is)
 
-pub returns-in-1 : goal.returns-in-1
-returns-in-1 c =
-    let read = c in
-    let head = read in
-    let k = head.args.command.now in
-    let named = head_number k _ (sym head.read_head.ensures ∙ read.in-Ok.is) in
-    sym (need_named k named.0 ∙ room_port k _ (sym named.1) c.in-1.is)
+pub returns-in-QueryPort : goal.returns-in-QueryPort
+returns-in-QueryPort c =
+    let named = c in
+    sym (need_is c.args.command.now ∙ ap room_of (sym named.read_verb.ensures ∙ named.in-Ok.is) ∙ rw c.in-QueryPort.is)
 
-pub returns-in_default-n : goal.returns-in_default-n
-returns-in_default-n c =
-    let read = c in
-    let head = read in
-    let k = head.args.command.now in
-    let named = head_number k _ (sym head.read_head.ensures ∙ read.in-Ok.is) in
-    sym (need_named k named.0 ∙ room_other k _ (sym named.1) c.in_default-n.in_default-n-own.rest.0.1 c.in_default-n.in_default-n-own.rest.1)
+pub returns-in_default-verb : goal.returns-in_default-verb
+returns-in_default-verb c =
+    let named = c in
+    let d = c.in_default-verb in
+    sym (need_is c.args.command.now ∙ ap room_of (sym named.read_verb.ensures ∙ named.in-Ok.is) ∙ least_room _ d.not-QueryDevice d.not-QueryPort)

@@ -1,15 +1,17 @@
+use mathlib.Core.Path.{◌≡◌, sym, ◌∙◌}
+use borrow.Author.Rules.{rules}
+use Rattle.std.specs.Prelude.{Result, Err}
+use Rattle.tables.specs.declared.Ack.{Ack}
+use Rattle.tables.specs.declared.refusal.Refusal.{Refusal}
 use Rattle.tables.specs.Commands.{Command}
 use Rattle.commands.proofs.CaseLaws.{bare_wrong, bare_right, create_pd_full, create_pd_done}
 use Rattle.commands.proofs.control.create_pd.Goals as goal
-
-pub returns-then-command-ne-HEAD_SIZE : goal.returns-then-command-ne-HEAD_SIZE
-returns-then-command-ne-HEAD_SIZE c = let s = c in bare_wrong s.args.state.now s.args.command.now Command.create_pd c.if-command-ne-HEAD_SIZE.true
 
 pub returns-then-n-ge-PD_COUNT : goal.returns-then-n-ge-PD_COUNT
 returns-then-n-ge-PD_COUNT c =
     let right = c in
     let s = right in
-    rw (bare_right s.args.state.now s.args.command.now Command.create_pd right.if-command-ne-HEAD_SIZE.false)
+    rw (bare_right s.args.state.now s.args.command.now Command.create_pd (sym right.no_data.ensures ∙ right.in_ok-no_data.was))
     (create_pd_full _ c.free_pdn-n.result c.free_pdn-n.ensures c.if-n-ge-PD_COUNT.true)
 
 pub returns : goal.returns
@@ -17,5 +19,10 @@ returns c =
     let room = c in
     let right = room in
     let s = right in
-    rw (bare_right s.args.state.now s.args.command.now Command.create_pd right.if-command-ne-HEAD_SIZE.false)
-    (create_pd_done _ room.free_pdn-n.result room.free_pdn-n.ensures room.if-n-ge-PD_COUNT.false _ c.store_flag.ensures)
+    rw (bare_right s.args.state.now s.args.command.now Command.create_pd (sym right.no_data.ensures ∙ right.in_ok-no_data.was))
+    (create_pd_done _ room.free_pdn-n.result room.free_pdn-n.ensures room.if-n-ge-PD_COUNT.false _ c.store_pd_flag.ensures)
+
+pub returns-in_err-no_data : goal.returns-in_err-no_data
+returns-in_err-no_data c =
+    let e : ◌≡◌ {A = Result Ack Refusal} c.from_residual.result (Err c.in_err-no_data.field-0.0) = search rules in
+    rw e (bare_wrong _ c.args.command.now Command.create_pd _ (sym c.no_data.ensures ∙ c.in_err-no_data.was))

@@ -1,7 +1,0 @@
-use Rattle.wire.specs.Codec.{fields_at}
-use Rattle.tables.specs.Queries.{device_codec}
-use Rattle.acks.proofs.queries.get_objects.Goals as goal
-
-pub returns : goal.returns
-unfolding device_codec fields_at
-returns c = (cc)

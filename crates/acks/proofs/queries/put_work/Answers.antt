@@ -1,6 +1,0 @@
-use Rattle.wire.specs.Codec.{put_fields}
-use Rattle.acks.proofs.queries.put_work.Goals as goal
-
-pub returns : goal.returns
-unfolding put_fields
-returns c = (cc)
