@@ -123,9 +123,7 @@ fn names_ok(state: &[u8], p: QueuePair) -> bool
     requires { length state.now ≡ state_size }
     ensures { result ≡ names_ok (card state.now).pd (cq_live (card state.now)) p }
 {
-    pd_live(state, p.pd as u32)
-        && cq_live(state, p.scq as u32)
-        && cq_live(state, p.rcq as u32)
+    pd_live(state, p.pd as u32) && cq_live(state, p.scq as u32) && cq_live(state, p.rcq as u32)
 }
 
 // The waiting receives of queue pair n.

@@ -20,7 +20,7 @@ returns c e =
     fold_of most_queued (λ k x. x ≡ false → all_below k p ≡ true) _
     (λ k x y q l j t. (
       let w : y ≡ x || bad k = search rules in
-      (λ z. let o : (x || bad k) ≡ false = sym w ∙ z in all_more k p (j (or_left x (bad k) o)) (ap not (or_right x (bad k) o))),
+          (λ z. let o : (x || bad k) ≡ false = sym w ∙ z in all_more k p (j (or_left x (bad k) o)) (ap not (or_right x (bad k) o))),
       search rules,
     ))
     false c.fold.result (search rules) c.fold.ensures.ran (λ z. all_none p) (not-true c.fold.result e)

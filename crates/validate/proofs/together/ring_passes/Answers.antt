@@ -18,10 +18,12 @@ loop-preserved g c =
     let a = c.args in
     let h = c.loop in
     let e : c.ring_place-at.result ≡ ring_place a.cap h.at 1 = c.ring_place-at.ensures in
-    let z : a.first + h.counter + 1 ≡ a.first + (h.counter + 1) = omega arith in
-    (search rules, rw e (mod-lt (h.at + 1) (omega arith)),
-    e ∙ ap (λ (x : ℕ). (x + 1) % a.cap) h.invariant.2 ∙ mod-add-mod (a.first + h.counter) a.cap 1 ∙ ap (λ (x : ℕ). x % a.cap) z,
-    λ p t. all_more h.counter (λ k. p (ring_place a.cap a.first k)) (h.invariant.3 p t) (rw (← h.invariant.2) (sym (t h.at c.test.result h.invariant.1 c.test.ensures) ∙ c.if-not-test.false)))
+    let z : a.first + h.counter + 1 ≡ a.first + (h.counter + 1) = omega arith in (
+      search rules,
+      rw e (mod-lt (h.at + 1) (omega arith)),
+      e ∙ ap (λ (x : ℕ). (x + 1) % a.cap) h.invariant.2 ∙ mod-add-mod (a.first + h.counter) a.cap 1 ∙ ap (λ (x : ℕ). x % a.cap) z,
+      λ p t. all_more h.counter (λ k. p (ring_place a.cap a.first k)) (h.invariant.3 p t) (rw (← h.invariant.2) (sym (t h.at c.test.result h.invariant.1 c.test.ensures) ∙ c.if-not-test.false)),
+    )
 
 pub returns : goal.returns
 returns g c p t = let e : c.loop.counter ≡ c.args.count = search rules in sym (rw e at (c.loop.invariant.3 p t))

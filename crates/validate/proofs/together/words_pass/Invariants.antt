@@ -7,6 +7,3 @@ use Rattle.validate.proofs.together.words_pass.Given as goal
 
 abbrev pub invariant-loop-i : goal.invariant-loop-i
 invariant-loop-i l = (l.i ≤ 8) × ((k : ℕ) → k < l.i → Between l.all l.any (first_word (row_at mr_t l.state (8 * l.g + k))))
-
-abbrev pub decreases-loop-i : goal.decreases-loop-i
-decreases-loop-i l = 8 - l.i
