@@ -1,16 +1,6 @@
 -- Whether an object is free, and whom a live one names, as its rows say. Assumes nothing.
 use Rattle.std.proofs.Common.{◌≡◌, ℕ, zero, suc, ◌+◌, ◌-◌, ◌*◌, ◌<◌, ◌≤◌, Bool, true, false, cond, not, ◌&&◌, ◌||◌, eqb, ltb, leb, List, sym, refl, ap, ◌∙◌, add-zero, add_assoc, mul-one, arith, le-ltb, lt-ltb, le-leb}
 use native.Mathlib.Decide.{dec_le}
-use denote.Ref.{Bor}
-use denote.Param.Members.{Mut}
-use Rattle.std.specs.Prelude.{Option, MatchOption, ⊤}
-use Rattle.std.specs.declared.ops.Range.{Range}
-use Rattle.std.specs.declared.option.Option.TheVariants.{None, Some}
-use Rattle.std.specs.Fn.{CalledAt}
-use Rattle.std.specs.Iterator.{YieldsThen}
-use Rattle.std.specs.List.{FoldsTo}
-use Rattle.std.proofs.iter.Yields.{nat_range_steps}
-use Rattle.std.proofs.lemmas.Iterator.{first_from_Range}
 use borrow.Author.Tests.{lt-leb, not-true, not-false}
 use Rattle.wire.specs.Codec.{fields_at}
 use Rattle.wire.specs.Le.{le_at}
@@ -23,7 +13,7 @@ use Rattle.tables.specs.Limits.{pd_count, cq_count, mr_count, qp_count}
 use Rattle.tables.specs.State.{card, region_at, pair_at, mr_of, qp_of, live_qp, is_live, registration_of}
 use Rattle.tables.specs.declared.Registration.{Registration}
 use Rattle.tables.proofs.ObjectLaws.{pd_is, cq_live_lem, mr_is, mr_live, mr_variant, qp_is, qp_live}
-use Rattle.validate.specs.Search.{last_variant, vacant, free_pdn, free_cqn, free_mrn, free_qpn, IsLowest, mr_names, qp_names, qp_uses}
+use Rattle.validate.specs.Search.{last_variant, vacant, free_pdn, free_cqn, free_mrn, free_qpn, mr_names, qp_names, qp_uses}
 
 module _ (l : List ℕ) (n : ℕ) where
   pub mr_names_lem : (d : ℕ) → n < mr_count → mr_names (card l) d n ≡ (is_live (row_at mr_flag_t l n) && eqb (row_at mr_t l n).pd d)
@@ -104,25 +94,6 @@ search_past n (suc i) p h f =
 
 pub lowest_is : (n : ℕ) (p : ℕ → Bool) (s : ℕ) → s < n → p s ≡ true → ((k : ℕ) → k < s → p k ≡ false) → lowest n p ≡ s
 lowest_is n p s h e least = search_past n s p (omega arith) least ∙ lowest_here n s p h e
-
--- `find` from a number on before which none passes
-pub find_of : {F : Type 0} {g : Mut F (Bor ℕ × Unit {0}) Bool} (n : ℕ) (p : ℕ → Bool) (s u : Range ℕ) (f : F) (r : Option ℕ) → s.end ≡ n → s.start ≤ n
-    → ((k : ℕ) → k < s.start → p k ≡ false)
-    → (xs : List ℕ) × (j : F) × YieldsThen nat_range_steps s xs r u × FoldsTo (λ p x q. CalledAt g p x false q) f xs j × MatchOption r ⊤ (λ x. (h : F) × CalledAt g j x true h)
-    → ((x : ℕ) (b : Bool) (q : F) → CalledAt g f x b q → (q ≡ f) × (x < n → b ≡ p x)) → IsLowest r n p
-find_of n p s u f r e h before ran k =
-    by r
-    (first_from_Range s u f r (λ x. x < n → p x ≡ true) (λ x. x < n → p x ≡ false) ran (λ x q c b. sym ((k x true q c).1 b))
-    (λ x q c. let w = k x false q c in (w.0, λ b. sym (w.1 b))))
-  where
-    past : (i : ℕ) → i ≤ n → ((k : ℕ) → s.start ≤ k → k < i → k < n → p k ≡ false) → (k : ℕ) → k < i → p k ≡ false
-    past i l w k b = elim (dec_le s.start k) [ yes q ↦ w k q b (omega arith) | no q ↦ before k (omega arith) ]
-
-    by : (o : Option ℕ)
-        → MatchOption o ((k : ℕ) → s.start ≤ k → k < s.end → k < n → p k ≡ false)
-        (λ i. (s.start ≤ i) × (i < s.end) × (i < n → p i ≡ true) × ((k : ℕ) → s.start ≤ k → k < i → k < n → p k ≡ false)) → IsLowest o n p
-    by None w = search_past n n p (omega arith) (past n (omega arith) (λ k a b. w k a (omega (arith, e)))) ∙ lowest_none n n p (omega arith)
-    by (Some i) w = let l : i < n = omega (arith, e, w.1) in (l, sym (lowest_is n p i l (w.2 l) (past i (omega arith) (λ k a b. w.3 k a b))))
 
 -- the eight slots from 8 g on
 module _ (l : List ℕ) (g : ℕ) (inside : 8 * g + 8 ≤ mr_count) where

@@ -43,7 +43,12 @@ fn vacant_of_eight(state: &[u8], g: usize) -> Option<usize>
     ensures { IsLowest result 8 (λ i. vacant ((card state.now).mr (8 * g + i))) }
 {
     let start = wire::lowest_clear(state, rows::MR_FLAGS + 8 * g, 1);
-    (start..8).find(|i| is_vacant(state, 8 * g + *i))
+    for i in start..8 {
+        if is_vacant(state, 8 * g + i) {
+            return Some(i);
+        }
+    }
+    None
 }
 
 // Eight slots that are all live are passed at once.
