@@ -8,6 +8,7 @@ ghost use Rattle.tables.specs.Layout.{state_size, memory_t, mr_t};
 ghost use Rattle.tables.specs.Limits.{mr_count, most_pages, page_size};
 ghost use Rattle.validate.specs.Accept.{access_ok, fields_ok, numbers_ok, paged_ok, land_ok, mr_ok};
 
+use crate::eight::Eight;
 use crate::{accept, together};
 use tables::limits::{
     FLAT, LOCAL_WRITE, MOST_ACCESS, MOST_ADDRESS, MOST_PAGED, MOST_PAGES, MR_COUNT, PAGE_SIZE,
@@ -92,12 +93,11 @@ fn mr_ok(state: &[u8], memory: u64, n: usize) -> bool
     }
 }
 
-// The eight region slots from 8 g on: together, or one by one.
-fn eight_ok(state: &[u8], memory: u64, g: usize) -> bool
-    requires { (8 * g + 8 ≤ mr_count) × (length state.now ≡ state_size) × (memory ≡ row_at memory_t state.now 0) }
-    ensures { result ≡ all_below 8 (λ i. mr_ok state.now (8 * g + i)) }
+// The eight region slots: together, or one by one.
+fn eight_ok(eight: Eight) -> bool
+    ensures { result ≡ all_below 8 (λ i. mr_ok eight.entry.state.now (8 * eight.entry.g + i)) }
 {
-    together::regions_pass(state, memory, g) || (0..8).all(|i| mr_ok(state, memory, 8 * g + i))
+    eight.regions_pass() || (0..8).all(|i| mr_ok(eight.state, eight.memory, 8 * eight.g + i))
 }
 
 // Free slots are passed eight or more at a time: their flags are zero words.
@@ -108,7 +108,7 @@ pub fn mrs_ok(state: &[u8], memory: u64) -> bool
     let mut g = 0;
     while g < MR_COUNT / 8 {
         if wire::get64(state, rows::MR_FLAGS + 8 * g) != 0 {
-            if !eight_ok(state, memory, g) {
+            if !eight_ok(Eight { state, memory, g }) {
                 return false;
             }
         }

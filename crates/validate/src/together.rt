@@ -11,6 +11,7 @@ ghost use Rattle.tables.specs.declared.Region.{Region};
 ghost use Rattle.validate.specs.Accept.{mr_ok, completion_ok, receive_ok};
 ghost use Rattle.validate.specs.Together.{Enough, Tells, Gives, Zeros, eight_ok, pages_ok, first_word, remote_ok, words_ok, word_ok, variant_ok, virt_ok, range_ok, row_ok};
 
+use crate::eight::Eight;
 use tables::limits::{
     FLAT, LOCAL_LENGTH, MOST_ACCESS, MOST_ADDRESS, MOST_MESSAGE, MOST_PAGED, MOST_PAGES,
     MOST_PLACES, MOST_RECEIVE_SGES, MOST_WAITING, MR_COUNT, PAGE_SIZE, PAGED, QP_COUNT,
@@ -23,27 +24,7 @@ const MANY_UNREAD: u8 = 8;
 
 const MANY_WAITING: u8 = 2;
 
-// ---- the rows of the eight region slots from 8 g on
-
-fn variants_pass(state: &[u8], g: usize) -> bool
-    requires { (8 * g + 8 ≤ mr_count) × (length state.now ≡ state_size) }
-    ensures { result ≡ eight_ok variant_ok state.now g }
-{
-    (0..8).all(|i| 1 <= wire::get8(state, rows::MRS + (8 * g + i) * rows::MR_SIZE + 1))
-}
-
-// A number of each row against the limit, by the bits that any of them has.
-fn numbers_pass<F: Fn(Region) -> u64>(state: &[u8], g: usize, limit: u64, number: F) -> bool
-    requires rows { (8 * g + 8 ≤ mr_count) × (length state.now ≡ state_size) }
-    requires callable { F.IsAlwaysCallable number }
-    ensures { (f : Region → ℕ) → Gives (F.post number) f → Enough result (eight_ok (λ r. nat_le (f r) limit) state.now g) }
-{
-    let mut any: u64 = 0;
-    for i in 0..8 {
-        any = any | number(rows::load_mr(state, 8 * g + i));
-    }
-    any <= limit
-}
+// ---- what the rows of eight region slots are tested by
 
 // The first four bytes of a row.
 fn first_word(r: Region) -> u32
@@ -76,33 +57,11 @@ fn words_ok(any: u32, all: u32, kind: u8, domains: usize) -> bool
             & (least == kind as u32)
 }
 
-// Access, domain and kind.
-fn words_pass(state: &[u8], g: usize, kind: u8, domains: usize) -> bool
-    requires { (8 * g + 8 ≤ mr_count) × (length state.now ≡ state_size) }
-    ensures { Enough result (eight_ok (word_ok kind domains) state.now g) }
-{
-    let mut any: u32 = 0;
-    let mut all: u32 = 0xffff_ffff;
-    for i in 0..8 {
-        let w = first_word(rows::load_mr(state, 8 * g + i));
-        any = any | w;
-        all = all & w;
-    }
-    words_ok(any, all, kind, domains)
-}
-
 // Whether the range is not empty and ends at the limit at most.
 fn range_ok(r: Region, limit: u64) -> bool
     ensures { result ≡ range_ok limit r }
 {
     r.start <= limit && std::num::wrapping_sub_u64(r.length, 1) < limit - r.start
-}
-
-fn ranges_pass(state: &[u8], g: usize, limit: u64) -> bool
-    requires { (8 * g + 8 ≤ mr_count) × (length state.now ≡ state_size) }
-    ensures { result ≡ eight_ok (range_ok limit) state.now g }
-{
-    (0..8).all(|i| range_ok(rows::load_mr(state, 8 * g + i), limit))
 }
 
 fn joined(a: u16, b: u16) -> u16
@@ -145,18 +104,6 @@ pub fn page_bits_pass(state: &[u8], from: usize, many: usize, memory: u64) -> bo
     pages_below(state, from, many, memory, joined)
 }
 
-// The page numbers of the eight region slots from 8 g on.
-fn pages_pass(state: &[u8], g: usize, memory: u64) -> bool
-    requires { (8 * g + 8 ≤ mr_count) × (length state.now ≡ state_size) }
-    ensures { Enough result (pages_ok memory state.now (128 * g) 128) }
-{
-    let from = 8 * MOST_PAGES * g;
-    let many = 8 * MOST_PAGES;
-    page_bits_pass(state, from, many, memory) || pages_below(state, from, many, memory, larger)
-}
-
-// ---- regions
-
 // Where regions of this kind end at most.
 fn limit_of(kind: u8, memory: u64) -> u64
     ensures { result ≡ (if nat_eq kind 0 then memory else most_pages * page_size) }
@@ -164,47 +111,89 @@ fn limit_of(kind: u8, memory: u64) -> u64
     if kind == FLAT { memory } else { MOST_PAGED }
 }
 
-// What eight rows of one kind show without the pages.
-fn rows_pass(state: &[u8], g: usize, kind: u8, limit: u64, domains: usize) -> bool
-    requires { (8 * g + 8 ≤ mr_count) × (length state.now ≡ state_size) }
-    ensures { Enough result (eight_ok (row_ok kind limit domains) state.now g) }
-{
-    numbers_pass(state, g, MOST_ADDRESS - limit, |r| r.virt)
-        && variants_pass(state, g)
-        && words_pass(state, g, kind, domains)
-        && ranges_pass(state, g, limit)
-}
+// ---- eight region slots
 
-// Eight live regions of one kind, whose domains are among the first, which are live.
-fn live_pass(state: &[u8], memory: u64, g: usize, domains: usize) -> bool
-    requires g_bound { (8 * g + 8 ≤ mr_count) × (length state.now ≡ state_size) × (memory ≡ row_at memory_t state.now 0) }
-    requires i_value { all_below 8 (λ i. nat_eq (row_at mr_flag_t state.now (8 * g + i)) 1) ≡ true }
-    requires state_value { all_below domains (card state.now).pd ≡ true }
-    ensures { Enough result (all_below 8 (λ i. mr_ok state.now (8 * g + i))) }
-{
-    let kind = wire::get8(state, rows::MRS + 8 * g * rows::MR_SIZE + 3);
-    rows_pass(state, g, kind, limit_of(kind, memory), domains)
-        && match kind {
-            FLAT => true,
-            PAGED => {
-                numbers_pass(state, g, PAGE_SIZE - 1, |r| r.start) && pages_pass(state, g, memory)
-            }
-            _ => false,
+impl Eight<'_> {
+    fn variants_pass(self) -> bool
+        ensures { result ≡ eight_ok variant_ok self.entry.state.now self.entry.g }
+    {
+        (0..8).all(|i| 1
+            <= wire::get8(self.state, rows::MRS + (8 * self.g + i) * rows::MR_SIZE + 1))
+    }
+
+    // A number of each row against the limit, by the bits that any of them has.
+    fn numbers_pass<F: Fn(Region) -> u64>(self, limit: u64, number: F) -> bool
+        requires { F.IsAlwaysCallable number }
+        ensures { (f : Region → ℕ) → Gives (F.post number) f → Enough result (eight_ok (λ r. nat_le (f r) limit) self.entry.state.now self.entry.g) }
+    {
+        let mut any: u64 = 0;
+        for i in 0..8 {
+            any = any | number(self.row(i));
         }
-}
+        any <= limit
+    }
 
-// Enough for the eight region slots from 8 g on.
-pub fn regions_pass(state: &[u8], memory: u64, g: usize) -> bool
-    requires { (8 * g + 8 ≤ mr_count) × (length state.now ≡ state_size) × (memory ≡ row_at memory_t state.now 0) }
-    ensures { Enough result (all_below 8 (λ i. mr_ok state.now (8 * g + i))) }
-{
-    8 <= wire::lowest_clear(state, rows::MR_FLAGS + 8 * g, 1)
-        && live_pass(
-            state,
-            memory,
-            g,
-            wire::lowest_clear(state, rows::PD_FLAGS, 1),
-        )
+    // Access, domain and kind.
+    fn words_pass(self, kind: u8, domains: usize) -> bool
+        ensures { Enough result (eight_ok (word_ok kind domains) self.entry.state.now self.entry.g) }
+    {
+        let mut any: u32 = 0;
+        let mut all: u32 = 0xffff_ffff;
+        for i in 0..8 {
+            let w = first_word(self.row(i));
+            any = any | w;
+            all = all & w;
+        }
+        words_ok(any, all, kind, domains)
+    }
+
+    fn ranges_pass(self, limit: u64) -> bool
+        ensures { result ≡ eight_ok (range_ok limit) self.entry.state.now self.entry.g }
+    {
+        (0..8).all(|i| range_ok(self.row(i), limit))
+    }
+
+    // What rows of one kind show without the pages.
+    fn rows_pass(self, kind: u8, limit: u64, domains: usize) -> bool
+        ensures { Enough result (eight_ok (row_ok kind limit domains) self.entry.state.now self.entry.g) }
+    {
+        self.numbers_pass(MOST_ADDRESS - limit, |r| r.virt)
+            && self.variants_pass()
+            && self.words_pass(kind, domains)
+            && self.ranges_pass(limit)
+    }
+
+    fn pages_pass(self) -> bool
+        ensures { Enough result (pages_ok self.entry.memory self.entry.state.now (128 * self.entry.g) 128) }
+    {
+        let from = 8 * MOST_PAGES * self.g;
+        let many = 8 * MOST_PAGES;
+        page_bits_pass(self.state, from, many, self.memory)
+            || pages_below(self.state, from, many, self.memory, larger)
+    }
+
+    // Eight live regions of one kind, whose domains are among the first, which are live.
+    fn live_pass(self, domains: usize) -> bool
+        requires i_value { all_below 8 (λ i. nat_eq (row_at mr_flag_t self.state.now (8 * self.g + i)) 1) ≡ true }
+        requires state_value { all_below domains (card self.state.now).pd ≡ true }
+        ensures { Enough result (all_below 8 (λ i. mr_ok self.entry.state.now (8 * self.entry.g + i))) }
+    {
+        let kind = wire::get8(self.state, rows::MRS + 8 * self.g * rows::MR_SIZE + 3);
+        self.rows_pass(kind, limit_of(kind, self.memory), domains)
+            && match kind {
+                FLAT => true,
+                PAGED => self.numbers_pass(PAGE_SIZE - 1, |r| r.start) && self.pages_pass(),
+                _ => false,
+            }
+    }
+
+    // Enough for the eight.
+    pub fn regions_pass(self) -> bool
+        ensures { Enough result (all_below 8 (λ i. mr_ok self.entry.state.now (8 * self.entry.g + i))) }
+    {
+        8 <= wire::lowest_clear(self.state, rows::MR_FLAGS + 8 * self.g, 1)
+            && self.live_pass(wire::lowest_clear(self.state, rows::PD_FLAGS, 1))
+    }
 }
 
 // ---- free slots

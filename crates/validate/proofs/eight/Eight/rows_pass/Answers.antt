@@ -5,12 +5,12 @@ use Rattle.tables.specs.Layout.{mr_t}
 use Rattle.tables.specs.declared.Region.{Region}
 use Rattle.validate.specs.Together.{variant_ok, virt_ok, word_ok, range_ok}
 use Rattle.validate.proofs.TogetherLaws.{all_four}
-use Rattle.validate.proofs.together.rows_pass.Goals as goal
+use Rattle.validate.proofs.eight.Eight.rows_pass.Goals as goal
 
 pub returns-then-words_pass : goal.returns-then-words_pass
 returns-then-words_pass c e =
     let a = c.args in
-    let r : ℕ → Region = λ i. row_at mr_t a.state.now (8 * a.g + i) in
+    let r : ℕ → Region = λ i. row_at mr_t a.self.state.now (8 * a.self.g + i) in
     let variants : all_below 8 (λ i. variant_ok (r i)) ≡ true = search rules in
     let numbers : c.numbers_pass.result ≡ true = search rules in
     let words : all_below 8 (λ i. word_ok a.kind a.domains (r i)) ≡ true = search rules in

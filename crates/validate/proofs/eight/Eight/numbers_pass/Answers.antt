@@ -3,7 +3,7 @@ use Rattle.wire.specs.Table.{row_at}
 use Rattle.tables.specs.Layout.{mr_t}
 use Rattle.validate.proofs.BitLaws.{or_more}
 use Rattle.validate.proofs.TogetherLaws.{all_most}
-use Rattle.validate.proofs.together.numbers_pass.Goals as goal
+use Rattle.validate.proofs.eight.Eight.numbers_pass.Goals as goal
 
 pub loop-i-init : goal.loop-i-init
 loop-i-init g c = (search rules, λ f t k h. absurd (omega arith))
@@ -13,7 +13,7 @@ loop-i-preserved g c =
     let a = c.args in
     let h = c.loop-i in (
       search rules,
-      λ f t. or_more (λ k. f (row_at mr_t a.state.now (8 * a.g + k))) h.i h.any c.number-any.result (rw (← c.load_mr.ensures) (t c.load_mr.result c.number-any.result c.number-any.ensures)) (h.invariant.1 f t),
+      λ f t. or_more (λ k. f (row_at mr_t a.self.state.now (8 * a.self.g + k))) h.i h.any c.number-any.result (rw (← c.row.ensures) (t c.row.result c.number-any.result c.number-any.ensures)) (h.invariant.1 f t),
     )
 
 pub returns : goal.returns
@@ -21,4 +21,4 @@ returns g c f t e =
     let a = c.args in
     let h = c.loop-i in
     let z : h.i ≡ 8 = omega arith in
-    all_most 8 (λ k. f (row_at mr_t a.state.now (8 * a.g + k))) h.any a.limit (leb-true h.any a.limit e) (rw z at (h.invariant.1 f t))
+    all_most 8 (λ k. f (row_at mr_t a.self.state.now (8 * a.self.g + k))) h.any a.limit (leb-true h.any a.limit e) (rw z at (h.invariant.1 f t))
