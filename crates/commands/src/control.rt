@@ -21,7 +21,8 @@ use rules::Answer;
 use rules::verb::Verb;
 use tables::limits::{CQ_COUNT, FLAT, MOST_ADDRESS, MOST_PLACES, MR_COUNT, PD_COUNT};
 use tables::refusal::Refusal;
-use tables::{Ack, QueueHead, Region, Registration, records, rows};
+use tables::rows::State;
+use tables::{Ack, Kind, QueueHead, Region, Registration, records, rows};
 use validate::{accept, find, regions};
 
 // "The ack buffer has at least 13 bytes".
@@ -50,8 +51,8 @@ fn places_fine(n: u32) -> bool
 }
 
 // The free number n is a completion queue with no completion.
-fn put_queue(state: &mut [u8], n: usize, places: u8)
-    requires { (n < cq_count) × (length state.old ≡ state_size) × (n ≡ free_cqn (card state.old)) }
+fn put_queue(state: &mut State, n: usize, places: u8)
+    requires { (n < cq_count) × (n ≡ free_cqn (card state.old)) }
     ensures { state.new ≡ command_bytes state.old (Command.create_cq places) }
 {
     let head = QueueHead {
@@ -60,11 +61,10 @@ fn put_queue(state: &mut [u8], n: usize, places: u8)
         count: 0,
     };
     rows::store_cq(state, n, head);
-    rows::store_cq_flag(state, n, 1);
+    rows::store_flag(state, Kind::Cq, n, 1);
 }
 
-fn create_cq(state: &mut [u8], read: Option<u32>) -> Result<Ack, Refusal>
-    requires { length state.old ≡ state_size }
+fn create_cq(state: &mut State, read: Option<u32>) -> Result<Ack, Refusal>
     ensures { Ran state.old (read_as Command.create_cq read) result state.new }
 {
     let places = read.ok_or(Refusal::WrongLength)?;
@@ -81,8 +81,7 @@ fn create_cq(state: &mut [u8], read: Option<u32>) -> Result<Ack, Refusal>
 
 // ---- domains
 
-fn create_pd(state: &mut [u8], command: &[u8]) -> Result<Ack, Refusal>
-    requires { length state.old ≡ state_size }
+fn create_pd(state: &mut State, command: &[u8]) -> Result<Ack, Refusal>
     ensures { Ran state.old (bare Command.create_pd command.now) result state.new }
 {
     no_data(command)?;
@@ -90,7 +89,7 @@ fn create_pd(state: &mut [u8], command: &[u8]) -> Result<Ack, Refusal>
     if PD_COUNT <= n {
         return Err(Refusal::Full);
     }
-    rows::store_pd_flag(state, n, 1);
+    rows::store_flag(state, Kind::Pd, n, 1);
     Ok(Ack::Number(n as u32))
 }
 
@@ -113,9 +112,8 @@ pub fn key_of(n: usize, variant: u8) -> u32
 }
 
 // The free slot n holds the region, of either kind, under the slot's next variant, which is returned.
-pub fn put_region(state: &mut [u8], n: usize, g: Registration, kind: u8) -> u8
-    requires { (n < mr_count) × (length state.old ≡ state_size) × (n ≡ free_mrn (card state.old))
-        × (access_ok g.access ≡ true) × ((card state.old).pd g.pd ≡ true) }
+pub fn put_region(state: &mut State, n: usize, g: Registration, kind: u8) -> u8
+    requires { (n < mr_count) × (n ≡ free_mrn (card state.old)) × (access_ok g.access ≡ true) × ((card state.old).pd g.pd ≡ true) }
     ensures { (result ≡ new_variant (card state.old)) × (state.new ≡ region_bytes state.old kind g) }
 {
     let variant = rows::load_mr(state, n).variant + 1;
@@ -129,19 +127,18 @@ pub fn put_region(state: &mut [u8], n: usize, g: Registration, kind: u8) -> u8
         virt: g.virt,
     };
     rows::store_mr(state, n, row);
-    rows::store_mr_flag(state, n, 1);
+    rows::store_flag(state, Kind::Mr, n, 1);
     variant
 }
 
-fn register(state: &mut [u8], read: Option<Registration>) -> Result<Ack, Refusal>
-    requires { length state.old ≡ state_size }
+fn register(state: &mut State, read: Option<Registration>) -> Result<Ack, Refusal>
     ensures { Ran state.old (read_as Command.register read) result state.new }
 {
     let g = read.ok_or(Refusal::WrongLength)?;
     if !regions::access_ok(g.access) {
         return Err(Refusal::BadField);
     }
-    if !accept::pd_live(state, g.pd) {
+    if !live::is_live(state, Kind::Pd, g.pd) {
         return Err(Refusal::NotLive);
     }
     if !in_range(rows::load_memory(state), g) {
@@ -165,8 +162,8 @@ pub fn read_verb(command: &[u8]) -> Result<Verb, Refusal>
 }
 
 // The command chooses the reader and the rules.
-fn run(state: &mut [u8], command: &[u8], verb: Verb) -> Result<Ack, Refusal>
-    requires { (length state.old ≡ state_size) × (verb_number verb ≡ le_at 1 command.now 1) }
+fn run(state: &mut State, command: &[u8], verb: Verb) -> Result<Ack, Refusal>
+    requires { verb_number verb ≡ le_at 1 command.now 1 }
     ensures { Chosen state.old command.now result state.new }
 {
     match verb {
@@ -184,8 +181,7 @@ fn run(state: &mut [u8], command: &[u8], verb: Verb) -> Result<Ack, Refusal>
     }
 }
 
-fn dispatch(state: &mut [u8], command: &[u8]) -> Result<Ack, Refusal>
-    requires { length state.old ≡ state_size }
+fn dispatch(state: &mut State, command: &[u8]) -> Result<Ack, Refusal>
     ensures { Classed state.old command.now result state.new }
 {
     run(state, command, read_verb(command)?)

@@ -20,6 +20,7 @@ use tables::limits::{
     LOCAL_LENGTH, LOCAL_PROTECTION, LOCAL_WRITE, MOST_MESSAGE, READ, REMOTE_ACCESS, REMOTE_INVALID,
     REMOTE_READ, REMOTE_WRITE, SUCCESS,
 };
+use tables::rows::State;
 use tables::{QueuePair, ReceiveRecord, SendRecord, Sge, queue};
 
 // Whose use of memory a queue pair's is.
@@ -33,8 +34,7 @@ fn party_of(p: QueuePair) -> Party
 }
 
 // Step 3: whether each byte of the sender's own entries is permitted.
-fn own_permitted(state: &[u8], p: Party, r: &WorkRequest) -> bool
-    requires { length state.now ≡ state_size }
+fn own_permitted(state: &State, p: Party, r: &WorkRequest) -> bool
     ensures { result ≡ allows_all (card state.now) p (own_mask r.now.head.opcode) (own_by r.now.head r.now.sges.now) }
 {
     r.is_inline() || permit::sges_permitted(state, p, own_mask(r.head.opcode), r.sges)
@@ -112,7 +112,7 @@ fn far_fault(opcode: u8) -> u8
 }
 
 // Step 6: moves the message, inline bytes or those of entries, to the peer's side or, for a read, back.
-fn move_bytes(state: &[u8], memory: &mut [u8], r: &WorkRequest, far: &[Sge])
+fn move_bytes(state: &State, memory: &mut [u8], r: &WorkRequest, far: &[Sge])
     requires ready { Ready state.now memory.old }
     requires carries { Carries (card state.now) r.now.head r.now.inline.now (take r.now.head.count r.now.sges.now) far.now }
     ensures { memory.new ≡ carried (card state.now) r.now.head r.now.inline.now (take r.now.head.count r.now.sges.now) far.now memory.old }
@@ -127,8 +127,8 @@ fn move_bytes(state: &[u8], memory: &mut [u8], r: &WorkRequest, far: &[Sge])
 }
 
 // The receive that a request takes; nothing where it takes none.
-pub fn taken_receive(state: &[u8], d: usize, opcode: u8) -> ReceiveRecord
-    requires { (d < qp_count) × (length state.now ≡ state_size) × ((row_at waiting_t state.now d).first < most_waiting) }
+pub fn taken_receive(state: &State, d: usize, opcode: u8) -> ReceiveRecord
+    requires { (d < qp_count) × ((row_at waiting_t state.now d).first < most_waiting) }
     ensures { result ≡ taken_row state.now d opcode }
 {
     if meet::takes_receive(opcode) {
@@ -139,7 +139,7 @@ pub fn taken_receive(state: &[u8], d: usize, opcode: u8) -> ReceiveRecord
 
 // Steps 4 to 6 of a message of n bytes, of which step 3 found no fault.
 fn deliver_far(
-    state: &[u8],
+    state: &State,
     memory: &mut [u8],
     e: Ends,
     r: &WorkRequest,
@@ -165,7 +165,7 @@ fn deliver_far(
 }
 
 // Step 6 of a request of one entry and a remote range.
-fn move_single(state: &[u8], memory: &mut [u8], s: SendRecord, a: Sge)
+fn move_single(state: &State, memory: &mut [u8], s: SendRecord, a: Sge)
     requires ready { Ready state.now memory.old × (is_single s ≡ true) }
     requires carries { Carries (card state.now) s [] (a ∷ []) (far_list s no_record a.length) }
     ensures { memory.new ≡ carried (card state.now) s [] (a ∷ []) (far_list s no_record a.length) memory.old }
@@ -179,7 +179,7 @@ fn move_single(state: &[u8], memory: &mut [u8], s: SendRecord, a: Sge)
 }
 
 // Steps 3 to 6 of such a request; no array is made of its one entry.
-pub fn deliver_single(state: &[u8], memory: &mut [u8], e: Ends, s: SendRecord, a: Sge) -> u8
+pub fn deliver_single(state: &State, memory: &mut [u8], e: Ends, s: SendRecord, a: Sge) -> u8
     requires { Ready state.now memory.old × (is_single s ≡ true) }
     ensures { Delivery state.now memory.old e s (a ∷ []) [] no_record a.length result memory.new }
 {
@@ -213,7 +213,7 @@ pub fn deliver_single(state: &[u8], memory: &mut [u8], e: Ends, s: SendRecord, a
 
 // Steps 3 to 6 of a message of total bytes: the status, and on success the message moved.
 pub fn deliver(
-    state: &[u8],
+    state: &State,
     memory: &mut [u8],
     e: Ends,
     r: &WorkRequest,

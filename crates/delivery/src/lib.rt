@@ -15,6 +15,7 @@ use meet::Ends;
 use request::WorkRequest;
 use rules::{Answer, Cause};
 use tables::limits::{ERROR, FLUSHED};
+use tables::rows::State;
 use tables::{QueuePair, SendRecord, Sge, rows};
 
 pub mod deliver;
@@ -23,7 +24,7 @@ pub mod request;
 pub mod settle;
 
 // Steps 3 to 6 of a write or a read of one entry, without arrays.
-fn carry_single(state: &mut [u8], memory: &mut [u8], e: Ends, s: SendRecord, a: Sge) -> u8
+fn carry_single(state: &mut State, memory: &mut [u8], e: Ends, s: SendRecord, a: Sge) -> u8
     requires ready { Ready state.old memory.old }
     requires s_value { (is_single s ≡ true) × Met state.old e s.opcode }
     ensures { CarriedOne state.old e.q s a memory.old result state.new memory.new }
@@ -34,7 +35,7 @@ fn carry_single(state: &mut [u8], memory: &mut [u8], e: Ends, s: SendRecord, a: 
 }
 
 // Steps 3 to 6 of any request: the status, and all that the request leaves.
-fn carry_out(state: &mut [u8], memory: &mut [u8], e: Ends, r: &WorkRequest) -> u8
+fn carry_out(state: &mut State, memory: &mut [u8], e: Ends, r: &WorkRequest) -> u8
     requires ready { Ready state.old memory.old }
     requires met { Met state.old e r.now.head.opcode }
     ensures { Carried state.old e.q (asked r.now) memory.old result state.new memory.new }
@@ -47,7 +48,13 @@ fn carry_out(state: &mut [u8], memory: &mut [u8], e: Ends, r: &WorkRequest) -> u
 }
 
 // A request of queue pair q, whose row is own and which is not in error: what holds it, or the request carried out.
-pub fn run(state: &mut [u8], memory: &mut [u8], q: usize, own: QueuePair, r: &WorkRequest) -> Answer
+pub fn run(
+    state: &mut State,
+    memory: &mut [u8],
+    q: usize,
+    own: QueuePair,
+    r: &WorkRequest,
+) -> Answer
     requires { Ready state.old memory.old × Sender state.old q own × (own.state ≡ 6 → ⊥) }
     ensures { Ran hold_checks state.old q (asked r.now) memory.old result state.new memory.new }
 {
@@ -62,7 +69,7 @@ pub fn run(state: &mut [u8], memory: &mut [u8], q: usize, own: QueuePair, r: &Wo
 }
 
 // A request of queue pair q, whose row is own and which is in error: what holds it, or the request flushed.
-pub fn flush(state: &mut [u8], q: usize, own: QueuePair, s: SendRecord) -> Answer
+pub fn flush(state: &mut State, q: usize, own: QueuePair, s: SendRecord) -> Answer
     requires { Sender state.old q own × (own.state ≡ 6) }
     ensures { Flushed state.old q s result state.new }
 {
@@ -75,7 +82,7 @@ pub fn flush(state: &mut [u8], q: usize, own: QueuePair, s: SendRecord) -> Answe
 
 // A request of queue pair q, which is live, that nothing holds: carried out, or flushed where it is in error. A second way to carry_out beside run, whose
 // machine code a second caller of run would make slower.
-pub fn finish(state: &mut [u8], memory: &mut [u8], q: usize, r: &WorkRequest) -> u8
+pub fn finish(state: &mut State, memory: &mut [u8], q: usize, r: &WorkRequest) -> u8
     requires { Ready state.old memory.old × (((card state.old).qp q).live ≡ true) × (is_free state.old q r.now.head.opcode ≡ true) }
     ensures { Carried state.old q (asked r.now) memory.old result state.new memory.new }
 {

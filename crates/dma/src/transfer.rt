@@ -11,11 +11,12 @@ ghost use Rattle.rules.specs.Lists.{stored};
 ghost use Rattle.dma.specs.Moves.{Ready, mapped_all, places, place_of, Lies, Splits, read_bytes, moved, Message};
 
 use tables::limits::{FLAT, MOST_PAGES, PAGE_SIZE};
+use tables::rows::State;
 use tables::{Sge, rows};
 
 // The place in memory where an entry begins; 0 for an empty one.
-fn place_of(state: &[u8], s: Sge) -> usize
-    requires { (accepts state.now ≡ true) × (length state.now ≡ state_size) × (mapped_all (card state.now) (sge_bytes (s ∷ [])) ≡ true) }
+fn place_of(state: &State, s: Sge) -> usize
+    requires { (accepts state.now ≡ true) × (mapped_all (card state.now) (sge_bytes (s ∷ [])) ≡ true) }
     ensures { result ≡ place_of (card state.now) s }
 {
     if s.length == 0 {
@@ -32,7 +33,7 @@ fn place_of(state: &[u8], s: Sge) -> usize
 }
 
 // How many bytes of an entry, from its first on, stand one after the other in memory: all, or those up to the page's end.
-fn run_of(state: &[u8], memory: &[u8], s: Sge) -> u32
+fn run_of(state: &State, memory: &[u8], s: Sge) -> u32
     requires ready { Ready state.now memory.now }
     requires s_value { (mapped_all (card state.now) (sge_bytes (s ∷ [])) ≡ true) × (s.length ≤ most_message) }
     ensures { Splits (card state.now) (length memory.now) s result }
@@ -52,7 +53,7 @@ fn run_of(state: &[u8], memory: &[u8], s: Sge) -> u32
 }
 
 // Copies an entry's bytes to staging, from index at on.
-fn copy_out(state: &[u8], memory: &[u8], s: Sge, staging: &mut [u8], at: usize)
+fn copy_out(state: &State, memory: &[u8], s: Sge, staging: &mut [u8], at: usize)
     requires ready { Ready state.now memory.now }
     requires s_value { (mapped_all (card state.now) (sge_bytes (s ∷ [])) ≡ true) × (s.length ≤ most_message) × (at + s.length ≤ length staging.old) }
     ensures { take (at + s.length) staging.new ≡ take at staging.old ++ read_bytes memory.now (places (card state.now) (s ∷ [])) }
@@ -73,7 +74,7 @@ fn copy_out(state: &[u8], memory: &[u8], s: Sge, staging: &mut [u8], at: usize)
 }
 
 // Copies staging, from index at on, to an entry's bytes.
-fn copy_in(state: &[u8], memory: &mut [u8], s: Sge, staging: &[u8], at: usize)
+fn copy_in(state: &State, memory: &mut [u8], s: Sge, staging: &[u8], at: usize)
     requires ready { Ready state.now memory.old }
     requires s_value { (mapped_all (card state.now) (sge_bytes (s ∷ [])) ≡ true) × (s.length ≤ most_message) × (at + s.length ≤ length staging.now) }
     ensures { memory.new ≡ stored memory.old (places (card state.now) (s ∷ [])) (drop at staging.now) }
@@ -94,7 +95,7 @@ fn copy_in(state: &[u8], memory: &mut [u8], s: Sge, staging: &[u8], at: usize)
 }
 
 // Gathers the entries, one after the other, into staging.
-fn gather(state: &[u8], memory: &[u8], sges: &[Sge], staging: &mut [u8])
+fn gather(state: &State, memory: &[u8], sges: &[Sge], staging: &mut [u8])
     requires ready { Ready state.now memory.now }
     requires sources { mapped_all (card state.now) (sge_bytes sges.now) ≡ true }
     requires room { (sge_total sges.now ≤ length staging.old) × (sge_total sges.now ≤ most_message) }
@@ -108,7 +109,7 @@ fn gather(state: &[u8], memory: &[u8], sges: &[Sge], staging: &mut [u8])
 }
 
 // Scatters staging to the entries, one after the other.
-fn scatter(state: &[u8], memory: &mut [u8], sges: &[Sge], staging: &[u8])
+fn scatter(state: &State, memory: &mut [u8], sges: &[Sge], staging: &[u8])
     requires ready { Ready state.now memory.old }
     requires targets { mapped_all (card state.now) (sge_bytes sges.now) ≡ true }
     requires room { (sge_total sges.now ≤ length staging.now) × (sge_total sges.now ≤ most_message) }
@@ -132,7 +133,7 @@ fn deliver_one(memory: &mut [u8], from: usize, to: usize, n: usize)
 }
 
 // Moves the bytes of the entries from to the entries to.
-fn transfer_many(state: &[u8], memory: &mut [u8], from: &[Sge], to: &[Sge])
+fn transfer_many(state: &State, memory: &mut [u8], from: &[Sge], to: &[Sge])
     requires ready { Ready state.now memory.old }
     requires message { Message (card state.now) from.now to.now }
     ensures { memory.new ≡ moved memory.old (places (card state.now) from.now) (places (card state.now) to.now) }
@@ -143,7 +144,7 @@ fn transfer_many(state: &[u8], memory: &mut [u8], from: &[Sge], to: &[Sge])
 }
 
 // Moves one entry's bytes to one entry: one move where no page ends in between.
-pub fn transfer_single(state: &[u8], memory: &mut [u8], from: Sge, to: Sge)
+pub fn transfer_single(state: &State, memory: &mut [u8], from: Sge, to: Sge)
     requires ready { Ready state.now memory.old }
     requires message { Message (card state.now) (from ∷ []) (to ∷ []) }
     ensures { memory.new ≡ moved memory.old (places (card state.now) (from ∷ [])) (places (card state.now) (to ∷ [])) }
@@ -160,7 +161,7 @@ pub fn transfer_single(state: &[u8], memory: &mut [u8], from: Sge, to: Sge)
 // Moves the bytes of the entry a to the entry b, or where back holds those of b to a: one move where no page ends in between. Apart from
 // transfer_single and called from one place, so that the compiler has the regions' rows at hand: one function for both, or two calls of that in
 // place of back, makes a write of 64 bytes 959 or 955 instructions (bench/instructions), this 924.
-pub fn transfer_between(state: &[u8], memory: &mut [u8], a: Sge, b: Sge, back: bool)
+pub fn transfer_between(state: &State, memory: &mut [u8], a: Sge, b: Sge, back: bool)
     requires ready { Ready state.now memory.old }
     requires message { Message (card state.now) (a ∷ []) (b ∷ []) }
     ensures { memory.new ≡ cond back (moved memory.old (places (card state.now) (b ∷ [])) (places (card state.now) (a ∷ []))) (moved memory.old (places (card state.now) (a ∷ [])) (places (card state.now) (b ∷ []))) }
@@ -182,7 +183,7 @@ pub fn transfer_between(state: &[u8], memory: &mut [u8], a: Sge, b: Sge, back: b
 }
 
 // Moves the bytes of the entries from to the entries to, of one entry to one entry by themselves.
-pub fn transfer(state: &[u8], memory: &mut [u8], from: &[Sge], to: &[Sge])
+pub fn transfer(state: &State, memory: &mut [u8], from: &[Sge], to: &[Sge])
     requires ready { Ready state.now memory.old }
     requires message { Message (card state.now) from.now to.now }
     ensures { memory.new ≡ moved memory.old (places (card state.now) from.now) (places (card state.now) to.now) }
@@ -205,7 +206,7 @@ fn deliver_inline(memory: &mut [u8], bytes: &[u8], to: usize)
 }
 
 // Writes inline bytes to the entries to.
-fn inline_many(state: &[u8], memory: &mut [u8], bytes: &[u8], to: &[Sge])
+fn inline_many(state: &State, memory: &mut [u8], bytes: &[u8], to: &[Sge])
     requires ready { Ready state.now memory.old }
     requires targets { mapped_all (card state.now) (sge_bytes to.now) ≡ true }
     requires total { (sge_total to.now ≡ length bytes.now) × (length bytes.now ≤ most_inline) }
@@ -218,7 +219,7 @@ fn inline_many(state: &[u8], memory: &mut [u8], bytes: &[u8], to: &[Sge])
 }
 
 // Writes inline bytes, which stand in the caller's record, to the entries to; those of one entry are one move where no page ends in between.
-pub fn scatter_inline(state: &[u8], memory: &mut [u8], bytes: &[u8], to: &[Sge])
+pub fn scatter_inline(state: &State, memory: &mut [u8], bytes: &[u8], to: &[Sge])
     requires ready { Ready state.now memory.old }
     requires targets { mapped_all (card state.now) (sge_bytes to.now) ≡ true }
     requires total { (sge_total to.now ≡ length bytes.now) × (length bytes.now ≤ most_inline) }

@@ -17,6 +17,7 @@ use delivery::request::WorkRequest;
 use rules::Answer;
 use rules::numbers::{BAD_STATE, IN_USE, NOT_LIVE, OTHER_MEMORY, WRONG_STATE};
 use tables::limits::{ERROR, QP_COUNT, RTS};
+use tables::rows::State;
 use tables::{QueuePair, SendRecord, records, rows};
 use validate::accept;
 
@@ -41,7 +42,7 @@ fn direct_error(state: &mut State, q: usize, own: QueuePair, s: SendRecord) -> A
 }
 
 // "QP 2; QP not in RTS 3", 10, and then the request run on the queue pair.
-fn direct(state: &mut [u8], memory: &mut [u8], qpn: u32, r: &WorkRequest) -> Answer
+fn direct(state: &mut State, memory: &mut [u8], qpn: u32, r: &WorkRequest) -> Answer
     requires { Ready state.old memory.old }
     ensures { Ran delivery_checks state.old qpn (asked r.now) memory.old result state.new memory.new }
 {

@@ -97,13 +97,11 @@ lowest_is n p s h e least = search_past n s p (omega arith) least ∙ lowest_her
 
 -- the eight slots from 8 g on
 module _ (l : List ℕ) (g : ℕ) (inside : 8 * g + 8 ≤ mr_count) where
-  -- the search among them begins at the first clear flag
-  pub eight_start : (i : ℕ) → i ≡ lowest 8 (clear_at l (mr_flag_base + 8 * g)) → i ≤ 8
-      → lowest 8 (λ k. vacant ((card l).mr (8 * g + k))) ≡ lowest_from (λ k. vacant ((card l).mr (8 * g + k))) (8 - i) i
-  eight_start i e h =
-      search_past 8 i (λ k. vacant ((card l).mr (8 * g + k))) h
-      (λ k b. set_taken l (8 * g + k) (omega arith)
-      (rw (add_assoc mr_flag_base (8 * g) k) at (lowest_least 8 (clear_at l (mr_flag_base + 8 * g)) k (rw e at b))))
+  -- those before the first clear flag are taken
+  pub eight_taken : (i : ℕ) → i ≡ lowest 8 (clear_at l (mr_flag_base + 8 * g)) → i ≤ 8 → (k : ℕ) → k < i → vacant ((card l).mr (8 * g + k)) ≡ false
+  eight_taken i e h k b =
+      set_taken l (8 * g + k) (omega arith)
+      (rw (add_assoc mr_flag_base (8 * g) k) at (lowest_least 8 (clear_at l (mr_flag_base + 8 * g)) k (rw e at b)))
 
   -- none before them is vacant
   module _ (before : all_below (8 * g) (λ k. not (vacant ((card l).mr k))) ≡ true) where

@@ -1,5 +1,5 @@
 -- Look-ups over the card: the lowest free number of each table, and whether an object is in use. Executable. Assumes nothing.
-use Rattle.std.specs.Prelude.{ℕ, Bool, not, ◌&&◌, ◌||◌, ◌==◌, nat_le}
+use Rattle.std.specs.Prelude.{◌≡◌, ℕ, ◌<◌, Option, MatchOption, Bool, not, ◌&&◌, ◌||◌, ◌==◌, nat_le}
 use Rattle.wire.specs.Scan.{lowest, any_below}
 use Rattle.tables.specs.Card.{Card, Mr, cq_live}
 use Rattle.tables.specs.Limits.{pd_count, cq_count, mr_count, qp_count}
@@ -22,6 +22,10 @@ retired s = not s.live && nat_le last_variant s.variant
 -- "Registration takes the lowest free slot that isn't retired"
 abbrev pub vacant : Mr → Bool
 vacant s = not s.live && not (retired s)
+
+-- the lowest number below n that passes, where one does
+abbrev pub IsLowest : Option ℕ → (n : ℕ) → (ℕ → Bool) → Type 0
+IsLowest r n p = MatchOption r (lowest n p ≡ n) (λ i. (i < n) × (i ≡ lowest n p))
 
 abbrev pub free_mrn : Card → ℕ
 free_mrn c = lowest mr_count (λ i. vacant (c.mr i))

@@ -16,6 +16,10 @@ Enough x b = x ≡ true → b ≡ true
 abbrev pub Tells : (ℕ → Bool → Type 0) → (n : ℕ) → (ℕ → Bool) → Type 0
 Tells answers n p = (k : ℕ) (b : Bool) → k < n → answers k b → b ≡ p k
 
+-- what may be given for a row is what f says of it
+abbrev pub Gives : (Region → ℕ → Type 0) → (Region → ℕ) → Type 0
+Gives given f = (r : Region) (x : ℕ) → given r x → x ≡ f r
+
 -- the bytes from `at` on are zeros
 abbrev pub Zeros : List ℕ → (at many : ℕ) → Type 0
 Zeros l at many = (i : ℕ) → i < many → le_at 1 l (at + i) ≡ 0

@@ -1,10 +1,11 @@
 // Look-ups: the lowest free number of each table, and whether an object is in use. Definitions: specs/Search.antt.
-ghost use Rattle.std.specs.Prelude.{◌≡◌, ◌+◌, ◌*◌, ◌<◌, ◌≤◌, length};
+ghost use Rattle.std.specs.Prelude.{◌≡◌, ℕ, Bool, ◌+◌, ◌*◌, ◌<◌, ◌≤◌, length};
 ghost use Rattle.wire.specs.Scan.{lowest, any_below};
 ghost use Rattle.tables.specs.State.{card};
 ghost use Rattle.tables.specs.Layout.{state_size};
 ghost use Rattle.tables.specs.Limits.{mr_count, qp_count};
-ghost use Rattle.validate.specs.Search.{vacant, free_pdn, free_cqn, free_mrn, free_qpn, mr_names, qp_names, pd_in_use, cq_in_use};
+ghost use Rattle.validate.specs.Together.{Tells};
+ghost use Rattle.validate.specs.Search.{IsLowest, vacant, free_pdn, free_cqn, free_mrn, free_qpn, mr_names, qp_names, pd_in_use, cq_in_use};
 
 use tables::limits::{CQ_COUNT, MR_COUNT, PD_COUNT, QP_COUNT};
 use tables::rows::State;
@@ -32,35 +33,31 @@ fn is_vacant(state: &State, n: usize) -> bool
 {
     let live = rows::load_flag(state, Kind::Mr, n);
     let r = rows::load_mr(state, n);
-    !(live == 1) & (r.variant < LAST_VARIANT)
+    live != 1 && r.variant < LAST_VARIANT
 }
 
-// The first of the eight slots from 8 g on that a registration may take, counted from there; 8 where there is none.
-fn vacant_of_eight(state: &State, g: usize) -> usize
+// The first of the eight slots from 8 g on that a registration may take, counted from there.
+fn vacant_of_eight(state: &State, g: usize) -> Option<usize>
     requires { 8 * g + 8 ≤ mr_count }
-    ensures { result ≡ lowest 8 (λ i. vacant ((card state.now).mr (8 * g + i))) }
+    ensures { IsLowest result 8 (λ i. vacant ((card state.now).mr (8 * g + i))) }
 {
-    let mut i = wire::lowest_clear(state, rows::MR_FLAGS + 8 * g, 1);
-    while i < 8 {
+    let start = wire::lowest_clear(state, rows::MR_FLAGS + 8 * g, 1);
+    for i in start..8 {
         if is_vacant(state, 8 * g + i) {
-            return i;
+            return Some(i);
         }
-        i += 1;
     }
-    8
+    None
 }
 
 // Eight slots that are all live are passed at once.
 pub fn free_mrn(state: &State) -> usize
     ensures { result ≡ free_mrn (card state.now) }
 {
-    let mut g = 0;
-    while g < MR_COUNT / 8 {
-        let i = vacant_of_eight(state, g);
-        if i < 8 {
+    for g in 0..MR_COUNT / 8 {
+        if let Some(i) = vacant_of_eight(state, g) {
             return 8 * g + i;
         }
-        g += 1;
     }
     MR_COUNT
 }
@@ -71,54 +68,49 @@ pub fn free_qpn(state: &State) -> usize
     wire::lowest_clear(state, rows::QP_FLAGS, QP_COUNT / 8)
 }
 
+// Whether any number below count passes. All are tested, several at a time in the machine code.
+fn any_number<F: Fn(usize) -> bool>(count: usize, test: F) -> bool
+    requires { (n : ℕ) → n < count → F.pre test n }
+    ensures { (p : ℕ → Bool) → Tells (F.post test) count p → result ≡ any_below count p }
+{
+    let mut found = false;
+    for n in 0..count {
+        found = test(n) | found;
+    }
+    found
+}
+
 // Whether a live region names the domain.
 fn named_by_mr(state: &State, pd: u32) -> bool
     ensures { result ≡ any_below mr_count (mr_names (card state.now) pd) }
 {
-    let mut used = false;
-    let mut n = 0;
-    while n < MR_COUNT {
-        let live = rows::load_flag(state, Kind::Mr, n);
+    any_number(MR_COUNT, |n| {
         let r = rows::load_mr(state, n);
-        used = (live == 1) & (r.pd as u32 == pd) | used;
-        n += 1;
-    }
-    used
+        (rows::load_flag(state, Kind::Mr, n) == 1) & (r.pd as u32 == pd)
+    })
 }
 
 // Whether a live queue pair names the domain.
 fn named_by_qp(state: &State, pd: u32) -> bool
     ensures { result ≡ any_below qp_count (qp_names (card state.now) pd) }
 {
-    let mut used = false;
-    let mut n = 0;
-    while n < QP_COUNT {
-        let live = rows::load_flag(state, Kind::Qp, n);
+    any_number(QP_COUNT, |n| {
         let p = rows::load_qp(state, n);
-        used = (live == 1) & (p.pd as u32 == pd) | used;
-        n += 1;
-    }
-    used
+        (rows::load_flag(state, Kind::Qp, n) == 1) & (p.pd as u32 == pd)
+    })
 }
 
 pub fn pd_in_use(state: &State, pd: u32) -> bool
     ensures { result ≡ pd_in_use (card state.now) pd }
 {
-    let by_mr = named_by_mr(state, pd);
-    let by_qp = named_by_qp(state, pd);
-    by_mr | by_qp
+    named_by_mr(state, pd) | named_by_qp(state, pd)
 }
 
 pub fn cq_in_use(state: &State, cq: u32) -> bool
     ensures { result ≡ cq_in_use (card state.now) cq }
 {
-    let mut used = false;
-    let mut n = 0;
-    while n < QP_COUNT {
-        let live = rows::load_flag(state, Kind::Qp, n);
+    any_number(QP_COUNT, |n| {
         let p = rows::load_qp(state, n);
-        used = (live == 1) & ((p.scq as u32 == cq) | (p.rcq as u32 == cq)) | used;
-        n += 1;
-    }
-    used
+        (rows::load_flag(state, Kind::Qp, n) == 1) & ((p.scq as u32 == cq) | (p.rcq as u32 == cq))
+    })
 }

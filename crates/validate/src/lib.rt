@@ -2,6 +2,7 @@
 #![tactic(auto)]
 
 pub mod accept;
+mod eight;
 pub mod find;
 pub mod live;
 pub mod regions;

@@ -8,6 +8,7 @@ ghost use Rattle.tables.specs.Layout.{state_size, memory_t, mr_t};
 ghost use Rattle.tables.specs.Limits.{mr_count, most_pages, page_size};
 ghost use Rattle.validate.specs.Accept.{access_ok, fields_ok, numbers_ok, paged_ok, land_ok, mr_ok};
 
+use crate::eight::Eight;
 use crate::live::is_live;
 use crate::together;
 use tables::limits::{
@@ -31,16 +32,10 @@ pub fn access_ok(access: u32) -> bool
 fn fields_ok(r: Region) -> bool
     ensures { result ≡ fields_ok r }
 {
-    if !access_ok(r.access as u32) {
-        return false;
-    }
-    if r.variant < 1 {
-        return false;
-    }
-    if r.length < 1 {
-        return false;
-    }
-    wire::sum_within(r.virt, r.length, MOST_ADDRESS)
+    access_ok(r.access as u32)
+        && 1 <= r.variant
+        && 1 <= r.length
+        && wire::sum_within(r.virt, r.length, MOST_ADDRESS)
 }
 
 // The first count page numbers of region slot n.
@@ -48,18 +43,9 @@ fn numbers_ok(state: &State, memory: u64, n: usize, count: usize) -> bool
     requires { (n < mr_count) × (count ≤ most_pages) }
     ensures { result ≡ numbers_ok memory count (pages_at state.now n) }
 {
-    if together::page_bits_pass(state, MOST_PAGES * n, MOST_PAGES, memory) {
-        return true;
-    }
     let limit = memory / PAGE_SIZE;
-    let mut k = 0;
-    while k < count {
-        if limit <= rows::load_page(state, MOST_PAGES * n + k) as u64 {
-            return false;
-        }
-        k += 1;
-    }
-    true
+    together::page_bits_pass(state, MOST_PAGES * n, MOST_PAGES, memory)
+        || (0..count).all(|k| (rows::load_page(state, MOST_PAGES * n + k) as u64) < limit)
 }
 
 // How many pages the bytes need from an offset into the first one on.
@@ -71,70 +57,49 @@ pub fn pages_needed(start: u64, length: u64) -> u64
 }
 
 // Where a region over pages lies; r is the row of slot n.
+#[tactic(auto, unfolding(tables::specs::State::region_at))]
 fn paged_ok(state: &State, memory: u64, n: usize, r: Region) -> bool
     requires { (n < mr_count) × (r ≡ row_at mr_t state.now n) }
     ensures { result ≡ paged_ok memory (region_at state.now n) }
 {
-    if PAGE_SIZE - 1 < r.start {
-        return false;
-    }
-    if !wire::sum_within(r.start, r.length, MOST_PAGED) {
-        return false;
-    }
-    numbers_ok(state, memory, n, pages_needed(r.start, r.length) as usize)
+    r.start <= PAGE_SIZE - 1
+        && wire::sum_within(r.start, r.length, MOST_PAGED)
+        && numbers_ok(state, memory, n, pages_needed(r.start, r.length) as usize)
 }
 
 // Where a region lies in the memory; r is the row of slot n.
+#[tactic(auto, unfolding(tables::specs::State::region_at))]
 fn land_ok(state: &State, memory: u64, n: usize, r: Region) -> bool
     requires { (n < mr_count) × (r ≡ row_at mr_t state.now n) }
     ensures { result ≡ land_ok memory (region_at state.now n) }
 {
-    if r.kind == FLAT {
-        return wire::sum_within(r.start, r.length, memory);
+    match r.kind {
+        FLAT => wire::sum_within(r.start, r.length, memory),
+        PAGED => paged_ok(state, memory, n, r),
+        _ => false,
     }
-    if r.kind != PAGED {
-        return false;
-    }
-    paged_ok(state, memory, n, r)
 }
 
+#[tactic(auto, unfolding(crate::specs::Accept::mr_ok, tables::specs::State::region_at))]
 fn mr_ok(state: &State, memory: u64, n: usize) -> bool
     requires { (n < mr_count) × (memory ≡ row_at memory_t state.now 0) }
     ensures { result ≡ mr_ok state.now n }
 {
-    let live = rows::load_flag(state, Kind::Mr, n);
-    if live == 0 {
-        return true;
+    match rows::load_flag(state, Kind::Mr, n) {
+        0 => true,
+        1 => {
+            let r = rows::load_mr(state, n);
+            is_live(state, Kind::Pd, r.pd as u32) && fields_ok(r) && land_ok(state, memory, n, r)
+        }
+        _ => false,
     }
-    if live != 1 {
-        return false;
-    }
-    let r = rows::load_mr(state, n);
-    if !is_live(state, Kind::Pd, r.pd as u32) {
-        return false;
-    }
-    if !fields_ok(r) {
-        return false;
-    }
-    land_ok(state, memory, n, r)
 }
 
-// The eight region slots from 8 g on: together, or one by one.
-fn eight_ok(state: &State, memory: u64, g: usize) -> bool
-    requires { (8 * g + 8 ≤ mr_count) × (memory ≡ row_at memory_t state.now 0) }
-    ensures { result ≡ all_below 8 (λ i. mr_ok state.now (8 * g + i)) }
+// The eight region slots: together, or one by one.
+fn eight_ok(eight: Eight) -> bool
+    ensures { result ≡ all_below 8 (λ i. mr_ok eight.entry.state.now (8 * eight.entry.g + i)) }
 {
-    if together::regions_pass(state, memory, g) {
-        return true;
-    }
-    let mut i = 0;
-    while i < 8 {
-        if !mr_ok(state, memory, 8 * g + i) {
-            return false;
-        }
-        i += 1;
-    }
-    true
+    eight.regions_pass() || (0..8).all(|i| mr_ok(eight.state, eight.memory, 8 * eight.g + i))
 }
 
 // Free slots are passed eight or more at a time: their flags are zero words.
@@ -145,7 +110,7 @@ pub fn mrs_ok(state: &State, memory: u64) -> bool
     let mut g = 0;
     while g < MR_COUNT / 8 {
         if wire::get::<u64>(state, rows::MR_FLAGS + 8 * g) != 0 {
-            if !eight_ok(state, memory, g) {
+            if !eight_ok(Eight { state, memory, g }) {
                 return false;
             }
         }

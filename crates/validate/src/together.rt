@@ -7,9 +7,11 @@ ghost use Rattle.wire.specs.Table.{row_at};
 ghost use Rattle.tables.specs.Layout.{state_size, page_count, memory_t, mr_flag_t, entry_t, receive_t};
 ghost use Rattle.tables.specs.Limits.{cq_count, mr_count, qp_count, most_pages, page_size, most_places, most_waiting};
 ghost use Rattle.tables.specs.State.{card};
+ghost use Rattle.tables.specs.declared.Region.{Region};
 ghost use Rattle.validate.specs.Accept.{mr_ok, completion_ok, receive_ok};
-ghost use Rattle.validate.specs.Together.{Enough, Tells, Zeros, eight_ok, pages_ok, first_word, remote_ok, words_ok, word_ok, variant_ok, virt_ok, range_ok, row_ok};
+ghost use Rattle.validate.specs.Together.{Enough, Tells, Gives, Zeros, eight_ok, pages_ok, first_word, remote_ok, words_ok, word_ok, variant_ok, virt_ok, range_ok, row_ok};
 
+use crate::eight::Eight;
 use tables::limits::{
     FLAT, LOCAL_LENGTH, MOST_ACCESS, MOST_ADDRESS, MOST_MESSAGE, MOST_PAGED, MOST_PAGES,
     MOST_PLACES, MOST_RECEIVE_SGES, MOST_WAITING, MR_COUNT, PAGE_SIZE, PAGED, QP_COUNT,
@@ -23,35 +25,7 @@ const MANY_UNREAD: u8 = 8;
 
 const MANY_WAITING: u8 = 2;
 
-// ---- the rows of the eight region slots from 8 g on
-
-fn variants_pass(state: &State, g: usize) -> bool
-    requires { 8 * g + 8 ≤ mr_count }
-    ensures { result ≡ eight_ok variant_ok state.now g }
-{
-    let mut i = 0;
-    while i < 8 {
-        if wire::get::<u8>(state, rows::MRS + (8 * g + i) * rows::MR_SIZE + 1) < 1 {
-            return false;
-        }
-        i += 1;
-    }
-    true
-}
-
-fn virts_pass(state: &State, g: usize, limit: u64) -> bool
-    requires { 8 * g + 8 ≤ mr_count }
-    ensures { Enough result (eight_ok (virt_ok limit) state.now g) }
-{
-    let mut any: u64 = 0;
-    let mut i = 0;
-    while i < 8 {
-        let r = rows::load_mr(state, 8 * g + i);
-        any = any | r.virt;
-        i += 1;
-    }
-    any <= MOST_ADDRESS - limit
-}
+// ---- what the rows of eight region slots are tested by
 
 // The first four bytes of a row.
 fn first_word(r: Region) -> u32
@@ -67,79 +41,28 @@ fn first_word(r: Region) -> u32
 fn remote_ok(any: u32, all: u32) -> bool
     ensures { result ≡ remote_ok any all }
 {
-    if all % 2 == 1 {
-        return true;
-    }
-    any / 2 % 2 == 0
+    all % 2 == 1 || any / 2 % 2 == 0
 }
 
 fn words_ok(any: u32, all: u32, kind: u8, domains: usize) -> bool
     ensures { result ≡ words_ok kind domains any all }
 {
-    if !remote_ok(any, all) {
-        return false;
-    }
     let access = any % 256;
     let pd = (any / 65536 % 256) as usize;
     let most = any / 16777216;
     let least = all / 16777216;
-    (access <= MOST_ACCESS as u32) & (pd < domains) & (most == kind as u32) & (least == kind as u32)
-}
-
-// Access, domain and kind.
-fn words_pass(state: &State, g: usize, kind: u8, domains: usize) -> bool
-    requires { 8 * g + 8 ≤ mr_count }
-    ensures { Enough result (eight_ok (word_ok kind domains) state.now g) }
-{
-    let mut any: u32 = 0;
-    let mut all: u32 = 0xffff_ffff;
-    let mut i = 0;
-    while i < 8 {
-        let w = first_word(rows::load_mr(state, 8 * g + i));
-        any = any | w;
-        all = all & w;
-        i += 1;
-    }
-    words_ok(any, all, kind, domains)
+    remote_ok(any, all)
+        && (access <= MOST_ACCESS as u32)
+            & (pd < domains)
+            & (most == kind as u32)
+            & (least == kind as u32)
 }
 
 // Whether the range is not empty and ends at the limit at most.
 fn range_ok(r: Region, limit: u64) -> bool
     ensures { result ≡ range_ok limit r }
 {
-    if limit < r.start {
-        return false;
-    }
-    std::num::wrapping_sub_u64(r.length, 1) < limit - r.start
-}
-
-fn ranges_pass(state: &State, g: usize, limit: u64) -> bool
-    requires { 8 * g + 8 ≤ mr_count }
-    ensures { result ≡ eight_ok (range_ok limit) state.now g }
-{
-    let mut i = 0;
-    while i < 8 {
-        if !range_ok(rows::load_mr(state, 8 * g + i), limit) {
-            return false;
-        }
-        i += 1;
-    }
-    true
-}
-
-// The offsets into the first page, of regions over pages.
-fn starts_pass(state: &State, g: usize) -> bool
-    requires { 8 * g + 8 ≤ mr_count }
-    ensures { Enough result (eight_ok (λ r. nat_le r.start (page_size - 1)) state.now g) }
-{
-    let mut any: u64 = 0;
-    let mut i = 0;
-    while i < 8 {
-        let r = rows::load_mr(state, 8 * g + i);
-        any = any | r.start;
-        i += 1;
-    }
-    any <= PAGE_SIZE - 1
+    r.start <= limit && std::num::wrapping_sub_u64(r.length, 1) < limit - r.start
 }
 
 fn joined(a: u16, b: u16) -> u16
@@ -154,109 +77,124 @@ fn larger(a: u16, b: u16) -> u16
     if a < b { b } else { a }
 }
 
-// Page numbers, also those that a region does not need, by the bits that they have: the quicker of two ways, and all that it takes where
-// the memory's pages are a power of two.
+// Page numbers, also those that a region does not need, by one number that is at least each: join is joined or larger.
+fn pages_below<F: Fn(u16, u16) -> u16>(
+    state: &State,
+    from: usize,
+    many: usize,
+    memory: u64,
+    join: F,
+) -> bool
+    requires rows { from + many ≤ page_count }
+    requires callable { F.IsAlwaysCallable join }
+    requires joins { (a b r : ℕ) → F.post join a b r → (a ≤ r) × (b ≤ r) }
+    ensures { Enough result (pages_ok memory state.now from many) }
+{
+    let mut most: u16 = 0;
+    for k in 0..many {
+        most = join(most, rows::load_page(state, from + k));
+    }
+    (most as u64) < memory / PAGE_SIZE
+}
+
+// By the bits that any of them has: the quicker of two ways, and all that it takes where the memory's pages are a power of two.
 pub fn page_bits_pass(state: &State, from: usize, many: usize, memory: u64) -> bool
     requires { from + many ≤ page_count }
     ensures { Enough result (pages_ok memory state.now from many) }
 {
-    let mut any: u16 = 0;
-    let mut k = 0;
-    while k < many {
-        any = joined(any, rows::load_page(state, from + k));
-        k += 1;
-    }
-    (any as u64) < memory / PAGE_SIZE
+    pages_below(state, from, many, memory, joined)
 }
-
-// The same by the largest.
-fn page_most_pass(state: &State, from: usize, many: usize, memory: u64) -> bool
-    requires { from + many ≤ page_count }
-    ensures { Enough result (pages_ok memory state.now from many) }
-{
-    let mut top: u16 = 0;
-    let mut k = 0;
-    while k < many {
-        top = larger(top, rows::load_page(state, from + k));
-        k += 1;
-    }
-    (top as u64) < memory / PAGE_SIZE
-}
-
-// The page numbers of the eight region slots from 8 g on.
-fn pages_pass(state: &State, g: usize, memory: u64) -> bool
-    requires { 8 * g + 8 ≤ mr_count }
-    ensures { Enough result (pages_ok memory state.now (128 * g) 128) }
-{
-    let from = 8 * MOST_PAGES * g;
-    if page_bits_pass(state, from, 8 * MOST_PAGES, memory) {
-        return true;
-    }
-    page_most_pass(state, from, 8 * MOST_PAGES, memory)
-}
-
-// ---- regions
 
 // Where regions of this kind end at most.
 fn limit_of(kind: u8, memory: u64) -> u64
     ensures { result ≡ (if nat_eq kind 0 then memory else most_pages * page_size) }
 {
-    if kind == FLAT {
-        return memory;
-    }
-    MOST_PAGED
+    if kind == FLAT { memory } else { MOST_PAGED }
 }
 
-// What eight rows of one kind show without the pages.
-fn rows_pass(state: &State, g: usize, kind: u8, limit: u64, domains: usize) -> bool
-    requires { 8 * g + 8 ≤ mr_count }
-    ensures { Enough result (eight_ok (row_ok kind limit domains) state.now g) }
-{
-    if !variants_pass(state, g) {
-        return false;
-    }
-    if !virts_pass(state, g, limit) {
-        return false;
-    }
-    if !words_pass(state, g, kind, domains) {
-        return false;
-    }
-    ranges_pass(state, g, limit)
-}
+// ---- eight region slots
 
-// Eight live regions of one kind, whose domains are among the first, which are live.
-fn live_pass(state: &State, memory: u64, g: usize, domains: usize) -> bool
-    requires g_bound { (8 * g + 8 ≤ mr_count) × (memory ≡ row_at memory_t state.now 0) }
-    requires i_value { all_below 8 (λ i. nat_eq (row_at mr_flag_t state.now (8 * g + i)) 1) ≡ true }
-    requires state_value { all_below domains (card state.now).pd ≡ true }
-    ensures { Enough result (all_below 8 (λ i. mr_ok state.now (8 * g + i))) }
-{
-    let kind = wire::get::<u8>(state, rows::MRS + 8 * g * rows::MR_SIZE + 3);
-    if !rows_pass(state, g, kind, limit_of(kind, memory), domains) {
-        return false;
+impl Eight<'_> {
+    fn variants_pass(self) -> bool
+        ensures { result ≡ eight_ok variant_ok self.entry.state.now self.entry.g }
+    {
+        (0..8).all(|i| 1
+            <= wire::get::<u8>(self.state, rows::MRS + (8 * self.g + i) * rows::MR_SIZE + 1))
     }
-    if kind == FLAT {
-        return true;
-    }
-    if kind != PAGED {
-        return false;
-    }
-    if !starts_pass(state, g) {
-        return false;
-    }
-    pages_pass(state, g, memory)
-}
 
-// Enough for the eight region slots from 8 g on.
-pub fn regions_pass(state: &State, memory: u64, g: usize) -> bool
-    requires { (8 * g + 8 ≤ mr_count) × (memory ≡ row_at memory_t state.now 0) }
-    ensures { Enough result (all_below 8 (λ i. mr_ok state.now (8 * g + i))) }
-{
-    if wire::lowest_clear(state, rows::MR_FLAGS + 8 * g, 1) < 8 {
-        return false;
+    // A number of each row against the limit, by the bits that any of them has.
+    fn numbers_pass<F: Fn(Region) -> u64>(self, limit: u64, number: F) -> bool
+        requires { F.IsAlwaysCallable number }
+        ensures { (f : Region → ℕ) → Gives (F.post number) f → Enough result (eight_ok (λ r. nat_le (f r) limit) self.entry.state.now self.entry.g) }
+    {
+        let mut any: u64 = 0;
+        for i in 0..8 {
+            any = any | number(self.row(i));
+        }
+        any <= limit
     }
-    let domains = wire::lowest_clear(state, rows::PD_FLAGS, 1);
-    live_pass(state, memory, g, domains)
+
+    // Access, domain and kind.
+    fn words_pass(self, kind: u8, domains: usize) -> bool
+        ensures { Enough result (eight_ok (word_ok kind domains) self.entry.state.now self.entry.g) }
+    {
+        let mut any: u32 = 0;
+        let mut all: u32 = 0xffff_ffff;
+        for i in 0..8 {
+            let w = first_word(self.row(i));
+            any = any | w;
+            all = all & w;
+        }
+        words_ok(any, all, kind, domains)
+    }
+
+    fn ranges_pass(self, limit: u64) -> bool
+        ensures { result ≡ eight_ok (range_ok limit) self.entry.state.now self.entry.g }
+    {
+        (0..8).all(|i| range_ok(self.row(i), limit))
+    }
+
+    // What rows of one kind show without the pages.
+    fn rows_pass(self, kind: u8, limit: u64, domains: usize) -> bool
+        ensures { Enough result (eight_ok (row_ok kind limit domains) self.entry.state.now self.entry.g) }
+    {
+        self.numbers_pass(MOST_ADDRESS - limit, |r| r.virt)
+            && self.variants_pass()
+            && self.words_pass(kind, domains)
+            && self.ranges_pass(limit)
+    }
+
+    fn pages_pass(self) -> bool
+        ensures { Enough result (pages_ok self.entry.memory self.entry.state.now (128 * self.entry.g) 128) }
+    {
+        let from = 8 * MOST_PAGES * self.g;
+        let many = 8 * MOST_PAGES;
+        page_bits_pass(self.state, from, many, self.memory)
+            || pages_below(self.state, from, many, self.memory, larger)
+    }
+
+    // Eight live regions of one kind, whose domains are among the first, which are live.
+    fn live_pass(self, domains: usize) -> bool
+        requires i_value { all_below 8 (λ i. nat_eq (row_at mr_flag_t self.state.now (8 * self.g + i)) 1) ≡ true }
+        requires state_value { all_below domains (card self.state.now).pd ≡ true }
+        ensures { Enough result (all_below 8 (λ i. mr_ok self.entry.state.now (8 * self.entry.g + i))) }
+    {
+        let kind = wire::get::<u8>(self.state, rows::MRS + 8 * self.g * rows::MR_SIZE + 3);
+        self.rows_pass(kind, limit_of(kind, self.memory), domains)
+            && match kind {
+                FLAT => true,
+                PAGED => self.numbers_pass(PAGE_SIZE - 1, |r| r.start) && self.pages_pass(),
+                _ => false,
+            }
+    }
+
+    // Enough for the eight.
+    pub fn regions_pass(self) -> bool
+        ensures { Enough result (all_below 8 (λ i. mr_ok self.entry.state.now (8 * self.entry.g + i))) }
+    {
+        8 <= wire::lowest_clear(self.state, rows::MR_FLAGS + 8 * self.g, 1)
+            && self.live_pass(wire::lowest_clear(self.state, rows::PD_FLAGS, 1))
+    }
 }
 
 // ---- free slots
@@ -316,8 +254,7 @@ pub fn completions_pass(state: &State, n: usize, count: u8) -> bool
     let mut statuses: u8 = 0;
     let mut opcodes: u8 = 0;
     let mut owners: u32 = 0;
-    let mut k = 0;
-    while k < MOST_PLACES {
+    for k in 0..MOST_PLACES {
         let e = rows::load_entry(state, MOST_PLACES * n + k);
         if MOST_MESSAGE < e.length {
             return false;
@@ -325,7 +262,6 @@ pub fn completions_pass(state: &State, n: usize, count: u8) -> bool
         statuses = statuses | e.status;
         opcodes = opcodes | e.opcode;
         owners = owners | e.owner;
-        k += 1;
     }
     (statuses <= LOCAL_LENGTH) & (opcodes <= RECEIVED_WRITE) & (owners < QP_COUNT as u32)
 }
@@ -335,16 +271,8 @@ pub fn receives_pass(state: &State, n: usize, count: u8) -> bool
     requires { n < qp_count }
     ensures { Enough result (all_below most_waiting (λ k. receive_ok (row_at receive_t state.now (most_waiting * n + k)))) }
 {
-    if count < MANY_WAITING {
-        return false;
-    }
-    let mut k = 0;
-    while k < MOST_WAITING {
-        let r = rows::load_receive(state, MOST_WAITING * n + k);
-        if MOST_RECEIVE_SGES < r.count {
-            return false;
-        }
-        k += 1;
-    }
-    true
+    MANY_WAITING <= count
+        && (0..MOST_WAITING).all(|k| {
+            rows::load_receive(state, MOST_WAITING * n + k).count <= MOST_RECEIVE_SGES
+        })
 }

@@ -20,7 +20,7 @@ returns c =
     let right = room in
     let s = right in
     rw (bare_right s.args.state.now s.args.command.now Command.create_pd (sym right.no_data.ensures ∙ right.in_ok-no_data.was))
-    (create_pd_done _ room.free_pdn-n.result room.free_pdn-n.ensures room.if-n-ge-PD_COUNT.false _ c.store_pd_flag.ensures)
+    (create_pd_done _ room.free_pdn-n.result room.free_pdn-n.ensures room.if-n-ge-PD_COUNT.false _ c.store_flag.ensures)
 
 pub returns-in_err-no_data : goal.returns-in_err-no_data
 returns-in_err-no_data c =

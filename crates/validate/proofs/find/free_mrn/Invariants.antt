@@ -7,6 +7,3 @@ use Rattle.validate.proofs.find.free_mrn.Given as goal
 
 abbrev pub invariant-loop-g : goal.invariant-loop-g
 invariant-loop-g l = (l.g ≤ mr_count / 8) × (all_below (8 * l.g) (λ k. not (vacant ((card l.state).mr k))) ≡ true)
-
-abbrev pub decreases-loop-g : goal.decreases-loop-g
-decreases-loop-g l = mr_count / 8 - l.g

@@ -2,7 +2,8 @@ use Rattle.std.proofs.Common.{rules}
 use Rattle.validate.proofs.SearchLaws.{slot_vacant}
 use Rattle.validate.proofs.find.is_vacant.Goals as goal
 
-pub returns : goal.returns
-returns c =
-    let a = c.args in
-    let law = slot_vacant a.state.now a.n (search rules) in (cc)
+pub returns-then-live-ne1 : goal.returns-then-live-ne1
+returns-then-live-ne1 c = let law = slot_vacant c.args.state.now c.args.n (search rules) in search rules
+
+pub returns-else-live-ne1 : goal.returns-else-live-ne1
+returns-else-live-ne1 c = let law = slot_vacant c.args.state.now c.args.n (search rules) in search rules

@@ -1,16 +1,10 @@
-use Rattle.std.proofs.Common.{◌≡◌, ◌<◌, sym, arith, rules}
-use Rattle.wire.proofs.ScanLaws.{any_none, any_more}
-use Rattle.tables.specs.Limits.{mr_count}
+use Rattle.std.proofs.Common.{rules}
+use Rattle.tables.specs.State.{card}
+use Rattle.validate.specs.Search.{mr_names}
 use Rattle.validate.proofs.SearchLaws.{mr_names_lem}
 use Rattle.validate.proofs.find.named_by_mr.Goals as goal
 
-pub loop-n-init : goal.loop-n-init
-loop-n-init c = (search rules, sym (any_none _))
-
-pub loop-n-preserved : goal.loop-n-preserved
-loop-n-preserved c =
-    let h : c.loop-n.n < mr_count = search rules in
-    (search rules, rw (any_more, mr_names_lem _ c.loop-n.n _ h) (cc))
-
 pub returns : goal.returns
-returns c = let e : c.loop-n.n ≡ mr_count = omega arith in (cc)
+returns c =
+    let a = c.args in
+    c.any_number.ensures (mr_names (card a.state.now) a.pd) (λ n b h q. let law = mr_names_lem a.state.now n a.pd h in search rules)

@@ -11,6 +11,3 @@ invariant-loop-k l =
     × ((j : ℕ) → j < l.k → (row_at entry_t l.state (most_places * l.n + j)).opcode ≤ l.opcodes)
     × ((j : ℕ) → j < l.k → (row_at entry_t l.state (most_places * l.n + j)).owner ≤ l.owners)
     × ((j : ℕ) → j < l.k → (row_at entry_t l.state (most_places * l.n + j)).length ≤ most_message)
-
-abbrev pub decreases-loop-k : goal.decreases-loop-k
-decreases-loop-k l = most_places - l.k
