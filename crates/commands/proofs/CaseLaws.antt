@@ -27,9 +27,10 @@ use Rattle.rules.specs.Permit.{key_of}
 use Rattle.rules.proofs.Variants.{new_small}
 use Rattle.rules.specs.Control.{command_checks, command_ack, device_of, port_of, new_variant}
 use Rattle.rules.specs.Bytes.{command_bytes, region_bytes}
-use Rattle.commands.specs.Control.{no_data_read, Ran, bare, in_range, destroy_of, live_of, used_of}
-use Rattle.commands.specs.declared.Kind.{Kind}
-use Rattle.commands.specs.declared.Kind.TheVariants.{Pd, Cq, Mr, Qp}
+use Rattle.commands.specs.Control.{no_data_read, Ran, bare, in_range, destroy_of, used_of}
+use Rattle.tables.specs.Card.{live_of}
+use Rattle.tables.specs.declared.Kind.{Kind}
+use Rattle.tables.specs.declared.Kind.TheVariants.{Pd, Cq, Mr, Qp}
 use Rattle.std.specs.Prelude.{Result, Ok, Err}
 use Rattle.tables.specs.Refusal.{refusal_of}
 use Rattle.tables.specs.declared.refusal.Refusal.{Refusal}

@@ -24,7 +24,10 @@ use Rattle.validate.proofs.KeptLaws.{domain_accepted, queue_accepted}
 use Rattle.validate.specs.Search.{free_pdn, free_cqn, pd_in_use}
 use Rattle.tables.specs.Card.{with_pd}
 use Rattle.tables.specs.State.{QueueRows, card, is_live, cq_of, queue_at}
-use Rattle.tables.specs.Layout.{pd_flag_t, cq_flag_t, cq_t, flag_codec, queue_codec}
+use Rattle.commands.specs.Control.{destroy_of}
+use Rattle.tables.specs.declared.Kind.{Kind}
+use Rattle.tables.specs.declared.Kind.TheVariants.{Pd, Cq, Mr, Qp}
+use Rattle.tables.specs.Layout.{flags_of, pd_flag_t, cq_flag_t, cq_t, flag_codec, queue_codec}
 use Rattle.tables.specs.Limits.{pd_count, cq_count, most_places}
 use Rattle.tables.specs.Commands.{Command}
 use Rattle.tables.proofs.KindLaws.{QueuesOnly, only_then, domain_card, queue_card}
@@ -38,6 +41,14 @@ use Rattle.rules.specs.Bytes.{command_bytes, empty_queue}
 pub record Kept (l : List ℕ) (q : Command) : Type 0 where
   pub meant : card (command_bytes l q) ≡ command_effect (card l) q
   pub still : Accepted (command_bytes l q)
+
+-- what a destruction writes: the object's flag
+pub flag_cleared : (k : Kind) (l : List ℕ) (n : ℕ) → put_row (flags_of k) l n 0 ≡ command_bytes l (destroy_of k n)
+unfolding command_bytes
+flag_cleared Pd l n = refl
+flag_cleared Cq l n = refl
+flag_cleared Mr l n = refl
+flag_cleared Qp l n = refl
 
 module _ (l : List ℕ) (ok : Accepted l) where
   -- ---- queries

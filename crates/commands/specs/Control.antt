@@ -24,8 +24,8 @@ use Rattle.rules.specs.Control.{command_checks, command_ack, state_bit, rights_b
 use Rattle.rules.specs.Verb.{verb_of}
 use Rattle.rules.specs.declared.verb.Verb.{Verb}
 use Rattle.rules.specs.Lists.{is_some, maybe}
-use Rattle.commands.specs.declared.Kind.{Kind}
-use Rattle.commands.specs.declared.Kind.TheVariants.{Pd, Cq, Mr, Qp}
+use Rattle.tables.specs.declared.Kind.{Kind}
+use Rattle.tables.specs.declared.Kind.TheVariants.{Pd, Cq, Mr, Qp}
 
 -- ---- outcomes
 
@@ -106,12 +106,6 @@ destroy_of Pd n = Command.destroy_pd n
 destroy_of Cq n = Command.destroy_cq n
 destroy_of Mr n = Command.deregister n
 destroy_of Qp n = Command.destroy_qp n
-
-abbrev pub live_of : Card → Kind → ℕ → Bool
-live_of c Pd n = c.pd n
-live_of c Cq n = cq_live c n
-live_of c Mr n = (c.mr n).live
-live_of c Qp n = (c.qp n).live
 
 -- "In use (10): a PD with a live MR or QP; a CQ named by a live QP"
 abbrev pub used_of : Card → Kind → ℕ → Bool

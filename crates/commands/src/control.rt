@@ -15,7 +15,7 @@ ghost use Rattle.rules.specs.Permit.{key_of};
 ghost use Rattle.rules.specs.Verb.{verb_number};
 ghost use Rattle.commands.specs.Control.{no_data_read, verb_read, Ran, Chosen, Classed, read_as, bare, in_range, outcome_ack};
 
-use crate::{Kind, control_qp, destroy, query};
+use crate::{control_qp, destroy, query};
 use acks::queries;
 use rules::Answer;
 use rules::verb::Verb;
@@ -23,7 +23,7 @@ use tables::limits::{CQ_COUNT, FLAT, MOST_ADDRESS, MOST_PLACES, MR_COUNT, PD_COU
 use tables::refusal::Refusal;
 use tables::rows::State;
 use tables::{Ack, Kind, QueueHead, Region, Registration, records, rows};
-use validate::{accept, find, regions};
+use validate::{find, live, regions};
 
 // "The ack buffer has at least 13 bytes".
 pub const ACK_LEAST: usize = 13;
@@ -212,9 +212,9 @@ pub fn ack_of(outcome: Result<Ack, Refusal>) -> Ack
 pub fn control(state: &mut [u8], command: &[u8], ack: &mut [u8]) -> Answer
     ensures { Owes state.old (Call.control command.now ack.old) result state.new [] ack.new }
 {
-    if !accept::accepted(state) {
+    let Some(state) = live::acceptable(state) else {
         return Answer::from(Refusal::BadState);
-    }
+    };
     if ack.len() < ack_need(command) {
         return Answer::from(Refusal::ShortBuffer);
     }

@@ -10,12 +10,11 @@ ghost use Rattle.rules.specs.Bytes.{command_bytes, new_pair, moved_pair, moved_h
 ghost use Rattle.rules.specs.Control.{is_move, rights_after};
 ghost use Rattle.commands.specs.Control.{Ran, read_as, create_fine, create_live, modify_bad};
 
-use crate::destroy::qp_live;
 use tables::limits::{ERROR, MOST_ACCESS, QP_COUNT, RESET, RTR, RTS};
 use tables::refusal::Refusal;
 use tables::rows::State;
 use tables::{Ack, CreateQp, Kind, ModifyQp, QueuePair, WaitingHead, WorkQueue, rows};
-use validate::{accept, find};
+use validate::{accept, find, live};
 
 // The attribute mask of modify QP: the state, the access flags, and the destination.
 const STATE_BIT: u32 = 1;
@@ -185,7 +184,7 @@ pub fn modify_qp(state: &mut State, read: Option<ModifyQp>) -> Result<Ack, Refus
     if modify_bad(r) {
         return Err(Refusal::BadField);
     }
-    if !qp_live(state, r.qpn) {
+    if !live::is_live(state, Kind::Qp, r.qpn) {
         return Err(Refusal::NotLive);
     }
     let p = rows::load_qp(state, r.qpn as usize);

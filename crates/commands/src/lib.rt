@@ -6,12 +6,3 @@ mod control_qp;
 mod destroy;
 pub mod pages;
 mod query;
-
-// The kinds of objects.
-#[derive(Clone, Copy)]
-enum Kind {
-    Pd,
-    Cq,
-    Mr,
-    Qp,
-}

@@ -17,7 +17,7 @@ use tables::limits::{MOST_ADDRESS, MOST_PAGED, MOST_PAGES, MR_COUNT, PAGE_SIZE, 
 use tables::refusal::Refusal;
 use tables::rows::State;
 use tables::{Ack, Kind, Registration, records, rows};
-use validate::{accept, find, regions};
+use validate::{find, live, regions};
 
 // ---- the list
 
@@ -112,9 +112,9 @@ fn choose(state: &mut State, command: &[u8], pages: &[u64]) -> Result<Ack, Refus
 pub fn register_pages(state: &mut [u8], command: &[u8], pages: &[u64], ack: &mut [u8]) -> Answer
     ensures { Owes state.old (Call.register_pages command.now pages.now ack.old) result state.new [] ack.new }
 {
-    if !accept::accepted(state) {
+    let Some(state) = live::acceptable(state) else {
         return Answer::from(Refusal::BadState);
-    }
+    };
     if ack.len() < ACK_LEAST {
         return Answer::from(Refusal::ShortBuffer);
     }

@@ -18,8 +18,8 @@ use rules::Answer;
 use rules::numbers::{BAD_STATE, IN_USE, NOT_LIVE, OTHER_MEMORY, WRONG_STATE};
 use tables::limits::{ERROR, QP_COUNT, RTS};
 use tables::rows::State;
-use tables::{QueuePair, SendRecord, records, rows};
-use validate::accept;
+use tables::{QueuePair, SendRecord, WorkQueue, records, rows};
+use validate::live;
 
 // 02, M-108: "A direct send answers 10 .. while its QP's queue isn't empty"
 fn is_queued(state: &State, q: usize) -> bool
@@ -70,9 +70,9 @@ fn direct(state: &mut State, memory: &mut [u8], qpn: u32, r: &WorkRequest) -> An
 pub fn post_send(state: &mut [u8], memory: &mut [u8], qpn: u32, sent: &[u8]) -> Answer
     ensures { Owes state.old (Call.send qpn sent.now memory.old) result state.new memory.new [] }
 {
-    if !accept::accepted(state) {
+    let Some(state) = live::acceptable(state) else {
         return Answer::Refused(BAD_STATE);
-    }
+    };
     if memory.len() as u64 != rows::load_memory(state) {
         return Answer::Refused(OTHER_MEMORY);
     }

@@ -16,8 +16,8 @@ use rules::Answer;
 use rules::numbers::{BAD_STATE, NOTHING_THERE, OTHER_MEMORY};
 use tables::limits::QP_COUNT;
 use tables::rows::State;
-use tables::{WorkQueue, records, rows, sends};
-use validate::accept;
+use tables::{WorkQueue, queue, records, rows, sends};
+use validate::live;
 
 // A turn's answer, and the queue pair that it served; 0 where it served none.
 #[derive(Clone, Copy)]
@@ -95,9 +95,9 @@ pub fn turn(state: &mut [u8], memory: &mut [u8]) -> Turned
     ensures { OwesAll state.old (Call.turn memory.old)
         (turn_leaves result.answer result.qpn state.new memory.new) × (result.qpn < qp_count) }
 {
-    if !accept::accepted(state) {
+    let Some(state) = live::acceptable(state) else {
         return refused(BAD_STATE);
-    }
+    };
     if memory.len() as u64 != rows::load_memory(state) {
         return refused(OTHER_MEMORY);
     }

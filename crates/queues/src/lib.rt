@@ -15,7 +15,7 @@ ghost use Rattle.queues.specs.Receive.{Posts};
 use rules::{Answer, Cause};
 use tables::limits::{ERROR, FLUSHED, MOST_MEMORY, RESET};
 use tables::refusal::Refusal;
-use tables::rows::{STATE_SIZE, State, State};
+use tables::rows::{STATE_SIZE, State};
 use tables::{Kind, ReceiveRecord, WorkQueue, queue, records, reset as fresh, rows};
 use validate::live;
 

@@ -1,5 +1,5 @@
 -- A live flag is one byte of its kind's column, a head two bytes of its queue's. Assumes nothing.
-use Rattle.std.specs.Prelude.{◌≡◌, refl, false, ℕ, ◌+◌, ◌*◌, ◌≤◌, ◌<◌, List, [], ◌∷◌, slice_index_or, ◌-◌}
+use Rattle.std.specs.Prelude.{◌≡◌, refl, true, false, ℕ, ◌+◌, ◌*◌, ◌≤◌, ◌<◌, List, [], ◌∷◌, slice_index_or, ◌-◌}
 use native.Mathlib.Omega.{arith}
 use native.Mathlib.Nat.{add-zero, mul-one}
 use Rattle.wire.specs.Le.{le_at, put_le}
@@ -12,7 +12,7 @@ use Rattle.tables.specs.Layout.{state_size, flag_codec, waiting_codec, count_of,
 use mathlib.Core.Path.{ap}
 use Rattle.tables.specs.Card.{live_of, Mr as Card·Mr, Qp as Card·Qp}
 use Rattle.tables.specs.State.{card, is_live}
-use Rattle.tables.proofs.ObjectLaws.{pd_is, pd_out, cq_live_lem, cq_out, mr_live, mr_out, qp_live, qp_out}
+use Rattle.tables.proofs.ObjectLaws.{pd_is, pd_out, pd_below, cq_live_lem, cq_out, cq_below, mr_live, mr_out, mr_below, qp_live, qp_out, qp_below}
 use Rattle.tables.specs.declared.Kind.{Kind}
 use Rattle.tables.specs.declared.Kind.TheVariants.{Pd, Cq, Mr, Qp}
 use Rattle.tables.specs.declared.WaitingHead.{WaitingHead}
@@ -52,6 +52,12 @@ object_out Pd l n h = pd_out l n h
 object_out Cq l n h = cq_out l n h
 object_out Mr l n h = ap (λ (m : Card·Mr). m.live) (mr_out l n h)
 object_out Qp l n h = ap (λ (q : Card·Qp). q.live) (qp_out l n h)
+
+pub object_below : (k : Kind) (l : List ℕ) (n : ℕ) → live_of (card l) k n ≡ true → n < count_of k
+object_below Pd l n e = pd_below l n e
+object_below Cq l n e = cq_below l n e
+object_below Mr l n e = mr_below l n e
+object_below Qp l n e = qp_below l n e
 
 pub head_within : (k : WorkQueue) (n : ℕ) → n < qp_count → (heads_of k).base + n * 2 + 2 ≤ state_size
 unfolding waiting_t send_head_t

@@ -1,18 +1,18 @@
 // Eight region slots of a state, which together.rt tests together.
-ghost use Rattle.std.specs.Prelude.{◌≡◌, ◌+◌, ◌*◌, ◌<◌, ◌≤◌, length};
+ghost use Rattle.std.specs.Prelude.{◌≡◌, ◌+◌, ◌*◌, ◌<◌, ◌≤◌};
 ghost use Rattle.wire.specs.Table.{row_at};
-ghost use Rattle.tables.specs.Layout.{state_size, memory_t, mr_t};
+ghost use Rattle.tables.specs.Layout.{memory_t, mr_t};
 ghost use Rattle.tables.specs.Limits.{mr_count};
 
+use tables::rows::State;
 use tables::{Region, rows};
 
 // The eight from 8 g on; memory is the memory's length.
 #[derive(Clone, Copy)]
 pub struct Eight<'a> {
-    pub state: &'a [u8],
+    pub state: &'a State,
     pub memory: u64,
     pub g: usize,
-    pub ghost sized: { length state.now ≡ state_size },
     pub ghost inside: { 8 * g + 8 ≤ mr_count },
     pub ghost stored: { memory ≡ row_at memory_t state.now 0 },
 }
