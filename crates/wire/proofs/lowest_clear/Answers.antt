@@ -1,28 +1,39 @@
 use borrow.Author.Rules.{rules}
-use mathlib.Core.Path.{sym, ap, ◌∙◌}
+use mathlib.Core.Path.{◌≡◌, sym, ◌∙◌}
 use native.Mathlib.Omega.{arith}
-use Prim.Native.Nat.{ℕ, ◌+◌, ◌*◌, ◌≤◌}
-use Rattle.wire.specs.Scan.{clear_at}
-use Rattle.wire.proofs.FlagLaws.{flags_most, word_found, word_past}
-use Rattle.wire.proofs.ScanLaws.{lowest_is}
+use Prim.Native.Nat.{◌+◌, ◌*◌}
+use Rattle.wire.proofs.FlagLaws.{flags_most, all_set, some_clear, flag_by_bits, word_found, word_past}
+use Rattle.wire.proofs.ScanLaws.{lowest_start, lowest_none}
 use Rattle.wire.proofs.lowest_clear.Goals as goal
+
+pub loop-i-init : goal.loop-i-init
+loop-i-init c = (search rules, lowest_start (8 * c.args.words) _)
 
 pub overflow_add-result : goal.overflow_add-result
 overflow_add-result c =
-    let most : c.clear_of_eight.result ≤ 8 = rw c.clear_of_eight.ensures (flags_most _ _ 8) in
-    search rules
+    let p = c.args.at + 8 * c.loop-i.i in
+    let e = flag_by_bits 8 c.args.s.now p (λ h. c.if-flags-ne-ALL_SET8.true (c.get-flags.ensures ∙ h)) in
+    let most = flags_most c.args.s.now p 8 in
+    rw (c.get-flags.ensures, e) (search rules)
 
-pub returns-then-get-ne-ALL_SET8 : goal.returns-then-get-ne-ALL_SET8
-returns-then-get-ne-ALL_SET8 c =
+pub returns-then-flags-ne-ALL_SET8 : goal.returns-then-flags-ne-ALL_SET8
+returns-then-flags-ne-ALL_SET8 c =
     let a = c.args in
-    let i = c.loop-i.i in
-    ap (λ (x : ℕ). 8 * i + x) c.clear_of_eight.ensures
-    ∙ word_found a.s.now a.at i c.loop-i.invariant a.words c.loop-i-test.true (λ e. c.if-get-ne-ALL_SET8.true (c.get.ensures ∙ e))
+    let h = c.loop-i in
+    let n = λ (e : _). c.if-flags-ne-ALL_SET8.true (c.get-flags.ensures ∙ e) in
+    rw (c.get-flags.ensures, flag_by_bits 8 a.s.now (a.at + 8 * h.i) n)
+    (sym (h.invariant.1 ∙ word_found a.s.now a.at a.words h.i (search rules) (some_clear a.s.now (a.at + 8 * h.i) 8 n)))
 
 pub loop-i-preserved : goal.loop-i-preserved
-loop-i-preserved c = word_past c.args.s.now c.args.at c.loop-i.i c.loop-i.invariant (sym c.get.ensures ∙ c.if-get-ne-ALL_SET8.false)
+loop-i-preserved c =
+    let a = c.args in
+    let h = c.loop-i in
+    let e = all_set a.s.now (a.at + 8 * h.i) 8 (sym c.get-flags.ensures ∙ c.if-flags-ne-ALL_SET8.false) in
+    (search rules, h.invariant.1 ∙ word_past a.s.now a.at a.words h.i (search rules) e)
 
 pub returns : goal.returns
 returns c =
     let a = c.args in
-    lowest_is (8 * a.words) (clear_at a.s.now a.at) (8 * a.words) (omega arith) (λ k b. c.loop-i.invariant k (omega arith)) (λ b. absurd (omega arith))
+    let h = c.loop-i in
+    let e : h.i ≡ a.words = omega arith in
+    sym (h.invariant.1 ∙ rw e (lowest_none (8 * a.words) (8 * a.words) _ (omega arith)))

@@ -1,8 +1,10 @@
 use mathlib.Core.Path.{◌≡◌}
-use mathlib.Core.Bool.{false}
-use Prim.Native.Nat.{ℕ, ◌<◌, ◌*◌}
-use Rattle.wire.specs.Scan.{clear_at}
+use Prim.Native.Nat.{◌≤◌, ◌-◌, ◌*◌}
+use Rattle.wire.specs.Scan.{lowest, lowest_from, clear_at}
 use Rattle.wire.proofs.lowest_clear.Given as goal
 
 abbrev pub invariant-loop-i : goal.invariant-loop-i
-invariant-loop-i l = (k : ℕ) → k < 8 * l.i → clear_at l.s l.at k ≡ false
+invariant-loop-i l = (l.i ≤ l.words) × (lowest (8 * l.words) (clear_at l.s l.at) ≡ lowest_from (clear_at l.s l.at) (8 * l.words - 8 * l.i) (8 * l.i))
+
+abbrev pub decreases-loop-i : goal.decreases-loop-i
+decreases-loop-i l = l.words - l.i
