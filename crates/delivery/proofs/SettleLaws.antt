@@ -1,12 +1,11 @@
 -- The stores of post send, each ending by a law. Assumes nothing.
 use mathlib.Core.Path.{◌≡◌, refl, sym, ap, ◌∙◌}
 use mathlib.Core.Bool.{Bool, true, false, cond, not, ◌||◌}
-use mathlib.Core.List.{List, [], ◌∷◌, ◌++◌}
-use Prim.Native.Nat.{ℕ, suc, ◌-◌, ◌<◌, ◌≤◌}
+use mathlib.Core.List.{List, [], ◌∷◌}
+use Prim.Native.Nat.{ℕ, ◌<◌, ◌≤◌}
 use native.Mathlib.Omega.{arith}
 use lib.Dec.{eqb}
-use lib.ListN.{length, take}
-use lib.Seq.{length-take-le, take-append-le, take-length}
+use lib.ListN.{take}
 use borrow.Author.Tests.{eq-eqb, ne_eqb, le-leb, lt-leb}
 use Rattle.wire.proofs.ScanLaws.{or_left}
 use Rattle.tables.specs.Queue.{push_bytes}
@@ -15,9 +14,8 @@ use Rattle.tables.specs.State.{no_record}
 use Rattle.tables.specs.declared.QueuePair.{QueuePair}
 use Rattle.tables.specs.declared.ReceiveRecord.{ReceiveRecord}
 use Rattle.tables.specs.declared.SendRecord.{SendRecord}
-use Rattle.tables.specs.declared.Sge.{Sge}
 use Rattle.rules.specs.Send.{consumes, fails}
-use Rattle.rules.specs.Touch.{takes, sge_total, cut}
+use Rattle.rules.specs.Touch.{takes, sge_total}
 use Rattle.rules.specs.Bytes.{push_all, error_bytes}
 use Rattle.delivery.specs.Settle.{is_put, sender_entry, receiver_entry, receiver_status, put_first, put_second, settled_bytes}
 use Rattle.delivery.specs.declared.meet.Ends.{Ends}
@@ -27,17 +25,6 @@ use Rattle.delivery.specs.declared.meet.Ends.{Ends}
 pub receive_list : (w : ReceiveRecord) → take w.count (w.first ∷ w.second ∷ []) ≡ receive_sges w
 unfolding receive_sges
 receive_list w = refl
-
-cut_length : (n : ℕ) (ss : List Sge) → length (cut n ss) ≡ length ss
-unfolding cut
-cut_length n [] = refl
-cut_length n (s ∷ ss) = ap suc (cut_length (n - s.length) ss)
-
--- cut in place, before those past its count
-pub taken_cut : (w : ReceiveRecord) (n : ℕ) (cuts rest : List Sge) → w.count ≤ 2 → cuts ≡ cut n (receive_sges w) → take w.count (cuts ++ rest) ≡ cut n (receive_sges w)
-taken_cut w n cuts rest h e =
-    let k : length cuts ≡ w.count = ap length e ∙ cut_length n (receive_sges w) ∙ ap length (sym (receive_list w)) ∙ length-take-le w.count (w.first ∷ w.second ∷ []) h in
-    ap (λ (j : ℕ). take j (cuts ++ rest)) (sym k) ∙ take-append-le (length cuts) cuts rest (omega arith) ∙ take-length cuts ∙ e
 
 -- ---- the receiver's status
 

@@ -4,7 +4,6 @@ use mathlib.Core.Bool.{Bool, true, false, cond, not, ◌||◌, false≢true}
 use mathlib.Core.List.{List, [], ◌∷◌}
 use Prim.Native.Nat.{ℕ, ◌≤◌, ◌<◌}
 use native.Mathlib.Nat.{add-zero}
-use native.Mathlib.Omega.{arith}
 use lib.Dec.{eqb, leb}
 use lib.ListN.{take}
 use borrow.Author.Tests.{leb-true, le-leb, lt-leb}
@@ -20,7 +19,7 @@ use Rattle.rules.proofs.Runs.{cut_total}
 use Rattle.rules.specs.declared.Party.{Party}
 use Rattle.dma.specs.Grants.{allows_all}
 use Rattle.dma.proofs.UseLaws.{permitted_mapped_all}
-use Rattle.delivery.specs.Deliver.{party_in, own_mask, far_mask, own_by, far_list, far_count, Sending, OwnSide, Delivery, Carries, carried}
+use Rattle.delivery.specs.Deliver.{party_in, own_mask, far_mask, own_by, far_list, Sending, OwnSide, Delivery, Carries, carried}
 use Rattle.delivery.specs.declared.meet.Ends.{Ends}
 
 -- ---- the order of the tests
@@ -43,13 +42,6 @@ done_status false t e = refl
 unmoved : (f : Bool) (x m : List ℕ) → m ≡ cond (eqb (cond f 7 8) 0) x m
 unmoved true x m = refl
 unmoved false x m = refl
-
-pub count_most : (o : ℕ) (w : ReceiveRecord) → w.count ≤ 2 → (n : ℕ) → n ≡ far_count o w → n ≤ 4
-count_most o w h n e = go (fills o) e
-  where
-    go : (f : Bool) → n ≡ cond f w.count 1 → n ≤ 4
-    go true i = omega arith
-    go false i = omega arith
 
 -- ---- each ending
 
@@ -76,15 +68,12 @@ module _ (l m : List ℕ) (e : Ends) (s : SendRecord) (sges : List Sge) (v : Lis
   pub own_refused : n ≤ most_message → mine ≡ false → Delivery l m e s sges v w n 3 m
   own_refused most h = record { status = rw (le-leb n most_message most, h); memory = refl }
 
-  -- the judgement of the peer's entries, as the code has them
-  module _ (p : Party) (who : p ≡ party_in e.far) (mask : ℕ) (masks : mask ≡ far_mask o) (four : List Sge) (count : ℕ) (counts : count ≡ far_count o w) (is : take (far_count o w) four ≡ far_list s w n)
-      (b : Bool) (judged : b ≡ allows_all (card l) p mask (sge_bytes (take count four))) where
-    pub far_entries : take count four ≡ far_list s w n
-    far_entries = ap (λ (j : ℕ). take j four) counts ∙ is
-
-    pub far_judged : b ≡ theirs
-    far_judged = judged ∙ ap (λ (y : Party). allows_all (card l) y mask (sge_bytes (take count four))) who
-        ∙ ap₂ (λ (y : ℕ) (z : List Sge). allows_all (card l) (party_in e.far) y (sge_bytes z)) masks far_entries
+  -- the judgement of the peer's entries, as the code has it
+  pub far_judged : (p : Party) → p ≡ party_in e.far → (mask : ℕ) → mask ≡ far_mask o → (far : List Sge) → far ≡ far_list s w n →
+      (b : Bool) → b ≡ allows_all (card l) p mask (sge_bytes far) → b ≡ theirs
+  far_judged p who mask masks far is b judged =
+      judged ∙ ap (λ (y : Party). allows_all (card l) y mask (sge_bytes far)) who
+      ∙ ap₂ (λ (y : ℕ) (z : List Sge). allows_all (card l) (party_in e.far) y (sge_bytes z)) masks is
 
   module _ (side : OwnSide (card l) e s sges n) where
     short : leb n most_message ≡ true

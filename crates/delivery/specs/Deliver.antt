@@ -46,9 +46,6 @@ far_list s w n = cond (fills s.opcode) (cut n (receive_sges w)) (record { addres
 abbrev pub is_single : SendRecord → Bool
 is_single s = not (is_inline s) && eqb s.count 1 && not (takes s.opcode)
 
-abbrev pub far_count : (opcode : ℕ) → ReceiveRecord → ℕ
-far_count o w = cond (fills o) w.count 1
-
 -- "local reading none, local writing bit 1, remote write 2, remote read 4": the sender's "for reading (opcode 4: for writing)"
 abbrev pub own_mask : (opcode : ℕ) → ℕ
 own_mask o = cond (reads o) 1 0

@@ -9,7 +9,7 @@ ghost use Rattle.tables.specs.Records.{is_inline, receive_sges};
 ghost use Rattle.rules.specs.Touch.{fills, sge_total};
 ghost use Rattle.dma.specs.Grants.{allows_all};
 ghost use Rattle.dma.specs.Moves.{Ready};
-ghost use Rattle.delivery.specs.Deliver.{party_in, taken_row, Sending, Delivery, is_single, total_by, own_mask, own_by, far_count, far_list, far_mask, Carries, carried, OwnSide};
+ghost use Rattle.delivery.specs.Deliver.{party_in, taken_row, Sending, Delivery, is_single, total_by, own_mask, own_by, far_list, far_mask, Carries, carried, OwnSide};
 
 use crate::meet;
 use crate::meet::Ends;
@@ -38,46 +38,6 @@ fn own_permitted(state: &State, p: Party, r: &WorkRequest) -> bool
     ensures { result ≡ allows_all (card state.now) p (own_mask r.now.head.opcode) (own_by r.now.head r.now.sges.now) }
 {
     r.is_inline() || permit::sges_permitted(state, p, own_mask(r.head.opcode), r.sges)
-}
-
-// Whether a message of n bytes fits the receive that it fills.
-fn fits_receive(opcode: u8, w: ReceiveRecord, n: u32) -> bool
-    requires { w.count ≤ 2 }
-    ensures { result ≡ (not (fills opcode) || leb n (sge_total (receive_sges w))) }
-{
-    if !meet::fills_receive(opcode) {
-        return true;
-    }
-    n as u64 <= permit::sges_total(&[w.first, w.second][..w.count as usize])
-}
-
-// The peer's side of a message of n bytes: the first n of the receive's, or the remote range.
-fn far_sges(s: SendRecord, w: ReceiveRecord, n: u32) -> [Sge; 2]
-    requires { w.count ≤ 2 }
-    ensures { take (far_count s.opcode w) result ≡ far_list s w n }
-{
-    if meet::fills_receive(s.opcode) {
-        let mut sges = [w.first, w.second];
-        permit::cut_to(&mut sges[..w.count as usize], n);
-        return sges;
-    }
-    let range = Sge {
-        address: s.address,
-        length: n,
-        key: s.key,
-    };
-    [range, Sge::default()]
-}
-
-// How many entries that is.
-fn far_count(opcode: u8, w: ReceiveRecord) -> usize
-    ensures { result ≡ far_count opcode w }
-{
-    if meet::fills_receive(opcode) {
-        w.count as usize
-    } else {
-        1
-    }
 }
 
 // The access bit that the sender's side needs.
@@ -137,7 +97,32 @@ pub fn taken_receive(state: &State, d: usize, opcode: u8) -> ReceiveRecord
     ReceiveRecord::default()
 }
 
-// Steps 4 to 6 of a message of n bytes, of which step 3 found no fault.
+// Steps 5 and 6 of a message of n bytes, of which steps 3 and 4 found no fault: far is the peer's side.
+fn deliver_to(
+    state: &[u8],
+    memory: &mut [u8],
+    e: Ends,
+    r: &WorkRequest,
+    w: ReceiveRecord,
+    n: u32,
+    far: &[Sge],
+) -> u8
+    requires ready { Ready state.now memory.old }
+    requires total { total_by r.now.head r.now.sges.now r.now.inline.now ≡ n }
+    requires side { OwnSide (card state.now) e r.now.head r.now.sges.now n }
+    requires fits { (not (fills r.now.head.opcode) || leb n (sge_total (receive_sges w))) ≡ true }
+    requires list { far.now ≡ far_list r.now.head w n }
+    ensures { Delivery state.now memory.old e r.now.head r.now.sges.now r.now.inline.now w n result memory.new }
+{
+    let opcode = r.head.opcode;
+    if !permit::sges_permitted(state, party_of(e.far), far_mask(opcode), far) {
+        return far_fault(opcode);
+    }
+    move_bytes(state, memory, r, far);
+    SUCCESS
+}
+
+// Steps 4 to 6 of a message of n bytes, of which step 3 found no fault: the peer's side is the first n bytes of the receive, or the remote range.
 fn deliver_far(
     state: &State,
     memory: &mut [u8],
@@ -151,17 +136,21 @@ fn deliver_far(
     requires side { OwnSide (card state.now) e r.now.head r.now.sges.now n }
     ensures { Delivery state.now memory.old e r.now.head r.now.sges.now r.now.inline.now w n result memory.new }
 {
-    let opcode = r.head.opcode;
-    if !fits_receive(opcode, w, n) {
-        return REMOTE_INVALID;
+    if meet::fills_receive(r.head.opcode) {
+        let mut sges = [w.first, w.second];
+        let far = &mut sges[..w.count as usize];
+        if permit::sges_total(far) < n as u64 {
+            return REMOTE_INVALID;
+        }
+        permit::cut_to(far, n);
+        return deliver_to(state, memory, e, r, w, n, far);
     }
-    let sges_far = far_sges(r.head, w, n);
-    let far = &sges_far[..far_count(opcode, w)];
-    if !permit::sges_permitted(state, party_of(e.far), far_mask(opcode), far) {
-        return far_fault(opcode);
-    }
-    move_bytes(state, memory, r, far);
-    SUCCESS
+    let range = Sge {
+        address: r.head.address,
+        length: n,
+        key: r.head.key,
+    };
+    deliver_to(state, memory, e, r, w, n, &[range])
 }
 
 // Step 6 of a request of one entry and a remote range.
