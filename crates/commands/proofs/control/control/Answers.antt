@@ -3,14 +3,11 @@ use lib.ListN.{length}
 use Rattle.tables.specs.Commands.{ack_least, ack_size, ack_need}
 use Rattle.tables.proofs.AckLaws.{need_least}
 use Rattle.commands.specs.Control.{outcome_ack}
-use Rattle.commands.proofs.CaseLaws.{passes, fails}
+use Rattle.commands.proofs.CaseLaws.{passes}
 use Rattle.validate.proofs.AcceptedLaws.{accepted}
-use Rattle.commands.proofs.CallLaws.{outcome_room, control_state, control_short, control_done}
+use Rattle.commands.proofs.CallLaws.{outcome_room, control_short, control_done}
 use borrow.Author.Rules.{rules}
 use Rattle.commands.proofs.control.control.Goals as goal
-
-pub returns-then-not-accepted : goal.returns-then-not-accepted
-returns-then-not-accepted c = rw c.from.ensures (control_state _ _ _ (fails c.accepted.ensures c.if-not-accepted.true))
 
 pub returns-then-ack-ack_need : goal.returns-then-ack-ack_need
 returns-then-ack-ack_need c =

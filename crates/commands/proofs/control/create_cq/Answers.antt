@@ -1,5 +1,4 @@
-use native.Mathlib.Omega.{arith}
-use Rattle.commands.proofs.CaseLaws.{create_cq_fields, places_small, create_cq_full, create_cq_done, passes, fails}
+use Rattle.commands.proofs.CaseLaws.{create_cq_fields, create_cq_full, create_cq_done, passes, fails}
 use Rattle.commands.proofs.control.create_cq.Goals as goal
 
 pub returns-then-not-places_fine : goal.returns-then-not-places_fine
@@ -10,11 +9,6 @@ returns-then-n-ge-CQ_COUNT c =
     let fine = c in
     rw (fine.ok_or.ensures.ok_part, fine.in_ok-places.was)
     (create_cq_full _ _ (passes fine.places_fine.ensures fine.if-not-places_fine.false) _ c.free_cqn-n.ensures c.if-n-ge-CQ_COUNT.true)
-
-pub overflow_cast-places : goal.overflow_cast-places
-overflow_cast-places c =
-    let fine = c in
-    omega (arith, places_small fine.in_ok-places.places (passes fine.places_fine.ensures fine.if-not-places_fine.false))
 
 pub returns : goal.returns
 returns c =

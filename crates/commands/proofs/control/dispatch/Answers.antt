@@ -3,19 +3,13 @@ use borrow.Author.Rules.{rules}
 use Rattle.std.specs.Prelude.{Result, Err}
 use Rattle.tables.specs.declared.Ack.{Ack}
 use Rattle.tables.specs.declared.refusal.Refusal.{Refusal}
-use Rattle.commands.proofs.CallLaws.{dispatch_stopped, dispatch_passed, verb_named}
+use Rattle.commands.proofs.CallLaws.{dispatch_stopped, verb_named}
 use Rattle.commands.proofs.control.dispatch.Goals as goal
 
 pub run-requires : goal.run-requires
 run-requires c =
     let read = c in
     (read.requires, sym (verb_named read.args.command.now _ (sym read.read_verb.ensures ∙ c.in_ok-read_verb.was)).1)
-
-pub returns : goal.returns
-returns c =
-    let ran = c in
-    let k = ran.args.command.now in
-    dispatch_passed _ k (verb_named k _ (sym ran.read_verb.ensures ∙ ran.in_ok-read_verb.was)).0 _ _ c.run.ensures
 
 pub returns-in_err-read_verb : goal.returns-in_err-read_verb
 returns-in_err-read_verb c =

@@ -7,7 +7,6 @@ use Rattle.wire.specs.Table.{row_at}
 use Rattle.tables.specs.Layout.{mr_t}
 use Rattle.tables.specs.declared.Region.{Region}
 use Rattle.tables.proofs.ObjectLaws.{pd_below}
-use Rattle.validate.proofs.AcceptedLaws.{access_most}
 use Rattle.commands.proofs.CaseLaws.{new_variant_lem, variant_left}
 use Rattle.commands.proofs.control.put_region.Goals as goal
 
@@ -17,9 +16,6 @@ overflow_add-variant c =
     let h = variant_left s.args.state.now _ s.requires.2 s.requires.0 in
     let e : c.load_mr-variant.result.variant ≡ (row_at mr_t s.args.state.now s.args.n).variant = ap (λ (x : Region). x.variant) c.load_mr-variant.ensures in
     rw e (omega arith)
-
-pub overflow_cast-row : goal.overflow_cast-row
-overflow_cast-row c = let s = c in omega (arith, access_most s.args.g.access s.requires.3)
 
 pub overflow_cast-row-2 : goal.overflow_cast-row-2
 overflow_cast-row-2 c =

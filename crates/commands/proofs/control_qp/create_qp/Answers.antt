@@ -19,13 +19,6 @@ returns-then-n-ge-QP_COUNT c =
     (create_qp_full _ _ (passes fine.create_fine.ensures fine.if-not-create_fine.false) (passes live.create_live.ensures live.if-not-create_live.false) _
     c.free_qpn-n.ensures c.if-n-ge-QP_COUNT.true)
 
-pub put_pair-requires : goal.put_pair-requires
-put_pair-requires c =
-    let room = c in
-    let live = room in
-    let s = live in
-    (room.if-n-ge-QP_COUNT.false, s.requires, room.free_qpn-n.ensures, passes live.create_live.ensures live.if-not-create_live.false)
-
 pub returns : goal.returns
 returns c =
     let room = c in

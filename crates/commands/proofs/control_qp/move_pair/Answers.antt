@@ -1,13 +1,6 @@
 -- The row and the two heads are stored, as command_bytes says.
-use mathlib.Core.Path.{ap, ◌∙◌}
-use lib.ListN.{length}
-use Rattle.tables.specs.Layout.{qp_t}
-use Rattle.wire.proofs.TableLaws.{put_row_length}
 use Rattle.rules.specs.Bytes.{command_bytes}
 use Rattle.commands.proofs.control_qp.move_pair.Goals as goal
-
-pub store_heads-requires : goal.store_heads-requires
-store_heads-requires c = let s = c in (s.requires.0, ap length c.store_qp.ensures ∙ put_row_length qp_t _ _ _ ∙ s.requires.1)
 
 pub returns : goal.returns
 unfolding command_bytes

@@ -14,12 +14,6 @@ returns-then-in_use c =
     rw (live.ok_or.ensures.ok_part, live.in_ok-n.was)
     (destroy_used _ s.args.kind _ (passes live.is_live.ensures live.if-not-is_live.false) (sym c.in_use.ensures ∙ c.if-in_use.true))
 
-pub clear-requires : goal.clear-requires
-clear-requires c =
-    let live = c in
-    let s = live in
-    (passes live.is_live.ensures live.if-not-is_live.false, s.requires)
-
 pub returns : goal.returns
 returns c =
     let unused = c in

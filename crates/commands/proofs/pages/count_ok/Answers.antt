@@ -1,4 +1,3 @@
-use borrow.Author.Tests.{leb-true}
 use Rattle.commands.proofs.CaseLaws.{passes, fails}
 use Rattle.commands.proofs.PagesCaseLaws.{count_long, count_fine}
 use Rattle.commands.proofs.pages.count_ok.Goals as goal
@@ -7,9 +6,6 @@ pub returns-then-not-sum_within : goal.returns-then-not-sum_within
 returns-then-not-sum_within c =
     let s = c in
     count_long s.args.g s.args.pages.now (fails c.sum_within.ensures c.if-not-sum_within.true)
-
-pub pages_needed-requires : goal.pages_needed-requires
-pages_needed-requires c = leb-true _ _ (passes c.sum_within.ensures c.if-not-sum_within.false)
 
 pub returns : goal.returns
 returns c =

@@ -6,9 +6,6 @@ use Rattle.commands.proofs.pages.put_pages.Goals as goal
 pub overflow_cast-page : goal.overflow_cast-page
 overflow_cast-page c = let s = c in omega (arith, number_small s.args.pages.now c.loop-k.k c.loop-k-test.true s.requires.3)
 
-pub store_page-requires : goal.store_page-requires
-store_page-requires c = let s = c in (omega arith, c.loop-k.auto.state ∙ s.requires.1)
-
 pub loop-k-preserved : goal.loop-k-preserved
 loop-k-preserved c =
     let l = c.loop-k in

@@ -30,19 +30,6 @@ returns-then-n-ge-MR_COUNT c =
     (rw (← range.load_memory.ensures) (passes range.in_pages.ensures range.if-not-in_pages.false))
     _ c.free_mrn-n.ensures c.if-n-ge-MR_COUNT.true)
 
-pub put_region-variant-requires : goal.put_region-variant-requires
-put_region-variant-requires c =
-    let room = c in
-    let live = room in
-    let known = live in
-    let s = known in (
-      room.if-n-ge-MR_COUNT.false,
-      s.requires.1,
-      room.free_mrn-n.ensures,
-      passes known.access_ok.ensures known.if-not-access_ok.false,
-      passes live.pd_live.ensures live.if-not-pd_live.false,
-    )
-
 pub put_pages-requires : goal.put_pages-requires
 put_pages-requires c =
     let put = c in

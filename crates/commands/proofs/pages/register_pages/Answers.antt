@@ -1,14 +1,7 @@
-use borrow.Author.Rules.{rules}
-use Prim.Native.Nat.{◌≤◌}
-use Rattle.tables.specs.Commands.{ack_least, ack_size}
 use Rattle.validate.proofs.AcceptedLaws.{accepted}
-use Rattle.commands.specs.Control.{outcome_ack}
-use Rattle.commands.proofs.CaseLaws.{passes, fails}
-use Rattle.commands.proofs.PagesCallLaws.{pages_state, pages_room, pages_short, pages_done}
+use Rattle.commands.proofs.CaseLaws.{passes}
+use Rattle.commands.proofs.PagesCallLaws.{pages_short, pages_done}
 use Rattle.commands.proofs.pages.register_pages.Goals as goal
-
-pub returns-then-not-accepted : goal.returns-then-not-accepted
-returns-then-not-accepted c = rw c.from.ensures (pages_state _ _ _ _ (fails c.accepted.ensures c.if-not-accepted.true))
 
 pub returns-then-ack-lt-ACK_LEAST : goal.returns-then-ack-lt-ACK_LEAST
 returns-then-ack-lt-ACK_LEAST c =
@@ -20,13 +13,6 @@ choose-outcome-requires c =
     let good = c in
     let ok = passes good.accepted.ensures good.if-not-accepted.false in
     (ok, (accepted _ ok).sized)
-
-pub write_ack-requires : goal.write_ack-requires
-write_ack-requires c =
-    let ran = c in
-    let h = ran.if-ack-lt-ACK_LEAST.false in
-    let s : ack_size (outcome_ack ran.choose-outcome.result) ≤ ack_least = pages_room _ _ _ ran.choose-outcome.result _ ran.choose-outcome.ensures in
-    rw c.ack_of.ensures (search rules, search rules)
 
 pub returns : goal.returns
 returns c =
