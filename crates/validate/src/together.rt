@@ -65,13 +65,13 @@ fn range_ok(r: Region, limit: u64) -> bool
 }
 
 fn joined(a: u16, b: u16) -> u16
-    ensures { (a ≤ result) × (b ≤ result) × (result < 65536) }
+    ensures { (a ≤ result) × (b ≤ result) }
 {
     a | b
 }
 
 fn larger(a: u16, b: u16) -> u16
-    ensures { (a ≤ result) × (b ≤ result) × (result < 65536) }
+    ensures { (a ≤ result) × (b ≤ result) }
 {
     if a < b { b } else { a }
 }
