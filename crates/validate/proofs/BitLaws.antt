@@ -2,7 +2,7 @@
 use Rattle.std.proofs.Common.{◌≡◌, ℕ, ◌+◌, ◌/◌, ◌%◌, ◌^◌, ◌<◌, ◌≤◌, arith}
 use native.Mathlib.Decide.{dec_lt}
 use Rattle.std.proofs.lemmas.Nat.{le_or_l, le_or_r}
-use lib.Bits.{bit_and, bit_or, and_le_l, and_le_r, or_add_and, and_shr, and_mod, or_shr, or_mod}
+use lib.Bits.{bit_and, bit_or, and_le_l, and_le_r, and_shr, and_mod, or_shr, or_mod}
 
 -- any is at least each number that was or-ed into it
 pub or_more : (f : ℕ → ℕ) (i any v : ℕ) → v ≡ f i → ((k : ℕ) → k < i → f k ≤ any) → (k : ℕ) → k < i + 1 → f k ≤ bit_or any v

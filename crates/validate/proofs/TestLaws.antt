@@ -1,21 +1,19 @@
 -- The ways in which each object's test ends, for the code that makes it. Assumes nothing.
-use Rattle.std.proofs.Common.{◌≡◌, ℕ, ◌+◌, ◌-◌, ◌*◌, ◌/◌, ◌<◌, ◌≤◌, Bool, true, false, ◌&&◌, ◌||◌, eqb, ltb, leb, List, sym, ◌∙◌, add-zero, mul-one, arith, ltb-true, le-ltb, lt-ltb, eq-eqb, ne_eqb, le-leb}
+use Rattle.std.proofs.Common.{◌≡◌, ℕ, ◌+◌, ◌-◌, ◌*◌, ◌/◌, ◌≤◌, true, ◌&&◌, ltb, leb, List, sym, ◌∙◌, add-zero, mul-one, arith, le-ltb, lt-ltb, eq-eqb, ne_eqb, le-leb}
 use native.Mathlib.Decide.{dec_lt}
 use borrow.Author.Tests.{lt-leb}
 use Rattle.wire.specs.Codec.{fields_at}
 use Rattle.wire.specs.Le.{le_at}
-use Rattle.wire.specs.Scan.{all, all_below}
+use Rattle.wire.specs.Scan.{all_below}
 use Rattle.wire.specs.Table.{row_at, place}
 use Rattle.wire.proofs.LeLaws.{zero_word}
-use Rattle.wire.proofs.ScanLaws.{all_at, block_more, and_left, and_right}
-use Rattle.tables.specs.Card.{cq_live}
-use Rattle.tables.specs.Layout.{memory_t, mr_flag_t, mr_flag_base, mr_t, cq_flag_t, cq_t, qp_flag_t, qp_t, flag_codec}
-use Rattle.tables.specs.Limits.{most_places, most_waiting, most_queued, page_size, most_pages}
-use Rattle.tables.specs.State.{PairRows, card, queue_at, region_at, pair_at, pages_at, pages_needed, unread, posted, queued_in}
-use Rattle.tables.specs.declared.QueueHead.{QueueHead}
+use Rattle.wire.proofs.ScanLaws.{all_at, block_more}
+use Rattle.tables.specs.Layout.{memory_t, mr_flag_t, mr_flag_base, mr_t, flag_codec}
+use Rattle.tables.specs.Limits.{page_size, most_pages}
+use Rattle.tables.specs.State.{card, region_at, pages_at, pages_needed}
 use Rattle.tables.specs.declared.Region.{Region}
 use Rattle.validate.specs.Together.{Zeros}
-use Rattle.validate.specs.Accept.{cq_ok, mr_ok, qp_ok, completion_ok, receive_ok, queue_ok, fields_ok, page_inside, numbers_ok, paged_ok, land_ok, pair_ok, names_ok, receives_ok, may_queue, queued_ok, sends_ok}
+use Rattle.validate.specs.Accept.{mr_ok, fields_ok, page_inside, numbers_ok, paged_ok, land_ok}
 
 module _ (l : List ℕ) (n : ℕ) where
   pub mr_off : row_at mr_flag_t l n ≡ 0 → mr_ok l n ≡ true

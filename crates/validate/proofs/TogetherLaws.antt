@@ -1,8 +1,8 @@
 -- From tests of several rows together to the test of each. Assumes nothing.
-use Rattle.std.proofs.Common.{◌≡◌, ℕ, zero, suc, ◌+◌, ◌-◌, ◌*◌, ◌/◌, ◌%◌, ◌^◌, ◌<◌, ◌≤◌, Bool, true, false, ◌&&◌, ◌||◌, eqb, ltb, leb, ◌⊎◌, List, get_or, sym, refl, ap, ap₂, ◌∙◌, inl, inr, ⊎_elim, add-zero, mod-lt, mod-eq_of_lt, mul-one, arith, ltb-true, le-ltb, lt-ltb, eq-eqb, eqb-true, le-leb, leb-true}
-use native.Mathlib.Decide.{dec_le, dec_lt}
+use Rattle.std.proofs.Common.{◌≡◌, ℕ, zero, suc, ◌+◌, ◌-◌, ◌*◌, ◌/◌, ◌%◌, ◌<◌, ◌≤◌, Bool, true, ◌&&◌, eqb, ltb, leb, ◌⊎◌, List, get_or, sym, refl, ap, ap₂, ◌∙◌, inl, inr, ⊎_elim, add-zero, mod-lt, mod-eq_of_lt, mul-one, arith, ltb-true, lt-ltb, eq-eqb, eqb-true, le-leb, leb-true}
+use native.Mathlib.Decide.{dec_lt}
 use native.Mathlib.Nat.{mod-add-mod}
-use borrow.Author.Tests.{lt-leb, not-false}
+use borrow.Author.Tests.{not-false}
 use Rattle.std.proofs.Math.Bool.{and-true, and_assoc}
 use Rattle.std.proofs.lemmas.Bool.{or_cases}
 use Rattle.wire.specs.Codec.{fields_at}

@@ -1,15 +1,16 @@
 // Look-ups: the lowest free number of each table, and whether an object is in use. Definitions: specs/Search.antt.
-ghost use Rattle.std.specs.Prelude.{◌≡◌, ℕ, Bool, ◌+◌, ◌*◌, ◌<◌, ◌≤◌, length};
+ghost use Rattle.std.specs.Prelude.{◌≡◌, ◌+◌, ◌*◌, ◌<◌, ◌≤◌, length};
 ghost use Rattle.wire.specs.Scan.{lowest, any_below};
 ghost use Rattle.tables.specs.State.{card};
 ghost use Rattle.tables.specs.Layout.{state_size};
 ghost use Rattle.tables.specs.Limits.{mr_count, qp_count};
-ghost use Rattle.validate.specs.Together.{Tells};
 ghost use Rattle.validate.specs.Search.{IsLowest, vacant, free_pdn, free_cqn, free_mrn, free_qpn, mr_names, qp_names, pd_in_use, cq_in_use};
 
+use crate::together;
 use tables::limits::{CQ_COUNT, MR_COUNT, PD_COUNT, QP_COUNT};
 use tables::rows;
 
+#[tactic(auto, using(crate::proofs::SearchLaws::free_pdn_lem))]
 pub fn free_pdn(state: &[u8]) -> usize
     requires { length state.now ≡ state_size }
     ensures { result ≡ free_pdn (card state.now) }
@@ -17,6 +18,7 @@ pub fn free_pdn(state: &[u8]) -> usize
     wire::lowest_clear(state, rows::PD_FLAGS, PD_COUNT / 8)
 }
 
+#[tactic(auto, using(crate::proofs::SearchLaws::free_cqn_lem))]
 pub fn free_cqn(state: &[u8]) -> usize
     requires { length state.now ≡ state_size }
     ensures { result ≡ free_cqn (card state.now) }
@@ -28,6 +30,7 @@ pub fn free_cqn(state: &[u8]) -> usize
 const LAST_VARIANT: u8 = 255;
 
 // Whether a registration may take slot n: it is free, and not retired.
+#[tactic(auto, using(crate::proofs::SearchLaws::slot_vacant))]
 fn is_vacant(state: &[u8], n: usize) -> bool
     requires { (n < mr_count) × (length state.now ≡ state_size) }
     ensures { result ≡ vacant ((card state.now).mr n) }
@@ -64,6 +67,7 @@ pub fn free_mrn(state: &[u8]) -> usize
     MR_COUNT
 }
 
+#[tactic(auto, using(crate::proofs::SearchLaws::free_qpn_lem))]
 pub fn free_qpn(state: &[u8]) -> usize
     requires { length state.now ≡ state_size }
     ensures { result ≡ free_qpn (card state.now) }
@@ -71,24 +75,12 @@ pub fn free_qpn(state: &[u8]) -> usize
     wire::lowest_clear(state, rows::QP_FLAGS, QP_COUNT / 8)
 }
 
-// Whether any number below count passes. All are tested, several at a time in the machine code.
-fn any_number<F: Fn(usize) -> bool>(count: usize, test: F) -> bool
-    requires { (n : ℕ) → n < count → F.pre test n }
-    ensures { (p : ℕ → Bool) → Tells (F.post test) count p → result ≡ any_below count p }
-{
-    let mut found = false;
-    for n in 0..count {
-        found = test(n) | found;
-    }
-    found
-}
-
 // Whether a live region names the domain.
 fn named_by_mr(state: &[u8], pd: u32) -> bool
     requires { length state.now ≡ state_size }
     ensures { result ≡ any_below mr_count (mr_names (card state.now) pd) }
 {
-    any_number(MR_COUNT, |n| {
+    together::any_number(MR_COUNT, |n| {
         let r = rows::load_mr(state, n);
         (rows::load_mr_flag(state, n) == 1) & (r.pd as u32 == pd)
     })
@@ -99,7 +91,7 @@ fn named_by_qp(state: &[u8], pd: u32) -> bool
     requires { length state.now ≡ state_size }
     ensures { result ≡ any_below qp_count (qp_names (card state.now) pd) }
 {
-    any_number(QP_COUNT, |n| {
+    together::any_number(QP_COUNT, |n| {
         let p = rows::load_qp(state, n);
         (rows::load_qp_flag(state, n) == 1) & (p.pd as u32 == pd)
     })
@@ -116,7 +108,7 @@ pub fn cq_in_use(state: &[u8], cq: u32) -> bool
     requires { length state.now ≡ state_size }
     ensures { result ≡ cq_in_use (card state.now) cq }
 {
-    any_number(QP_COUNT, |n| {
+    together::any_number(QP_COUNT, |n| {
         let p = rows::load_qp(state, n);
         (rows::load_qp_flag(state, n) == 1) & ((p.scq as u32 == cq) | (p.rcq as u32 == cq))
     })

@@ -47,6 +47,7 @@ fn numbers_ok(state: &[u8], memory: u64, n: usize, count: usize) -> bool
 }
 
 // How many pages the bytes need from an offset into the first one on.
+#[tactic(auto, unfolding(tables::specs::State::pages_needed))]
 pub fn pages_needed(start: u64, length: u64) -> u64
     requires { start + length ≤ most_pages * page_size }
     ensures { result ≡ pages_needed start length }

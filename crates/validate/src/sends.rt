@@ -34,8 +34,8 @@ fn kinds_pass(state: &[u8], n: usize) -> bool
     requires { (n < qp_count) × (length state.now ≡ state_size) }
     ensures { Enough result (all_below most_queued (λ k. queued_ok (place_at state.now (most_queued * n + k)))) }
 {
-    !(0..MOST_QUEUED).fold(false, |bad, k| {
-        bad | kind_bad(rows::load_kind(state, MOST_QUEUED * n + k))
+    !together::any_number(MOST_QUEUED, |k| {
+        kind_bad(rows::load_kind(state, MOST_QUEUED * n + k))
     })
 }
 

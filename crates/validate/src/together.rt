@@ -2,7 +2,7 @@
 // state test looks at the rows one by one.
 ghost use Rattle.std.specs.Prelude.{◌≡◌, ◌+◌, ◌-◌, ◌*◌, ◌/◌, ◌^◌, ◌<◌, ◌≤◌, ℕ, Bool, true, length, if◌then◌else◌, nat_eq, nat_le};
 ghost use Rattle.wire.specs.Ring.{ring_place};
-ghost use Rattle.wire.specs.Scan.{all_below};
+ghost use Rattle.wire.specs.Scan.{all_below, any_below};
 ghost use Rattle.wire.specs.Table.{row_at};
 ghost use Rattle.tables.specs.Layout.{state_size, page_count, memory_t, mr_flag_t, entry_t, receive_t};
 ghost use Rattle.tables.specs.Limits.{cq_count, mr_count, qp_count, most_pages, page_size, most_places, most_waiting};
@@ -30,10 +30,7 @@ const MANY_WAITING: u8 = 2;
 fn first_word(r: Region) -> u32
     ensures { result ≡ first_word r }
 {
-    (r.access as u32)
-        + 256 * (r.variant as u32)
-        + 65536 * (r.pd as u32)
-        + 16777216 * (r.kind as u32)
+    u32::from_le_bytes([r.access, r.variant, r.pd, r.kind])
 }
 
 // Remote write of one of them is no fault where each has local write.
@@ -64,6 +61,7 @@ fn range_ok(r: Region, limit: u64) -> bool
     r.start <= limit && std::num::wrapping_sub_u64(r.length, 1) < limit - r.start
 }
 
+#[tactic(auto, using(std::proofs::lemmas::Nat::le_or_l, std::proofs::lemmas::Nat::le_or_r))]
 fn joined(a: u16, b: u16) -> u16
     ensures { (a ≤ result) × (b ≤ result) }
 {
@@ -128,7 +126,7 @@ impl Eight<'_> {
     {
         let mut any: u64 = 0;
         for i in 0..8 {
-            any = any | number(self.row(i));
+            any |= number(self.row(i));
         }
         any <= limit
     }
@@ -141,8 +139,8 @@ impl Eight<'_> {
         let mut all: u32 = 0xffff_ffff;
         for i in 0..8 {
             let w = first_word(self.row(i));
-            any = any | w;
-            all = all & w;
+            any |= w;
+            all &= w;
         }
         words_ok(any, all, kind, domains)
     }
@@ -194,6 +192,20 @@ impl Eight<'_> {
         8 <= wire::lowest_clear(self.state, rows::MR_FLAGS + 8 * self.g, 1)
             && self.live_pass(wire::lowest_clear(self.state, rows::PD_FLAGS, 1))
     }
+}
+
+// ---- numbers of a table
+
+// Whether any number below count passes. All are tested, several at a time in the machine code.
+pub fn any_number<F: Fn(usize) -> bool>(count: usize, test: F) -> bool
+    requires { (n : ℕ) → n < count → F.pre test n }
+    ensures { (p : ℕ → Bool) → Tells (F.post test) count p → result ≡ any_below count p }
+{
+    let mut found = false;
+    for n in 0..count {
+        found = test(n) | found;
+    }
+    found
 }
 
 // ---- free slots
@@ -255,9 +267,9 @@ pub fn completions_pass(state: &[u8], n: usize, count: u8) -> bool
         if MOST_MESSAGE < e.length {
             return false;
         }
-        statuses = statuses | e.status;
-        opcodes = opcodes | e.opcode;
-        owners = owners | e.owner;
+        statuses |= e.status;
+        opcodes |= e.opcode;
+        owners |= e.owner;
     }
     (statuses <= LOCAL_LENGTH) & (opcodes <= RECEIVED_WRITE) & (owners < QP_COUNT as u32)
 }
