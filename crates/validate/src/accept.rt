@@ -17,6 +17,8 @@ use tables::limits::{
 };
 use tables::{Completion, QueueHead, QueuePair, WaitingHead, rows};
 
+// pd_live and cq_live are a line each: one function of both would take the count, the number and a loader.
+
 // Whether protection domain n is live.
 #[tactic(auto, using(tables::proofs::ObjectLaws::pd_is, tables::proofs::ObjectLaws::pd_out))]
 pub fn pd_live(state: &[u8], n: u32) -> bool

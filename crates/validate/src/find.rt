@@ -40,7 +40,8 @@ fn is_vacant(state: &[u8], n: usize) -> bool
     live != 1 && r.variant < LAST_VARIANT
 }
 
-// The first of the eight slots from 8 g on that a registration may take, counted from there.
+// The first of the eight slots from 8 g on that a registration may take, counted from there. A for: with find, eight live slots cost 19
+// instructions in place of 9.
 fn vacant_of_eight(state: &[u8], g: usize) -> Option<usize>
     requires { (8 * g + 8 ≤ mr_count) × (length state.now ≡ state_size) }
     ensures { IsLowest result 8 (λ i. vacant ((card state.now).mr (8 * g + i))) }

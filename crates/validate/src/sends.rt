@@ -14,7 +14,7 @@ use crate::together;
 use tables::limits::{ERROR, MOST_QUEUED, RTS};
 use tables::{SendKind, SendRecord, WaitingHead, records, rows};
 
-// The tests of answer 4, of a queued send's numbers in the column.
+// The tests of answer 4, of a queued send's numbers in the column. What they do not look at is 0: SendRecord has no default.
 fn kind_bad(k: SendKind) -> bool
     ensures { result ≡ send_bad (sent_in (record { kind = k; body = [] })) }
 {

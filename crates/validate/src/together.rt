@@ -218,7 +218,8 @@ fn four_words(s: &[u8], at: usize) -> u64
     wire::get64(s, at) | wire::get64(s, at + 8) | wire::get64(s, at + 16) | wire::get64(s, at + 24)
 }
 
-// Past eights of region slots from this one on that are all free, four at a time.
+// Past eights of region slots from this one on that are all free, four at a time. A while: its end is also where fewer than four are left,
+// which a stepped range does not say.
 pub fn past_free(state: &[u8], from: usize) -> usize
     requires { (from ≤ 32) × (length state.now ≡ state_size) }
     ensures { (from ≤ result) × (result ≤ 32) × Enough (all_below (8 * from) (mr_ok state.now)) (all_below (8 * result) (mr_ok state.now)) }
@@ -241,6 +242,7 @@ pub fn ring_passes<F: Fn(usize) -> bool>(cap: usize, first: u8, count: u8, test:
     requires callable { (k : ℕ) → k < cap → F.pre test k }
     ensures { (p : ℕ → Bool) → Tells (F.post test) cap p → result ≡ all_below count (λ k. p (ring_place cap first k)) }
 {
+    // at goes along: found anew from its number, a place costs up to 7 instructions more
     let mut at = first as usize;
     for _ in 0..count {
         if !test(at) {
