@@ -99,7 +99,7 @@ pub fn taken_receive(state: &State, d: usize, opcode: u8) -> ReceiveRecord
 
 // Steps 5 and 6 of a message of n bytes, of which steps 3 and 4 found no fault: far is the peer's side.
 fn deliver_to(
-    state: &[u8],
+    state: &State,
     memory: &mut [u8],
     e: Ends,
     r: &WorkRequest,

@@ -46,7 +46,7 @@ impl TryFrom<u8> for Verb {
             9 => Ok(Verb::CreateQp),
             10 => Ok(Verb::ModifyQp),
             12 => Ok(Verb::DestroyQp),
-            _ => Err(Refusal::Unknown),
+            6 | 11 | 13..=255 => Err(Refusal::Unknown),
         }
     }
 }

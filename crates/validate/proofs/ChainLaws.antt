@@ -1,11 +1,11 @@
 -- What a chain over the numbers below n answers. Assumes nothing.
-use Rattle.std.proofs.Common.{◌≡◌, ℕ, ◌+◌, ◌-◌, ◌<◌, ◌≤◌, Bool, true, false, List, [], ◌∷◌, get_or, sym, refl, ap, subst, ◌∙◌, arith}
+use Rattle.std.proofs.Common.{◌≡◌, ℕ, ◌<◌, Bool, true, false, List, get_or, sym, subst, arith}
 use denote.Param.Members.{Mut}
 use Rattle.std.specs.Prelude.{Option, MatchOption, length}
 use Rattle.std.specs.declared.ops.Range.{Range}
 use Rattle.std.specs.Bool.{MatchBool}
 use Rattle.std.specs.Fn.{Called}
-use Rattle.std.specs.Iterator.{Yields, YieldsThen, Drains, FoldTurn}
+use Rattle.std.specs.Iterator.{YieldsThen}
 use Rattle.std.specs.List.{FoldsTo, AllWithin, HoldsAt, range_with_len}
 use Rattle.std.proofs.iter.Yields.{nat_range_steps}
 use Rattle.std.proofs.lemmas.Iterator.{cases_from_all, YieldsList-from_range}
@@ -35,23 +35,3 @@ module _ {F : Type 0} {g : Mut F (ℕ × Unit {0}) Bool} {s : Range ℕ} (n : �
       by false h =
           let b : h.0 < n = omega (arith, h.1, length-range_with_len 0 n) in
           sym (all_fails n p h.0 b (subst (λ x. x < n → p x ≡ false) (at h.0 0 b) (h.2 0) b))
-
--- what holds of the value before the first number, and after each from before it, holds at the end
-module _ {F C : Type 0} {g : Mut F (C × (ℕ × Unit {0})) C} (n : ℕ) (J : ℕ → C → Type 0) (f : F)
-    (turn : (k : ℕ) (x y : C) (q : F) → k < n → J k x → Called g f (x, (k, tt)) y q → J (k + 1) y × (q ≡ f)) where
-  along : (xs : List ℕ) (s t : Range ℕ) (a r : C) (h h' : F) → h ≡ f → s.end ≡ n → s.start ≤ n → Yields nat_range_steps s xs t
-      → FoldsTo {P = F × C} (FoldTurn g) (h, a) xs (h', r) → J s.start a → (t.end ≡ n) × (t.start ≤ n) × J t.start r
-  along [] s t a r h h' e m l y c j = subst (λ (k : Range ℕ). (k.end ≡ n) × (k.start ≤ n) × J k.start r) y (m, l, subst (J s.start) (ap (λ p. p.1) c) j)
-  along (x ∷ xs) s t a r h h' e m l y c j =
-      let i = y.0 in
-      let b = y.1 in
-      let z : Called g f (a, (s.start, tt)) c.0.1 c.0.0 = subst (λ (k : ℕ). Called g f (a, (k, tt)) c.0.1 c.0.0) b.1.1 (subst (λ (k : F). Called g k (a, (x, tt)) c.0.1 c.0.0) e c.1) in
-      let k = turn s.start a c.0.1 c.0.0 (omega (arith, b.1.0)) j z in
-      along xs i t c.0.1 r c.0.0 h' k.1 (b.0 ∙ m) (omega (arith, b.1.0, b.1.2)) y.2 c.2 (subst (λ (w : ℕ). J w c.0.1) (sym b.1.2) k.0)
-
-  pub fold_of : {s : Range ℕ} (a r : C) → s ≡ record { start = 0; end = n }
-      → (xs : List ℕ) × (f' : F) × Drains nat_range_steps s xs × FoldsTo {P = F × C} (FoldTurn g) (f, a) xs (f', r) → J 0 a → J n r
-  fold_of {s} a r e ran j =
-      let d = ran.2 in
-      let k = along ran.0 s d.1.0 a r f ran.1 refl (ap (λ w. w.end) e) (omega (arith, ap (λ w. w.start) e)) d.1.1 ran.3 (subst (λ (w : ℕ). J w a) (sym (ap (λ w. w.start) e)) j) in
-      subst (λ (w : ℕ). J w r) (omega (arith, k.0, k.1, d.1.2.1.0)) k.2

@@ -1,72 +1,29 @@
 -- The ways in which each object's test ends, for the code that makes it. Assumes nothing.
-use Rattle.std.proofs.Common.{◌≡◌, ℕ, ◌+◌, ◌-◌, ◌*◌, ◌/◌, ◌<◌, ◌≤◌, Bool, true, false, ◌&&◌, ◌||◌, eqb, ltb, leb, List, sym, ◌∙◌, add-zero, mul-one, arith, ltb-true, le-ltb, lt-ltb, eq-eqb, ne_eqb, le-leb}
+use Rattle.std.proofs.Common.{◌≡◌, ℕ, ◌+◌, ◌-◌, ◌*◌, ◌/◌, ◌≤◌, true, ◌&&◌, ltb, leb, List, sym, ◌∙◌, add-zero, mul-one, arith, le-ltb, lt-ltb, eq-eqb, ne_eqb, le-leb}
 use native.Mathlib.Decide.{dec_lt}
 use borrow.Author.Tests.{lt-leb}
 use Rattle.wire.specs.Codec.{fields_at}
 use Rattle.wire.specs.Le.{le_at}
-use Rattle.wire.specs.Scan.{all, all_below}
+use Rattle.wire.specs.Scan.{all_below}
 use Rattle.wire.specs.Table.{row_at, place}
 use Rattle.wire.proofs.LeLaws.{zero_word}
-use Rattle.wire.proofs.ScanLaws.{all_at, block_more, and_left, and_right}
-use Rattle.tables.specs.Card.{cq_live}
-use Rattle.tables.specs.Layout.{memory_t, mr_flag_t, mr_flag_base, mr_t, cq_flag_t, cq_t, qp_flag_t, qp_t, flag_codec}
-use Rattle.tables.specs.Limits.{most_places, most_waiting, most_queued, page_size, most_pages}
-use Rattle.tables.specs.State.{PairRows, card, queue_at, region_at, pair_at, pages_at, pages_needed, unread, posted, queued_in}
-use Rattle.tables.specs.declared.QueueHead.{QueueHead}
+use Rattle.wire.proofs.ScanLaws.{all_at, block_more}
+use Rattle.tables.specs.Layout.{memory_t, mr_flag_t, mr_flag_base, mr_t, flag_codec}
+use Rattle.tables.specs.Limits.{page_size, most_pages}
+use Rattle.tables.specs.State.{card, region_at, pages_at, pages_needed}
 use Rattle.tables.specs.declared.Region.{Region}
 use Rattle.validate.specs.Together.{Zeros}
-use Rattle.validate.specs.Accept.{cq_ok, mr_ok, qp_ok, completion_ok, receive_ok, queue_ok, fields_ok, page_inside, numbers_ok, paged_ok, land_ok, pair_ok, names_ok, receives_ok, may_queue, queued_ok, sends_ok}
-
--- a flag, and the rest of the test
-module _ (flag : ℕ) (b : Bool) where
-  flag_free : flag ≡ 0 → (eqb flag 0 || (eqb flag 1 && b)) ≡ true
-  flag_free e = rw e
-
-  flag_wrong : (flag ≡ 0 → ⊥) → (flag ≡ 1 → ⊥) → (eqb flag 0 || (eqb flag 1 && b)) ≡ false
-  flag_wrong e f = rw (ne_eqb flag 0 e, ne_eqb flag 1 f)
-
-  flag_live : flag ≡ 1 → (eqb flag 0 || (eqb flag 1 && b)) ≡ b
-  flag_live e = rw e
+use Rattle.validate.specs.Accept.{mr_ok, fields_ok, page_inside, numbers_ok, paged_ok, land_ok}
 
 module _ (l : List ℕ) (n : ℕ) where
-  pub cq_off : row_at cq_flag_t l n ≡ 0 → cq_ok l n ≡ true
-  unfolding cq_ok queue_at
-  cq_off e = flag_free (row_at cq_flag_t l n) _ e
-
-  pub cq_flag : (row_at cq_flag_t l n ≡ 0 → ⊥) → (row_at cq_flag_t l n ≡ 1 → ⊥) → cq_ok l n ≡ false
-  unfolding cq_ok queue_at
-  cq_flag e f = flag_wrong (row_at cq_flag_t l n) _ e f
-
-  pub cq_rest : row_at cq_flag_t l n ≡ 1 → cq_ok l n ≡ (queue_ok (row_at cq_t l n) && all completion_ok (unread (queue_at l n)))
-  unfolding cq_ok queue_at
-  cq_rest e = flag_live (row_at cq_flag_t l n) _ e
-
   pub mr_off : row_at mr_flag_t l n ≡ 0 → mr_ok l n ≡ true
   unfolding mr_ok region_at
   mr_off e = rw (eq-eqb (row_at mr_flag_t l n) 0 e)
-
-  pub mr_flag : (row_at mr_flag_t l n ≡ 0 → ⊥) → (row_at mr_flag_t l n ≡ 1 → ⊥) → mr_ok l n ≡ false
-  unfolding mr_ok region_at
-  mr_flag e f = rw (ne_eqb (row_at mr_flag_t l n) 0 e, ne_eqb (row_at mr_flag_t l n) 1 f)
 
   pub mr_rest : row_at mr_flag_t l n ≡ 1
       → mr_ok l n ≡ ((card l).pd (row_at mr_t l n).pd && (fields_ok (row_at mr_t l n) && land_ok (row_at memory_t l 0) (region_at l n)))
   unfolding mr_ok region_at
   mr_rest e = rw e
-
-  pub qp_off : row_at qp_flag_t l n ≡ 0 → qp_ok l n ≡ true
-  unfolding qp_ok pair_at
-  qp_off e = flag_free (row_at qp_flag_t l n) _ e
-
-  pub qp_flag : (row_at qp_flag_t l n ≡ 0 → ⊥) → (row_at qp_flag_t l n ≡ 1 → ⊥) → qp_ok l n ≡ false
-  unfolding qp_ok pair_at
-  qp_flag e f = flag_wrong (row_at qp_flag_t l n) _ e f
-
-  -- the tests of a live queue pair: what it names, its own fields, its receives, its queued sends
-  pub qp_rest : row_at qp_flag_t l n ≡ 1
-      → qp_ok l n ≡ (names_ok (card l).pd (cq_live (card l)) (row_at qp_t l n) && pair_ok n (row_at qp_t l n) && receives_ok (pair_at l n) && sends_ok (pair_at l n))
-  unfolding qp_ok pair_at
-  qp_rest e = flag_live (row_at qp_flag_t l n) _ e
 
 -- where a region lies, from its row r
 pub need_most : (start size : ℕ) → start + size ≤ most_pages * page_size → pages_needed start size ≤ most_pages
@@ -82,15 +39,7 @@ page_by_number memory n =
     ]
 
 module _ (l : List ℕ) (n memory : ℕ) (r : Region) (is : r ≡ row_at mr_t l n) where
-  pub paged_start : page_size - 1 < r.start → paged_ok memory (region_at l n) ≡ false
-  unfolding region_at
-  paged_start h = rw (← is, lt-leb r.start (page_size - 1) h)
-
   module _ (offset : r.start ≤ page_size - 1) where
-    pub paged_long : leb (r.start + r.length) (most_pages * page_size) ≡ false → paged_ok memory (region_at l n) ≡ false
-    unfolding region_at
-    paged_long e = rw (← is, le-leb r.start (page_size - 1) offset, e)
-
     pub paged_rest : leb (r.start + r.length) (most_pages * page_size) ≡ true
         → paged_ok memory (region_at l n) ≡ numbers_ok memory (pages_needed r.start r.length) (pages_at l n)
     unfolding region_at
@@ -100,48 +49,9 @@ module _ (l : List ℕ) (n memory : ℕ) (r : Region) (is : r ≡ row_at mr_t l 
   unfolding region_at
   land_flat e = rw (← is, eq-eqb r.kind 0 e)
 
-  pub land_wrong : (r.kind ≡ 0 → ⊥) → (r.kind ≡ 1 → ⊥) → land_ok memory (region_at l n) ≡ false
-  unfolding region_at
-  land_wrong e f = rw (← is, ne_eqb r.kind 0 e, ne_eqb r.kind 1 f)
-
   pub land_paged : (r.kind ≡ 0 → ⊥) → r.kind ≡ 1 → land_ok memory (region_at l n) ≡ paged_ok memory (region_at l n)
   unfolding region_at
   land_paged e f = rw (← is, ne_eqb r.kind 0 e, eq-eqb r.kind 1 f)
-
--- where a sound queue's oldest completion stands
-pub head_first : (h : QueueHead) → queue_ok h ≡ true → h.first < most_places
-head_first h e =
-    let a : Bool = leb 1 h.places && leb h.places most_places in
-    let b : Bool = ltb h.first most_places in
-    ltb-true h.first most_places (and_right a b (and_left (a && b) (leb h.count h.places) e))
-
-module _ (r : PairRows) where
-  pub waiting_first : most_waiting ≤ r.head.first → receives_ok r ≡ false
-  waiting_first b = rw (le-ltb r.head.first most_waiting b)
-
-  pub waiting_count : r.head.first < most_waiting → most_waiting < r.head.count → receives_ok r ≡ false
-  waiting_count b d = rw (lt-ltb r.head.first most_waiting b, lt-leb r.head.count most_waiting d)
-
-  pub waiting_rest : r.head.first < most_waiting → r.head.count ≤ most_waiting → receives_ok r ≡ all receive_ok (posted r)
-  waiting_rest b d = rw (lt-ltb r.head.first most_waiting b, le-leb r.head.count most_waiting d)
-
-  -- its queued sends
-  pub sends_first : most_queued ≤ r.sends.first → sends_ok r ≡ false
-  sends_first b = rw (le-ltb r.sends.first most_queued b)
-
-  module _ (b : r.sends.first < most_queued) where
-    pub sends_empty : r.sends.count ≡ 0 → sends_ok r ≡ true
-    sends_empty z = rw (lt-ltb r.sends.first most_queued b, z)
-
-    pub sends_count : most_queued < r.sends.count → sends_ok r ≡ false
-    sends_count d = rw (lt-ltb r.sends.first most_queued b, lt-leb r.sends.count most_queued d)
-
-    module _ (d : r.sends.count ≤ most_queued) (z : r.sends.count ≡ 0 → ⊥) where
-      pub sends_state : may_queue r.row.state ≡ false → sends_ok r ≡ false
-      sends_state m = rw (lt-ltb r.sends.first most_queued b, le-leb r.sends.count most_queued d, ne_eqb r.sends.count 0 z, m)
-
-      pub sends_rest : may_queue r.row.state ≡ true → sends_ok r ≡ all queued_ok (queued_in r)
-      sends_rest m = rw (lt-ltb r.sends.first most_queued b, le-leb r.sends.count most_queued d, ne_eqb r.sends.count 0 z, m)
 
 -- eight slots more: their flags are one zero word, or each was tested
 module _ (l : List ℕ) (g : ℕ) (before : all_below (8 * g) (mr_ok l) ≡ true) where

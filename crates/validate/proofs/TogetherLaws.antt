@@ -1,8 +1,10 @@
 -- From tests of several rows together to the test of each. Assumes nothing.
-use Rattle.std.proofs.Common.{◌≡◌, ℕ, zero, suc, ◌+◌, ◌-◌, ◌*◌, ◌/◌, ◌%◌, ◌^◌, ◌<◌, ◌≤◌, Bool, true, false, ◌&&◌, ◌||◌, eqb, ltb, leb, ◌⊎◌, List, get_or, sym, refl, ap, ap₂, ◌∙◌, inl, inr, ⊎_elim, add-zero, mod-lt, mod-eq_of_lt, mul-one, arith, ltb-true, le-ltb, lt-ltb, eq-eqb, eqb-true, le-leb, leb-true}
-use native.Mathlib.Decide.{dec_le, dec_lt}
+use Rattle.std.proofs.Common.{◌≡◌, ℕ, zero, suc, ◌+◌, ◌-◌, ◌*◌, ◌/◌, ◌%◌, ◌<◌, ◌≤◌, Bool, true, ◌&&◌, eqb, ltb, leb, ◌⊎◌, List, get_or, sym, refl, ap, ap₂, ◌∙◌, inl, inr, ⊎_elim, add-zero, mod-lt, mod-eq_of_lt, mul-one, arith, ltb-true, lt-ltb, eq-eqb, eqb-true, le-leb, leb-true}
+use native.Mathlib.Decide.{dec_lt}
 use native.Mathlib.Nat.{mod-add-mod}
-use borrow.Author.Tests.{lt-leb, not-false}
+use borrow.Author.Tests.{not-false}
+use Rattle.std.proofs.Math.Bool.{and-true, and_assoc}
+use Rattle.std.proofs.lemmas.Bool.{or_cases}
 use Rattle.wire.specs.Codec.{fields_at}
 use Rattle.wire.specs.Le.{le_at}
 use Rattle.wire.specs.Ring.{ring_place, ring_list}
@@ -64,10 +66,6 @@ module _ (l : List ℕ) (n : ℕ) where
   unfolding row_at mr_t region_codec fields_at place
   variant_is = refl
 
-  pub kind_is : le_at 1 l (mr_base + n * 32 + 3) ≡ (row_at mr_t l n).kind
-  unfolding row_at mr_t region_codec fields_at place
-  kind_is = refl
-
 -- the first four numbers are bytes
 pub record Small (r : Region) : Type 0 where
   pub access : r.access < 256
@@ -102,10 +100,6 @@ record Fields (r : Region) : Type 0 where
 word_fields : (r : Region) → Small r → Fields r
 word_fields r s = record { byte = omega arith; low = omega arith; second = omega arith; pd = omega arith; kind = omega arith }
 
-or_cases : (a b : Bool) → (a || b) ≡ true → (a ≡ true) ⊎ (b ≡ true)
-or_cases true b e = inl refl
-or_cases false b e = inr e
-
 -- the word of one row is between what all words and any have in common
 pub word_by : (kind domains all any : ℕ) (r : Region) → kind < 256 → Small r → words_ok kind domains any all ≡ true → Between all any (first_word r)
     → word_ok kind domains r ≡ true
@@ -136,29 +130,6 @@ word_by kind domains all any r small s e b =
     (or_cases (eqb (all % 2) 1) (eqb (any / 2 % 2) 0) (and_left w a e2))))
     (lt-ltb r.pd domains (omega arith)))
     (eq-eqb r.kind kind (omega arith))
-
--- ---- a range by the place before its length
-
-and_false : (b : Bool) → (b && false) ≡ false
-and_false true = refl
-and_false false = refl
-
-module _ (limit : ℕ) (r : Region) where
-  pub range_far : limit < r.start → range_ok limit r ≡ false
-  range_far h = rw (lt-leb (r.start + r.length) limit (omega arith)) (and_false (leb 1 r.length))
-
-  -- u is the length less 1, and wraps where that is 0
-  pub range_by : (u : ℕ) → (u + 1) % 2 ^ 64 ≡ r.length → u < 2 ^ 64 → limit < 2 ^ 64 → r.start ≤ limit → ltb u (limit - r.start) ≡ range_ok limit r
-  range_by u e b m h =
-      elim (dec_lt u (limit - r.start)) [
-        | yes q ↦
-            let z : r.length ≡ u + 1 = omega arith in
-            rw (lt-ltb u (limit - r.start) q, le-leb 1 r.length (omega arith), le-leb (r.start + r.length) limit (omega arith))
-        | no q ↦ le-ltb u (limit - r.start) (omega arith) ∙ sym (elim (dec_le 1 r.length) [
-          | yes p ↦ rw (lt-leb (r.start + r.length) limit (omega arith)) (and_false (leb 1 r.length))
-          | no p ↦ rw (lt-leb 1 r.length (omega arith))
-        ])
-      ]
 
 -- ---- a live region of one of the first domains, which are live
 
@@ -281,18 +252,10 @@ ring_each d cap p r h f (suc n) b =
     all_cons p (get_or r f d) (ring_list d cap r ((f + 1) % cap) n)
     ∙ both_true (p (get_or r f d)) (all p (ring_list d cap r ((f + 1) % cap) n)) (h f b) (ring_each d cap p r h ((f + 1) % cap) n (mod-lt (f + 1) (omega arith)))
 
-and_true : (b : Bool) → b ≡ (b && true)
-and_true true = refl
-and_true false = refl
-
-and_assoc : (a b c : Bool) → ((a && b) && c) ≡ (a && (b && c))
-and_assoc true b c = refl
-and_assoc false b c = refl
-
 -- the first of several tests, and the others
 all_first : (n : ℕ) (p : ℕ → Bool) → all_below (suc n) p ≡ (p 0 && all_below n (λ k. p (k + 1)))
 unfolding all_below
-all_first zero p = and_true (p 0)
+all_first zero p = sym (and-true (p 0))
 all_first (suc n) p =
     let e : suc n ≡ n + 1 = omega arith in
     ap (λ (b : Bool). b && p (suc n)) (all_first n p) ∙ and_assoc (p 0) (all_below n (λ k. p (k + 1))) (p (suc n)) ∙ ap (λ (k : ℕ). p 0 && (all_below n (λ k. p (k + 1)) && p k)) e

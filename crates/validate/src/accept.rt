@@ -19,6 +19,8 @@ use tables::limits::{
 use tables::rows::{STATE_SIZE, State};
 use tables::{Completion, Kind, QueueHead, QueuePair, WaitingHead, WorkQueue, rows};
 
+// pd_live and cq_live are a line each: one function of both would take the count, the number and a loader.
+
 fn is_status(s: u8) -> bool
     ensures { result ≡ is_status s }
 {

@@ -15,7 +15,7 @@ use tables::limits::{ERROR, MOST_QUEUED, RTS};
 use tables::rows::State;
 use tables::{SendKind, SendRecord, WaitingHead, WorkQueue, records, rows};
 
-// The tests of answer 4, of a queued send's numbers in the column.
+// The tests of answer 4, of a queued send's numbers in the column. What they do not look at is 0: SendRecord has no default.
 fn kind_bad(k: SendKind) -> bool
     ensures { result ≡ send_bad (sent_in (record { kind = k; body = [] })) }
 {
@@ -35,8 +35,8 @@ fn kinds_pass(state: &State, n: usize) -> bool
     requires { n < qp_count }
     ensures { Enough result (all_below most_queued (λ k. queued_ok (place_at state.now (most_queued * n + k)))) }
 {
-    !(0..MOST_QUEUED).fold(false, |bad, k| {
-        bad | kind_bad(rows::load_kind(state, MOST_QUEUED * n + k))
+    !together::any_number(MOST_QUEUED, |k| {
+        kind_bad(rows::load_kind(state, MOST_QUEUED * n + k))
     })
 }
 

@@ -2,7 +2,7 @@
 // state test looks at the rows one by one.
 ghost use Rattle.std.specs.Prelude.{◌≡◌, ◌+◌, ◌-◌, ◌*◌, ◌/◌, ◌^◌, ◌<◌, ◌≤◌, ℕ, Bool, true, length, if◌then◌else◌, nat_eq, nat_le};
 ghost use Rattle.wire.specs.Ring.{ring_place};
-ghost use Rattle.wire.specs.Scan.{all_below};
+ghost use Rattle.wire.specs.Scan.{all_below, any_below};
 ghost use Rattle.wire.specs.Table.{row_at};
 ghost use Rattle.tables.specs.Layout.{state_size, page_count, memory_t, mr_flag_t, entry_t, receive_t};
 ghost use Rattle.tables.specs.Limits.{cq_count, mr_count, qp_count, most_pages, page_size, most_places, most_waiting};
@@ -31,10 +31,7 @@ const MANY_WAITING: u8 = 2;
 fn first_word(r: Region) -> u32
     ensures { result ≡ first_word r }
 {
-    (r.access as u32)
-        + 256 * (r.variant as u32)
-        + 65536 * (r.pd as u32)
-        + 16777216 * (r.kind as u32)
+    u32::from_le_bytes([r.access, r.variant, r.pd, r.kind])
 }
 
 // Remote write of one of them is no fault where each has local write.
@@ -65,14 +62,15 @@ fn range_ok(r: Region, limit: u64) -> bool
     r.start <= limit && std::num::wrapping_sub_u64(r.length, 1) < limit - r.start
 }
 
+#[tactic(auto, using(std::proofs::lemmas::Nat::le_or_l, std::proofs::lemmas::Nat::le_or_r))]
 fn joined(a: u16, b: u16) -> u16
-    ensures { (a ≤ result) × (b ≤ result) × (result < 65536) }
+    ensures { (a ≤ result) × (b ≤ result) }
 {
     a | b
 }
 
 fn larger(a: u16, b: u16) -> u16
-    ensures { (a ≤ result) × (b ≤ result) × (result < 65536) }
+    ensures { (a ≤ result) × (b ≤ result) }
 {
     if a < b { b } else { a }
 }
@@ -129,7 +127,7 @@ impl Eight<'_> {
     {
         let mut any: u64 = 0;
         for i in 0..8 {
-            any = any | number(self.row(i));
+            any |= number(self.row(i));
         }
         any <= limit
     }
@@ -142,8 +140,8 @@ impl Eight<'_> {
         let mut all: u32 = 0xffff_ffff;
         for i in 0..8 {
             let w = first_word(self.row(i));
-            any = any | w;
-            all = all & w;
+            any |= w;
+            all &= w;
         }
         words_ok(any, all, kind, domains)
     }
@@ -197,6 +195,20 @@ impl Eight<'_> {
     }
 }
 
+// ---- numbers of a table
+
+// Whether any number below count passes. All are tested, several at a time in the machine code.
+pub fn any_number<F: Fn(usize) -> bool>(count: usize, test: F) -> bool
+    requires { (n : ℕ) → n < count → F.pre test n }
+    ensures { (p : ℕ → Bool) → Tells (F.post test) count p → result ≡ any_below count p }
+{
+    let mut found = false;
+    for n in 0..count {
+        found = test(n) | found;
+    }
+    found
+}
+
 // ---- free slots
 
 // The four words from index at on, or-ed.
@@ -210,7 +222,8 @@ fn four_words(s: &[u8], at: usize) -> u64
         | wire::get::<u64>(s, at + 24)
 }
 
-// Past eights of region slots from this one on that are all free, four at a time.
+// Past eights of region slots from this one on that are all free, four at a time. A while: its end is also where fewer than four are left,
+// which a stepped range does not say.
 pub fn past_free(state: &State, from: usize) -> usize
     requires { from ≤ 32 }
     ensures { (from ≤ result) × (result ≤ 32) × Enough (all_below (8 * from) (mr_ok state.now)) (all_below (8 * result) (mr_ok state.now)) }
@@ -233,6 +246,7 @@ pub fn ring_passes<F: Fn(usize) -> bool>(cap: usize, first: u8, count: u8, test:
     requires callable { (k : ℕ) → k < cap → F.pre test k }
     ensures { (p : ℕ → Bool) → Tells (F.post test) cap p → result ≡ all_below count (λ k. p (ring_place cap first k)) }
 {
+    // at goes along: found anew from its number, a place costs up to 7 instructions more
     let mut at = first as usize;
     for _ in 0..count {
         if !test(at) {
@@ -259,9 +273,9 @@ pub fn completions_pass(state: &State, n: usize, count: u8) -> bool
         if MOST_MESSAGE < e.length {
             return false;
         }
-        statuses = statuses | e.status;
-        opcodes = opcodes | e.opcode;
-        owners = owners | e.owner;
+        statuses |= e.status;
+        opcodes |= e.opcode;
+        owners |= e.owner;
     }
     (statuses <= LOCAL_LENGTH) & (opcodes <= RECEIVED_WRITE) & (owners < QP_COUNT as u32)
 }

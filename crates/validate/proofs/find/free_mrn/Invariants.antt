@@ -1,4 +1,4 @@
-use Rattle.std.proofs.Common.{◌≡◌, ◌-◌, ◌*◌, ◌/◌, ◌≤◌, true, not}
+use Rattle.std.proofs.Common.{◌≡◌, ◌*◌, ◌/◌, ◌≤◌, true, not}
 use Rattle.wire.specs.Scan.{all_below}
 use Rattle.tables.specs.Limits.{mr_count}
 use Rattle.tables.specs.State.{card}

@@ -1,4 +1,4 @@
-use Rattle.std.proofs.Common.{ℕ, ◌+◌, ◌*◌, rules}
+use Rattle.std.proofs.Common.{◌+◌, ◌*◌, rules}
 use Rattle.validate.specs.Accept.{mr_ok}
 use Rattle.validate.proofs.ChainLaws.{all_of}
 use Rattle.validate.proofs.regions.eight_ok.Goals as goal

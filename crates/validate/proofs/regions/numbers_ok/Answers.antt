@@ -1,4 +1,4 @@
-use Rattle.std.proofs.Common.{◌≡◌, ℕ, ◌*◌, ◌/◌, ◌<◌, Bool, get_or, ltb, sym, ap, ◌∙◌, rules}
+use Rattle.std.proofs.Common.{◌*◌, get_or, sym, ◌∙◌, rules}
 use Rattle.tables.specs.Limits.{page_size}
 use Rattle.tables.specs.State.{pages_at}
 use Rattle.tables.proofs.ObjectLaws.{page_at}

@@ -1,4 +1,4 @@
-use Rattle.std.proofs.Common.{◌+◌, ◌*◌, ℕ, sym, ◌∙◌, rules}
+use Rattle.std.proofs.Common.{◌+◌, ◌*◌, sym, ◌∙◌, rules}
 use Rattle.tables.specs.Limits.{most_queued}
 use Rattle.tables.specs.State.{place_at}
 use Rattle.validate.specs.Accept.{queued_ok}

@@ -1,4 +1,4 @@
-use Rattle.std.proofs.Common.{ℕ, ◌+◌, ◌-◌, ◌*◌, ◌<◌, ◌≤◌}
+use Rattle.std.proofs.Common.{ℕ, ◌+◌, ◌*◌, ◌<◌, ◌≤◌}
 use Rattle.wire.specs.Table.{row_at}
 use Rattle.tables.specs.Layout.{entry_t}
 use Rattle.tables.specs.Limits.{most_places, most_message}

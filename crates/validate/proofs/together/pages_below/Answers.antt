@@ -1,4 +1,4 @@
-use Rattle.std.proofs.Common.{◌≡◌, ℕ, ◌+◌, arith, rules}
+use Rattle.std.proofs.Common.{◌≡◌, ◌+◌, arith, rules}
 use Rattle.wire.specs.Table.{row_at}
 use Rattle.tables.specs.Layout.{page_t}
 use Rattle.validate.proofs.TogetherLaws.{max_more, pages_by}

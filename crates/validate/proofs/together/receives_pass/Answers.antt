@@ -1,4 +1,4 @@
-use Rattle.std.proofs.Common.{ℕ, ◌+◌, ◌*◌, sym, ◌∙◌, rules}
+use Rattle.std.proofs.Common.{◌+◌, ◌*◌, sym, ◌∙◌, rules}
 use Rattle.wire.specs.Table.{row_at}
 use Rattle.tables.specs.Layout.{receive_t}
 use Rattle.tables.specs.Limits.{most_waiting}

@@ -1,4 +1,4 @@
-use Rattle.std.proofs.Common.{◌≡◌, ℕ, ◌+◌, ◌%◌, ◌<◌, Bool, true, false, sym, ap, ◌∙◌, add-zero, mod-lt, mod-eq_of_lt, arith, rules}
+use Rattle.std.proofs.Common.{◌≡◌, ℕ, ◌+◌, ◌%◌, sym, ap, ◌∙◌, add-zero, mod-lt, mod-eq_of_lt, arith, rules}
 use native.Mathlib.Nat.{mod-add-mod}
 use Rattle.wire.specs.Ring.{ring_place}
 use Rattle.wire.proofs.ScanLaws.{all_none, all_more, all_fails}

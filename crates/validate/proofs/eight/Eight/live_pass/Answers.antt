@@ -1,4 +1,4 @@
-use Rattle.std.proofs.Common.{◌≡◌, ◌∙◌, rules, eq-eqb, ne_eqb}
+use Rattle.std.proofs.Common.{◌≡◌, ◌∙◌, rules, eq-eqb}
 use Rattle.wire.specs.Table.{row_at}
 use Rattle.tables.specs.Layout.{memory_t}
 use Rattle.validate.proofs.TogetherLaws.{eight_flat, eight_paged}

@@ -1,4 +1,4 @@
-use Rattle.std.proofs.Common.{ℕ, ◌+◌, ◌*◌, sym, ap, leb, ◌∙◌, rules}
+use Rattle.std.proofs.Common.{◌+◌, ◌*◌, rules}
 use Rattle.wire.specs.Table.{row_at}
 use Rattle.tables.specs.Layout.{mr_t}
 use Rattle.validate.specs.Together.{variant_ok}

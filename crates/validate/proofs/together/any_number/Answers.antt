@@ -1,6 +1,6 @@
-use Rattle.std.proofs.Common.{◌≡◌, ℕ, sym, arith, rules}
+use Rattle.std.proofs.Common.{sym, rules}
 use Rattle.wire.proofs.ScanLaws.{any_none, any_more}
-use Rattle.validate.proofs.find.any_number.Goals as goal
+use Rattle.validate.proofs.together.any_number.Goals as goal
 
 pub loop-n-init : goal.loop-n-init
 loop-n-init g c = (search rules, λ p t. sym (any_none p))
