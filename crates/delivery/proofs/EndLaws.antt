@@ -244,9 +244,11 @@ module _ (l : List ℕ) (q : ℕ) (own : QueuePair) (at : Sender l q own) (s : S
     flush_held h sges b m = held l q o (request_by s sges b) refl m 6 (error_stops l q o own at six h)
 
     module _ (wr : s.wr < 2 ^ 64) (free : refusal (hold_checks (card l) q (bare o)) ≡ none) where
-      pub flush_needs : (q < qp_count) × (own.scq < cq_count) × (length l ≡ state_size) × ((row_at cq_t l own.scq).count < most_places)
+      pub flush_needs : (q < qp_count) × (own.scq < cq_count) × ((row_at cq_t l own.scq).count < most_places)
       flush_needs =
-          flush_asks l [] q at.accepted (sender_live l q o own at) (errs_then six) s [] [] wr free own at.row
+          let f : (q < qp_count) × (own.scq < cq_count) × (length l ≡ state_size) × ((row_at cq_t l own.scq).count < most_places) =
+          flush_asks l [] q at.accepted (sender_live l q o own at) (errs_then six) s [] [] wr free own at.row in
+          (f.0, f.1, f.3)
 
       module _ (l' : List ℕ) (is : l' ≡ push_bytes l own.scq (sender_entry q s.wr o 4 0)) where
         pub flush_leaves : (sges : List Sge) (b m : List ℕ) → Carried l q (request_by s sges b) m 4 l' m

@@ -177,7 +177,8 @@ impl Eight<'_> {
         requires state_value { all_below domains (card self.state.now).pd ≡ true }
         ensures { Enough result (all_below 8 (λ i. mr_ok self.entry.state.now (8 * self.entry.g + i))) }
     {
-        let kind = wire::get::<u8>(self.state, rows::MRS + 8 * self.g * rows::MR_SIZE + 3);
+        let state = self.state;
+        let kind = wire::get::<u8>(state, rows::MRS + 8 * self.g * rows::MR_SIZE + 3);
         self.rows_pass(kind, limit_of(kind, self.memory), domains)
             && match kind {
                 FLAT => true,
@@ -190,8 +191,9 @@ impl Eight<'_> {
     pub fn regions_pass(self) -> bool
         ensures { Enough result (all_below 8 (λ i. mr_ok self.entry.state.now (8 * self.entry.g + i))) }
     {
-        8 <= wire::lowest_clear(self.state, rows::MR_FLAGS + 8 * self.g, 1)
-            && self.live_pass(wire::lowest_clear(self.state, rows::PD_FLAGS, 1))
+        let state = self.state;
+        8 <= wire::lowest_clear(state, rows::MR_FLAGS + 8 * self.g, 1)
+            && self.live_pass(wire::lowest_clear(state, rows::PD_FLAGS, 1))
     }
 }
 

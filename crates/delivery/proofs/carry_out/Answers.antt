@@ -10,7 +10,6 @@ taken_receive-w-requires c =
     let r = a.r.now in
     let told : Told c.args.r.now.head c.args.r.now.inline.now = record { limits = c.args.r.now.bounded; wr = search rules; imm = search rules } in (
       peer_below a.state.now a.memory.now a.e.q c.requires.ready.accepted r.head r.sges.now r.inline.now told c.requires.met.good a.e c.requires.met.rows,
-      c.requires.ready.size,
       head_below a.state.now a.memory.now a.e.q c.requires.ready.accepted r.head r.sges.now r.inline.now told c.requires.met.good a.e c.requires.met.rows,
     )
 

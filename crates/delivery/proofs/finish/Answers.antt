@@ -6,7 +6,7 @@ use borrow.Author.Rules.{rules}
 use Rattle.delivery.proofs.finish.Goals as goal
 
 pub load_qp-own-requires : goal.load_qp-own-requires
-load_qp-own-requires c = (qp_below c.args.state.now c.args.q c.requires.1, c.requires.0.size)
+load_qp-own-requires c = qp_below c.args.state.now c.args.q c.requires.1
 
 pub put_work-requires : goal.put_work-requires
 put_work-requires c =
@@ -25,7 +25,7 @@ pub load_qp-far-requires : goal.load_qp-far-requires
 load_qp-far-requires c =
     let a = c.args in
     let its : Sender a.state.now a.q c.load_qp-own.result = sender a.state.now c.requires.0.accepted c.requires.0.size a.q c.requires.1 _ c.load_qp-own.ensures in
-    (dest_below a.state.now a.q _ its a.r.now.head c.if-own-eq-ERROR.false (free_passes a.state.now a.q a.r.now.head.opcode c.requires.2), c.requires.0.size)
+    dest_below a.state.now a.q _ its a.r.now.head c.if-own-eq-ERROR.false (free_passes a.state.now a.q a.r.now.head.opcode c.requires.2)
 
 pub carry_out-requires-clause-met : goal.carry_out-requires-clause-met
 carry_out-requires-clause-met c =

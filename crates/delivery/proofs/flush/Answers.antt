@@ -8,7 +8,7 @@ pub has_place-requires : goal.has_place-requires
 has_place-requires c =
     let b = c in
     let a = b.args in
-    (sender_queue a.state.now a.q a.s.opcode a.own b.requires.0, b.requires.0.size)
+    sender_queue a.state.now a.q a.s.opcode a.own b.requires.0
 
 pub returns-then-not-has_place : goal.returns-then-not-has_place
 returns-then-not-has_place c =

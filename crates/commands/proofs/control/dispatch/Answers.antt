@@ -9,7 +9,7 @@ use Rattle.commands.proofs.control.dispatch.Goals as goal
 pub run-requires : goal.run-requires
 run-requires c =
     let read = c in
-    (read.requires, sym (verb_named read.args.command.now _ (sym read.read_verb.ensures ∙ c.in_ok-read_verb.was)).1)
+    sym (verb_named read.args.command.now _ (sym read.read_verb.ensures ∙ c.in_ok-read_verb.was)).1
 
 pub returns-in_err-read_verb : goal.returns-in_err-read_verb
 returns-in_err-read_verb c =

@@ -5,4 +5,4 @@ pub returns : goal.returns
 unfolding command_bytes
 returns c =
     let row = c in
-    rw (c.store_flag.ensures, row.store_cq.ensures, row.requires.2)
+    rw (c.store_flag.ensures, row.store_cq.ensures, row.requires.1)

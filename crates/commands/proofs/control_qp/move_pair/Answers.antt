@@ -13,7 +13,7 @@ returns c =
       row.moved_pair.ensures,
       sends.moved_head-s.ensures,
       waiting.moved_head-w.ensures,
-      sends.load_head.ensures,
+      sends.load_head-2.ensures,
       waiting.load_head.ensures,
       waiting.load_qp-p.ensures,
     ))

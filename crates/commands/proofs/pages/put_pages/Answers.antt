@@ -4,7 +4,7 @@ use Rattle.commands.proofs.PagesLaws.{number_small, put_more, put_done}
 use Rattle.commands.proofs.pages.put_pages.Goals as goal
 
 pub overflow_cast-page : goal.overflow_cast-page
-overflow_cast-page c = let s = c in omega (arith, number_small s.args.pages.now c.loop-k.k c.loop-k-test.true s.requires.3)
+overflow_cast-page c = let s = c in omega (arith, number_small s.args.pages.now c.loop-k.k c.loop-k-test.true s.requires.2)
 
 pub loop-k-preserved : goal.loop-k-preserved
 loop-k-preserved c =

@@ -6,18 +6,18 @@ use Rattle.commands.proofs.pages.register_paged.Goals as goal
 pub returns-then-not-access_ok : goal.returns-then-not-access_ok
 returns-then-not-access_ok c = rw (c.ok_or.ensures.ok_part, c.in_ok-g.was) (listed_access _ _ _ (fails c.access_ok.ensures c.if-not-access_ok.true))
 
-pub returns-then-not-pd_live : goal.returns-then-not-pd_live
-returns-then-not-pd_live c =
+pub returns-then-not-is_live : goal.returns-then-not-is_live
+returns-then-not-is_live c =
     let known = c in
     rw (known.ok_or.ensures.ok_part, known.in_ok-g.was)
-    (listed_dead _ _ _ (passes known.access_ok.ensures known.if-not-access_ok.false) (fails c.pd_live.ensures c.if-not-pd_live.true))
+    (listed_dead _ _ _ (passes known.access_ok.ensures known.if-not-access_ok.false) (fails c.is_live.ensures c.if-not-is_live.true))
 
 pub returns-then-not-in_pages : goal.returns-then-not-in_pages
 returns-then-not-in_pages c =
     let live = c in
     let known = live in
     rw (known.ok_or.ensures.ok_part, known.in_ok-g.was)
-    (listed_range _ _ _ (passes known.access_ok.ensures known.if-not-access_ok.false) (passes live.pd_live.ensures live.if-not-pd_live.false)
+    (listed_range _ _ _ (passes known.access_ok.ensures known.if-not-access_ok.false) (passes live.is_live.ensures live.if-not-is_live.false)
     (rw (← c.load_memory.ensures) (fails c.in_pages.ensures c.if-not-in_pages.true)))
 
 pub returns-then-n-ge-MR_COUNT : goal.returns-then-n-ge-MR_COUNT
@@ -26,7 +26,7 @@ returns-then-n-ge-MR_COUNT c =
     let live = range in
     let known = live in
     rw (known.ok_or.ensures.ok_part, known.in_ok-g.was)
-    (listed_full _ _ _ (passes known.access_ok.ensures known.if-not-access_ok.false) (passes live.pd_live.ensures live.if-not-pd_live.false)
+    (listed_full _ _ _ (passes known.access_ok.ensures known.if-not-access_ok.false) (passes live.is_live.ensures live.if-not-is_live.false)
     (rw (← range.load_memory.ensures) (passes range.in_pages.ensures range.if-not-in_pages.false))
     _ c.free_mrn-n.ensures c.if-n-ge-MR_COUNT.true)
 
@@ -38,8 +38,8 @@ put_pages-requires c =
     let read = range in
     let s = read in
     let inside = passes range.in_pages.ensures range.if-not-in_pages.false in
-    let fits = list_fits s.args.state.now s.args.pages.now read.in_ok-g.g s.requires.0 (rw range.load_memory.ensures at inside) in
-    (room.if-n-ge-MR_COUNT.false, put.put_region-variant.auto.state ∙ s.requires.1, fits.0, fits.1)
+    let fits = list_fits s.args.state.now s.args.pages.now read.in_ok-g.g s.requires (rw range.load_memory.ensures at inside) in
+    (room.if-n-ge-MR_COUNT.false, fits.0, fits.1)
 
 pub returns : goal.returns
 returns c =
@@ -50,7 +50,7 @@ returns c =
     let live = range in
     let known = live in
     rw (known.ok_or.ensures.ok_part, known.in_ok-g.was)
-    (listed_done _ _ _ (passes known.access_ok.ensures known.if-not-access_ok.false) (passes live.pd_live.ensures live.if-not-pd_live.false)
+    (listed_done _ _ _ (passes known.access_ok.ensures known.if-not-access_ok.false) (passes live.is_live.ensures live.if-not-is_live.false)
     (rw (← range.load_memory.ensures) (passes range.in_pages.ensures range.if-not-in_pages.false))
     _ room.free_mrn-n.ensures room.if-n-ge-MR_COUNT.false
     _ put.put_region-variant.ensures.0 _ c.key_of.ensures _ _ put.put_region-variant.ensures.1 pages.put_pages.ensures)

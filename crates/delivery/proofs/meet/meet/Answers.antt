@@ -23,7 +23,7 @@ meet_peer-requires c =
     let h = c.if-d-ge-QP_COUNT.false in
     let k = queues_below a.state.now a.q a.opcode a.own b.requires.0 b.requires.1 h _ c.is_live-live.ensures _
     c.load_qp-far.ensures (sym c.answers_to.ensures ∙ c.if-not-answers_to.false) in
-    (k.0, k.1, h, b.requires.0.size)
+    (k.0, k.1, h)
 
 pub returns : goal.returns
 returns c =

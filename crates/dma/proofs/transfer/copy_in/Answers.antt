@@ -9,7 +9,6 @@ pub place_of-to-requires : goal.place_of-to-requires
 place_of-to-requires c =
     let s = c in (
       s.requires.ready.accepted,
-      s.requires.ready.size,
       front_mapped s.args.state.now s.args.memory.now s.requires.ready s.args.s s.requires.s_value.0 _ c.run_of-n.ensures.most,
     )
 
@@ -18,7 +17,6 @@ place_of-then-requires c =
     let run = c in
     let s = run in (
       s.requires.ready.accepted,
-      s.requires.ready.size,
       back_mapped s.args.state.now s.args.memory.now s.requires.ready s.args.s s.requires.s_value.0 _ run.run_of-n.ensures.most,
     )
 

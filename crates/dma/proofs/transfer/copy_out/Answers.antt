@@ -8,7 +8,6 @@ pub place_of-from-requires : goal.place_of-from-requires
 place_of-from-requires c =
     let s = c in (
       s.requires.ready.accepted,
-      s.requires.ready.size,
       front_mapped s.args.state.now s.args.memory.now s.requires.ready s.args.s s.requires.s_value.0 _ c.run_of-n.ensures.most,
     )
 
@@ -17,7 +16,6 @@ place_of-then-requires c =
     let run = c in
     let s = run in (
       s.requires.ready.accepted,
-      s.requires.ready.size,
       back_mapped s.args.state.now s.args.memory.now s.requires.ready s.args.s s.requires.s_value.0 _ run.run_of-n.ensures.most,
     )
 

@@ -13,37 +13,37 @@ pub load_mr-r-requires : goal.load_mr-r-requires
 load_mr-r-requires c =
     let s = c in
     let f = c.if-s-eq0.false in
-    (slot_below s.args.state.now s.requires.0 s.args.s s.requires.2 (omega arith), s.requires.1)
+    slot_below s.args.state.now s.requires.0 s.args.s s.requires.1 (omega arith)
 
 pub overflow_sub-offset : goal.overflow_sub-offset
 overflow_sub-offset c =
     let s = c in
     let f = c.if-s-eq0.false in
-    row_low s.args.state.now s.requires.0 s.args.s s.requires.2 (omega arith) _ c.load_mr-r.ensures
+    row_low s.args.state.now s.requires.0 s.args.s s.requires.1 (omega arith) _ c.load_mr-r.ensures
 
 pub overflow_add-offset : goal.overflow_add-offset
 overflow_add-offset c =
     let s = c in
     let f = c.if-s-eq0.false in
-    let b = row_small s.args.state.now s.requires.0 s.args.s s.requires.2 (omega arith) _ c.load_mr-r.ensures in
+    let b = row_small s.args.state.now s.requires.0 s.args.s s.requires.1 (omega arith) _ c.load_mr-r.ensures in
     record { fits = omega arith }
 
 pub returns-then-r-eq-FLAT : goal.returns-then-r-eq-FLAT
 returns-then-r-eq-FLAT c =
     let s = c in
     let f = c.if-s-eq0.false in
-    row_flat s.args.state.now s.requires.0 s.args.s s.requires.2 (omega arith) _ c.load_mr-r.ensures c.if-r-eq-FLAT.true
+    row_flat s.args.state.now s.requires.0 s.args.s s.requires.1 (omega arith) _ c.load_mr-r.ensures c.if-r-eq-FLAT.true
 
 pub load_page-page-requires : goal.load_page-page-requires
 load_page-page-requires c =
     let s = c in
     let f = c.if-s-eq0.false in
-    let x = row_index s.args.state.now s.requires.0 s.args.s s.requires.2 (omega arith) _ c.load_mr-r.ensures c.if-r-eq-FLAT.false in
-    let y = slot_below s.args.state.now s.requires.0 s.args.s s.requires.2 (omega arith) in
-    (omega arith, s.requires.1)
+    let x = row_index s.args.state.now s.requires.0 s.args.s s.requires.1 (omega arith) _ c.load_mr-r.ensures c.if-r-eq-FLAT.false in
+    let y = slot_below s.args.state.now s.requires.0 s.args.s s.requires.1 (omega arith) in
+    omega arith
 
 pub returns : goal.returns
 returns c =
     let s = c in
     let f = c.if-s-eq0.false in
-    (row_page s.args.state.now s.requires.0 s.args.s s.requires.2 (omega arith) _ c.load_mr-r.ensures c.if-r-eq-FLAT.false _ c.load_page-page.ensures).0
+    (row_page s.args.state.now s.requires.0 s.args.s s.requires.1 (omega arith) _ c.load_mr-r.ensures c.if-r-eq-FLAT.false _ c.load_page-page.ensures).0

@@ -14,7 +14,7 @@ pub load_mr-r-requires : goal.load_mr-r-requires
 load_mr-r-requires c =
     let s = c in
     let f = c.if-s-eq0.false in
-    (slot_below s.args.state.now s.requires.ready.accepted s.args.s s.requires.s_value.0 (omega arith), s.requires.ready.size)
+    slot_below s.args.state.now s.requires.ready.accepted s.args.s s.requires.s_value.0 (omega arith)
 
 pub returns-then-r-eq-FLAT : goal.returns-then-r-eq-FLAT
 returns-then-r-eq-FLAT c =

@@ -14,7 +14,7 @@ use Rattle.engine.proofs.TurnLaws.{dead, nothing_queued, runs_by}
 use Rattle.engine.proofs.turn.can_run.Goals as goal
 
 pub is_live-requires : goal.is_live-requires
-is_live-requires c = let b = c in (b.requires.1, (accepted _ b.requires.0).sized)
+is_live-requires c = c.requires.1
 
 pub returns-then-not-is_live : goal.returns-then-not-is_live
 returns-then-not-is_live c =
@@ -22,7 +22,7 @@ returns-then-not-is_live c =
     sym (dead b.args.state.now b.requires.0 b.args.q b.requires.1 (sym c.is_live.ensures ∙ c.if-not-is_live.true))
 
 pub load_head-h-requires : goal.load_head-h-requires
-load_head-h-requires c = let b = c in (b.requires.1, (accepted _ b.requires.0).sized)
+load_head-h-requires c = c.requires.1
 
 pub returns-then-h-eq0 : goal.returns-then-h-eq0
 returns-then-h-eq0 c =
@@ -36,13 +36,13 @@ first_opcode-opcode-requires c =
     let b = c in
     let live = sym c.is_live.ensures ∙ c.if-not-is_live.false in
     let ok = accepted b.args.state.now b.requires.0 in
-    (b.requires.1, ok.sized, queue_first b.args.state.now ok b.args.q b.requires.1 (eqb-true _ 1 live))
+    (b.requires.1, queue_first b.args.state.now ok b.args.q b.requires.1 (eqb-true _ 1 live))
 
 pub is_free-requires : goal.is_free-requires
 is_free-requires c =
     let b = c in
     let live : is_live (row_at qp_flag_t b.args.state.now b.args.q) ≡ true = sym c.is_live.ensures ∙ c.if-not-is_live.false in
-    (b.requires.0, (accepted b.args.state.now b.requires.0).sized, qp_live b.args.state.now b.args.q b.requires.1 ∙ live)
+    (b.requires.0, qp_live b.args.state.now b.args.q b.requires.1 ∙ live)
 
 pub returns : goal.returns
 returns c =

@@ -8,7 +8,7 @@ use Rattle.engine.proofs.turn.run_head.Goals as goal
 pub first_send-s-requires-clause-q_lt_qp_count : goal.first_send-s-requires-clause-q_lt_qp_count
 first_send-s-requires-clause-q_lt_qp_count c =
     let h = head_of_lem c.args.state.now c.requires.0.accepted c.args.q c.requires.1 in
-    (h.below, c.requires.0.size, h.first)
+    (h.below, h.first)
 
 pub new-r-requires : goal.new-r-requires
 new-r-requires c =

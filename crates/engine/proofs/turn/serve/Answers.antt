@@ -8,16 +8,16 @@ use Rattle.tables.specs.Layout.{turn_t}
 use Rattle.tables.specs.Queue.{unqueue_bytes}
 use Rattle.rules.specs.Bytes.{head_gone_bytes}
 use Rattle.rules.specs.Turn.{after}
-use Rattle.engine.proofs.TurnLaws.{head_of_lem, waits_then, size_then}
+use Rattle.engine.proofs.TurnLaws.{head_of_lem, waits_then}
 use Rattle.engine.proofs.turn.serve.Goals as goal
 
-pub pop_send-requires : goal.pop_send-requires
-pop_send-requires c =
+pub drop_oldest-requires : goal.drop_oldest-requires
+drop_oldest-requires c =
     let b = c in
     let l = b.args.state.now in
     let a = b.requires.0.accepted in
     let h = head_of_lem l a b.args.q b.requires.1 in
-    rw c.run_head-st.ensures.bytes (h.below, size_then l a b.args.q h, waits_then l a b.args.q h)
+    rw c.run_head-st.ensures.bytes (h.below, waits_then l a b.args.q h)
 
 pub overflow_add-q : goal.overflow_add-q
 overflow_add-q c =

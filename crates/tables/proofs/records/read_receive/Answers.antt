@@ -15,4 +15,4 @@ returns c =
     let e = c.if-request-size.false in
     let p = c.sge_at.ensures ∙ receive_sge x n.result n.ensures h m e 24 (inl refl) in
     let q = c.sge_at-2.ensures ∙ receive_sge x n.result n.ensures h m e 40 (inr refl) in
-    rw (← receive_right x n.result n.ensures h m e, p, q, c.get-2.ensures, n.ensures)
+    rw (← receive_right x n.result n.ensures h m e, p, q, c.get.ensures, n.ensures)

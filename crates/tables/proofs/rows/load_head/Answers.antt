@@ -8,11 +8,5 @@ overflow_add-at c = let h = head_within c.args.queue c.args.n c.requires in let 
 pub get-requires : goal.get-requires
 get-requires c = let h = head_within c.args.queue c.args.n c.requires in let e = c.heads.ensures in omega arith
 
-pub overflow_add : goal.overflow_add
-overflow_add c = let h = head_within c.args.queue c.args.n c.requires in let e = c.heads.ensures in omega arith
-
-pub get-2-requires : goal.get-2-requires
-get-2-requires c = let h = head_within c.args.queue c.args.n c.requires in let e = c.heads.ensures in omega arith
-
 pub returns : goal.returns
 returns c = rw (c.get.ensures, c.get-2.ensures, c.heads.ensures) (head_read c.args.queue c.args.state.now c.args.n)

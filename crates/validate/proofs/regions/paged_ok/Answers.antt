@@ -6,4 +6,4 @@ pub numbers_ok-requires : goal.numbers_ok-requires
 numbers_ok-requires c =
     let r = c.args.r in
     let h : r.start + r.length ≤ 65536 = search rules in
-    (c.requires.0, rw c.pages_needed.ensures (need_most r.start r.length h), c.requires.1)
+    (c.requires.0, rw c.pages_needed.ensures (need_most r.start r.length h))
