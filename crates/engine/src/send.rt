@@ -15,8 +15,8 @@ ghost use Rattle.delivery.specs.Run.{request_by, Ran};
 use delivery::meet;
 use delivery::request::WorkRequest;
 use rules::Answer;
-use rules::numbers::{BAD_STATE, IN_USE, NOT_LIVE, OTHER_MEMORY, WRONG_STATE};
 use tables::limits::{ERROR, QP_COUNT, RTS};
+use tables::refusal::Refusal;
 use tables::rows::State;
 use tables::{QueuePair, SendRecord, WorkQueue, records, rows};
 use validate::live;
@@ -36,7 +36,7 @@ fn direct_error(state: &mut State, q: usize, own: QueuePair, s: SendRecord) -> A
     ensures { (sges : List Sge) (b m : List ℕ) → Ran delivery_checks state.old q (request_by s sges b) m result state.new m }
 {
     if is_queued(state, q) {
-        return Answer::Refused(IN_USE);
+        return Refusal::InUse.into();
     }
     delivery::flush(state, q, own, s)
 }
@@ -48,20 +48,20 @@ fn direct(state: &mut State, memory: &mut [u8], qpn: u32, r: &WorkRequest) -> An
 {
     let q = qpn as usize;
     if QP_COUNT <= q {
-        return Answer::Refused(NOT_LIVE);
+        return Refusal::NotLive.into();
     }
     if !meet::is_live(state, q) {
-        return Answer::Refused(NOT_LIVE);
+        return Refusal::NotLive.into();
     }
     let own = rows::load_qp(state, q);
     if own.state == ERROR {
         return direct_error(state, q, own, r.head);
     }
     if own.state != RTS {
-        return Answer::Refused(WRONG_STATE);
+        return Refusal::WrongState.into();
     }
     if is_queued(state, q) {
-        return Answer::Refused(IN_USE);
+        return Refusal::InUse.into();
     }
     delivery::run(state, memory, q, own, r)
 }
@@ -71,10 +71,10 @@ pub fn post_send(state: &mut [u8], memory: &mut [u8], qpn: u32, sent: &[u8]) -> 
     ensures { Owes state.old (Call.send qpn sent.now memory.old) result state.new memory.new [] }
 {
     let Some(state) = live::acceptable(state) else {
-        return Answer::Refused(BAD_STATE);
+        return Refusal::BadState.into();
     };
     if memory.len() as u64 != rows::load_memory(state) {
-        return Answer::Refused(OTHER_MEMORY);
+        return Refusal::OtherMemory.into();
     }
     match records::read_send(sent) {
         Ok(s) => {

@@ -5,6 +5,7 @@ ghost use Rattle.tables.specs.Limits.{qp_count};
 ghost use Rattle.tables.specs.State.{card};
 ghost use Rattle.rules.specs.Call.{Call};
 ghost use Rattle.rules.specs.Contract.{OwesAll};
+ghost use Rattle.rules.specs.Answer.{refused};
 ghost use Rattle.rules.specs.Turn.{passed_over, head_of, runnable};
 ghost use Rattle.dma.specs.Moves.{Ready};
 ghost use Rattle.delivery.specs.Run.{Carried};
@@ -13,8 +14,8 @@ ghost use Rattle.engine.specs.Turn.{Serves, turn_leaves};
 use delivery::meet;
 use delivery::request::WorkRequest;
 use rules::Answer;
-use rules::numbers::{BAD_STATE, NOTHING_THERE, OTHER_MEMORY};
 use tables::limits::QP_COUNT;
+use tables::refusal::Refusal;
 use tables::rows::State;
 use tables::{WorkQueue, queue, records, rows, sends};
 use validate::live;
@@ -26,11 +27,11 @@ pub struct Turned {
     pub qpn: u32,
 }
 
-fn refused(n: u8) -> Turned
-    ensures { result ≡ record { answer = Answer.Refused n; qpn = 0 } }
+fn refused(reason: Refusal) -> Turned
+    ensures { result ≡ record { answer = refused reason; qpn = 0 } }
 {
     Turned {
-        answer: Answer::Refused(n),
+        answer: reason.into(),
         qpn: 0,
     }
 }
@@ -96,15 +97,15 @@ pub fn turn(state: &mut [u8], memory: &mut [u8]) -> Turned
         (turn_leaves result.answer result.qpn state.new memory.new) × (result.qpn < qp_count) }
 {
     let Some(state) = live::acceptable(state) else {
-        return refused(BAD_STATE);
+        return refused(Refusal::BadState);
     };
     if memory.len() as u64 != rows::load_memory(state) {
-        return refused(OTHER_MEMORY);
+        return refused(Refusal::OtherMemory);
     }
     let next = rows::load_turn(state) as usize;
     let passed = first_runnable(state, next);
     if QP_COUNT <= passed {
-        return refused(NOTHING_THERE);
+        return refused(Refusal::NothingThere);
     }
     let q = (next + passed) % QP_COUNT;
     let st = serve(state, memory, q);

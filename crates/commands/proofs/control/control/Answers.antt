@@ -3,22 +3,14 @@ use lib.ListN.{length}
 use Rattle.tables.specs.Commands.{ack_least, ack_size, ack_need}
 use Rattle.tables.proofs.AckLaws.{need_least}
 use Rattle.commands.specs.Control.{outcome_ack}
-use Rattle.commands.proofs.CaseLaws.{passes}
-use Rattle.validate.proofs.AcceptedLaws.{accepted}
 use Rattle.commands.proofs.CallLaws.{outcome_room, control_short, control_done}
 use borrow.Author.Rules.{rules}
 use Rattle.commands.proofs.control.control.Goals as goal
 
 pub returns-then-ack-ack_need : goal.returns-then-ack-ack_need
 returns-then-ack-ack_need c =
-    let good = c in
-    rw c.from-then-ack-ack_need.ensures
-    (control_short _ _ _ (passes good.accepted.ensures good.if-not-accepted.false) (rw c.ack_need.ensures at c.if-ack-ack_need.true))
-
-pub dispatch-outcome-requires : goal.dispatch-outcome-requires
-dispatch-outcome-requires c =
-    let good = c in
-    (accepted _ (passes good.accepted.ensures good.if-not-accepted.false)).sized
+    let s = c.in-Some.ensures.value in
+    rw (c.from-then-ack-ack_need.ensures, ← s.1) (control_short _ _ _ s.0 (rw c.ack_need.ensures at c.if-ack-ack_need.true))
 
 pub write_ack-requires : goal.write_ack-requires
 write_ack-requires c =
@@ -34,9 +26,7 @@ write_ack-requires c =
 
 pub returns : goal.returns
 returns c =
-    let done = c in
-    let room = done in
-    let need = room in
-    let good = need in
-    control_done _ _ _ (passes good.accepted.ensures good.if-not-accepted.false) (rw need.ack_need.ensures at room.if-ack-ack_need.false) done.dispatch-outcome.result _
-    done.dispatch-outcome.ensures _ c.ack_of.ensures _ c.from-2.ensures _ c.write_ack.ensures
+    let s = c.in-Some.ensures.value in
+    rw (← s.1)
+    (control_done _ _ _ s.0 (rw c.ack_need.ensures at c.if-ack-ack_need.false) c.dispatch-outcome.result _
+    c.dispatch-outcome.ensures _ c.ack_of.ensures _ c.from-2.ensures _ c.write_ack.ensures)
