@@ -139,7 +139,7 @@ fn is_consumed(opcode: u8, st: u8) -> bool
     meet::takes_receive(opcode) & ((st == SUCCESS) | (st == REMOTE_INVALID))
 }
 
-// Queue pair q goes to error, where b holds.
+// Queue pair q goes to error, where b holds. The test is an argument, here and in consume_if, as in error_bytes and consume_bytes of the rules.
 fn fail_if(state: &mut [u8], b: bool, q: usize)
     requires { (q < qp_count) × (length state.old ≡ state_size) }
     ensures { state.new ≡ error_bytes b state.old q }
@@ -172,7 +172,8 @@ pub fn settle(state: &mut [u8], e: Ends, s: SendRecord, w: ReceiveRecord, st: u8
     fail_if(state, st == REMOTE_INVALID, e.d);
 }
 
-// What is left of that by a request that takes no receive: no byte where it succeeds silently.
+// What is left of that by a request that takes no receive: no byte where it succeeds silently. Apart from settle, by which a write of 64 bytes takes
+// 1,016 instructions (bench/instructions), and by this 931.
 pub fn settle_single(state: &mut [u8], e: Ends, s: SendRecord, st: u8, n: u64)
     requires { Settling state.old e s no_record st n × (takes s.opcode ≡ false) × (eqb st 7 ≡ false) }
     ensures { state.new ≡ settled_bytes state.old e s no_record st n }
