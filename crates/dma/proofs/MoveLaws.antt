@@ -5,8 +5,10 @@ use mathlib.Core.List.{List, [], ◌∷◌, ◌++◌, append_assoc, append-nil, 
 use Prim.Native.Nat.{ℕ, zero, suc, ◌+◌, ◌-◌, ◌≤◌, ◌<◌}
 use native.Mathlib.Nat.{add-zero, zero-add, suc-add}
 use native.Mathlib.Omega.{arith}
+use lib.Dec.{eqb}
 use lib.ListN.{length, get_or, take, drop, length-drop, length-map}
 use lib.Seq.{paste, drop-drop, take-paste, take-length}
+use borrow.Author.Tests.{eqb-true}
 use Rattle.wire.proofs.ScanLaws.{and_left, and_right}
 use Rattle.tables.specs.Card.{Card}
 use Rattle.tables.specs.Records.{no_sge}
@@ -119,6 +121,14 @@ module _ (c : Card) (m : List ℕ) (s : Sge) (n : ℕ) (h : n ≤ s.length) wher
 -- an entry whose first part is all of it
 pub whole_lies : (c : Card) (memory : ℕ) (s : Sge) (n : ℕ) → Splits c memory s n → n ≡ s.length → Lies c memory s
 whole_lies c memory s n d e = rw e at d.first
+
+-- two entries of which the code found that each is one run
+pub both_lie : (c : Card) (memory : ℕ) (a b : Sge) (n k : ℕ) → Splits c memory a n → Splits c memory b k → (eqb n a.length && eqb k b.length) ≡ true →
+    Lies c memory a × Lies c memory b
+both_lie c memory a b n k x y t = (
+  whole_lies c memory a n x (eqb-true n a.length (and_left (eqb n a.length) (eqb k b.length) t)),
+  whole_lies c memory b k y (eqb-true k b.length (and_right (eqb n a.length) (eqb k b.length) t)),
+)
 
 -- ---- one entry more of a list
 
