@@ -22,9 +22,7 @@ use Rattle.tables.specs.Limits.{cq_count, qp_count, most_places, most_waiting, m
 use Rattle.tables.proofs.ObjectLaws.{cq_below, cq_live_lem, qp_below, qp_flag, qp_live, qp_row}
 use Rattle.validate.proofs.QueueLaws.{queue_is}
 use Rattle.validate.proofs.WaitingLaws.{pair_sound, waiting_is}
-use Rattle.tables.specs.declared.QueueHead.{QueueHead}
 use Rattle.tables.specs.declared.QueuePair.{QueuePair}
-use Rattle.tables.specs.declared.WaitingHead.{WaitingHead}
 use Rattle.rules.specs.Lists.{is_empty, is_some, names, or_else}
 use Rattle.rules.specs.Send.{peer_of, is_in_error, place_checks, ready_checks, hold_checks, can_receive, ready, room, has_places}
 use Rattle.rules.specs.Touch.{takes}
@@ -32,7 +30,7 @@ use Rattle.rules.specs.declared.Answer.TheVariants.{Held}
 use Rattle.rules.specs.declared.Cause.TheVariants.{Peer, Place}
 use Rattle.delivery.specs.Meet.{answers, places_by, peer_meeting, has_place, bare, met_by, holding, is_free, ends_at, Sender}
 use Rattle.delivery.specs.declared.meet.Ends.{Ends}
-use Rattle.std.specs.Prelude.{Result, Ok, Err, is_ok}
+use Rattle.std.specs.Prelude.{Result, Ok, Err}
 use Rattle.rules.specs.declared.Answer.{Answer}
 
 empty_is : (ws : List Receive) (n : ℕ) → length ws ≡ n → is_empty ws ≡ eqb n 0
@@ -58,40 +56,6 @@ names_is d q b = go (eqb d qp_count) refl
     go : (x : Bool) → eqb d qp_count ≡ x → names (cond x none (some d)) q ≡ eqb d q
     go true e = let z = eqb-true d qp_count e in sym (ne_eqb d q (λ y. omega arith))
     go false e = refl
-
-pub needed_most : (b : Bool) (n : ℕ) → n ≡ cond b 2 1 → n ≤ 2
-needed_most true n e = omega arith
-needed_most false n e = omega arith
-
--- a request that takes no receive needs a place in the send queue only
-pub own_place : (h k : QueueHead) (same : Bool) (o : ℕ) → takes o ≡ false → leb (h.count + 1) h.places ≡ places_by h k same o
-own_place h k same o e = rw e (go (leb (h.count + 1) h.places))
-  where
-    go : (b : Bool) → b ≡ (b && true)
-    go true = refl
-    go false = refl
-
--- ---- the tests of a peer that is ready
-
-module _ (l : List ℕ) (e : Ends) (o : ℕ) (t : Bool) (is : t ≡ takes o) (h : WaitingHead) (at : h ≡ row_at waiting_t l e.d) where
-  pub none_waits : (t && eqb h.count 0) ≡ true → Err (Held Peer) ≡ peer_meeting l e o
-  none_waits x = rw (← is, ← at, x)
-
-  module _ (waits : (t && eqb h.count 0) ≡ false) (p : Bool)
-      (are : p ≡ places_by (row_at cq_t l e.own.scq) (row_at cq_t l e.far.rcq) (eqb e.own.scq e.far.rcq) o) where
-    pub no_place_lem : p ≡ false → Err (Held Place) ≡ peer_meeting l e o
-    no_place_lem x = rw (← are, ← is, ← at, waits, x)
-
-    pub ends_meet : p ≡ true → Ok e ≡ peer_meeting l e o
-    ends_meet x = rw (← are, ← is, ← at, waits, x)
-
-    -- the same as one number
-    pub passes_is : p ≡ is_ok (peer_meeting l e o)
-    passes_is = rw (← are, ← is, ← at, waits) (go p)
-      where
-        go : (b : Bool) → b ≡ is_ok (cond {A = Result Ends Answer} (not b) (Err (Held Place)) (Ok e))
-        go true = refl
-        go false = refl
 
 -- ---- the tests of both
 
@@ -242,14 +206,6 @@ module _ (l : List ℕ) (q o : ℕ) (own : QueuePair) (s : Sender l q own) where
       go : (b : Bool) → b ≡ not (is_some (cond {A = Option ℕ} (not b) (some 6) none))
       go true = refl
       go false = refl
-
-  -- what the two rows' tests found, as one number
-  pub free_is : is_ok (holding l q o) ≡ is_free l q o
-  free_is = go (refusal (hold_checks (card l) q (bare o)))
-    where
-      go : (k : Option ℕ) → is_ok (met_by k (ends_at l q)) ≡ not (is_some k)
-      go none = refl
-      go (some n) = refl
 
   module _ (other : own.state ≡ 6 → ⊥) where
     sends : (row_at qp_t l q).state ≡ 6 → ⊥

@@ -6,7 +6,7 @@ use Prim.Native.Nat.{ℕ, ◌<◌, ◌≤◌}
 use native.Mathlib.Omega.{arith}
 use lib.Dec.{eqb}
 use lib.ListN.{take}
-use borrow.Author.Tests.{eq-eqb, ne_eqb, le-leb, lt-leb}
+use borrow.Author.Tests.{ne_eqb, le-leb, lt-leb}
 use Rattle.wire.proofs.ScanLaws.{or_left}
 use Rattle.tables.specs.Queue.{push_bytes}
 use Rattle.tables.specs.Records.{is_signaled, receive_sges}
@@ -29,9 +29,6 @@ receive_list w = refl
 -- ---- the receiver's status
 
 module _ (w : ReceiveRecord) (st n : ℕ) where
-  pub status_done : st ≡ 0 → 0 ≡ receiver_status w st n
-  status_done e = rw (eq-eqb st 0 e)
-
   module _ (e : st ≡ 0 → ⊥) (m : ℕ) (is : m ≡ sge_total (receive_sges w)) where
     pub status_long : m < n → 1 ≡ receiver_status w st n
     status_long h = rw (ne_eqb st 0 e, lt-leb n (sge_total (receive_sges w)) (omega arith))

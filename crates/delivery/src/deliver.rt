@@ -20,10 +20,10 @@ use tables::limits::{
     LOCAL_LENGTH, LOCAL_PROTECTION, LOCAL_WRITE, MOST_MESSAGE, READ, REMOTE_ACCESS, REMOTE_INVALID,
     REMOTE_READ, REMOTE_WRITE, SUCCESS,
 };
-use tables::rows::State;
 use tables::{QueuePair, ReceiveRecord, SendRecord, Sge, queue};
+use tables::rows::State;
 
-// Whose use of memory a queue pair's is.
+// Whose use of memory a queue pair's is. No From: both types are of other crates.
 fn party_of(p: QueuePair) -> Party
     ensures { result ≡ party_in p }
 {
@@ -86,7 +86,7 @@ fn move_bytes(state: &State, memory: &mut [u8], r: &WorkRequest, far: &[Sge])
     }
 }
 
-// The receive that a request takes; nothing where it takes none.
+// The receive that a request takes; no entries where it takes none. No Option: taken_row, of which Delivery and Settling speak, is no_record there.
 pub fn taken_receive(state: &State, d: usize, opcode: u8) -> ReceiveRecord
     requires { (d < qp_count) × ((row_at waiting_t state.now d).first < most_waiting) }
     ensures { result ≡ taken_row state.now d opcode }
@@ -200,7 +200,8 @@ pub fn deliver_single(state: &State, memory: &mut [u8], e: Ends, s: SendRecord, 
     SUCCESS
 }
 
-// Steps 3 to 6 of a message of total bytes: the status, and on success the message moved.
+// Steps 3 to 6 of a message of total bytes: the status, and on success the message moved. A status is its number, as in send_status of the rules, in
+// Answer::Done and in Completion, between which it is only handed on.
 pub fn deliver(
     state: &State,
     memory: &mut [u8],

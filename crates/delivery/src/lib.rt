@@ -15,15 +15,16 @@ use meet::Ends;
 use request::WorkRequest;
 use rules::{Answer, Cause};
 use tables::limits::{ERROR, FLUSHED};
-use tables::rows::State;
 use tables::{QueuePair, SendRecord, Sge, rows};
+use tables::rows::State;
 
 pub mod deliver;
 pub mod meet;
 pub mod request;
 pub mod settle;
 
-// Steps 3 to 6 of a write or a read of one entry, without arrays.
+// Steps 3 to 6 of a write or a read of one entry, without a list of entries. Apart from carry_out, by which a write of 64 bytes takes 1,104
+// instructions (bench/instructions), and by this 931.
 fn carry_single(state: &mut State, memory: &mut [u8], e: Ends, s: SendRecord, a: Sge) -> u8
     requires ready { Ready state.old memory.old }
     requires s_value { (is_single s ≡ true) × Met state.old e s.opcode }
@@ -47,14 +48,9 @@ fn carry_out(state: &mut State, memory: &mut [u8], e: Ends, r: &WorkRequest) -> 
     st
 }
 
-// A request of queue pair q, whose row is own and which is not in error: what holds it, or the request carried out.
-pub fn run(
-    state: &mut State,
-    memory: &mut [u8],
-    q: usize,
-    own: QueuePair,
-    r: &WorkRequest,
-) -> Answer
+// A request of queue pair q, whose row is own and which is not in error: what holds it, or the request carried out. The state
+// and the memory are no one struct: C lends them apart, and most calls have the state alone.
+pub fn run(state: &mut State, memory: &mut [u8], q: usize, own: QueuePair, r: &WorkRequest) -> Answer
     requires { Ready state.old memory.old × Sender state.old q own × (own.state ≡ 6 → ⊥) }
     ensures { Ran hold_checks state.old q (asked r.now) memory.old result state.new memory.new }
 {

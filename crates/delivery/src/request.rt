@@ -1,4 +1,4 @@
-// A work request as it is delivered: what its record says. Definitions: specs/Request.antt, specs/Deliver.antt, specs/Run.antt.
+// A work request as it is delivered: what its record says, with the limits that the record's tests have shown. Definitions: specs/Request.antt, specs/Deliver.antt, specs/Run.antt.
 ghost use Rattle.std.specs.Prelude.{◌≡◌, false, length};
 ghost use Rattle.tables.specs.Records.{is_inline};
 ghost use Rattle.delivery.specs.Request.{Bounded};

@@ -5,8 +5,10 @@ use mathlib.Core.List.{List, [], ◌∷◌, ◌++◌, append_assoc, append-nil, 
 use Prim.Native.Nat.{ℕ, zero, suc, ◌+◌, ◌-◌, ◌≤◌, ◌<◌}
 use native.Mathlib.Nat.{add-zero, zero-add, suc-add}
 use native.Mathlib.Omega.{arith}
+use lib.Dec.{eqb}
 use lib.ListN.{length, get_or, take, drop, length-drop, length-map}
 use lib.Seq.{paste, drop-drop, take-paste, take-length}
+use borrow.Author.Tests.{eqb-true}
 use Rattle.wire.proofs.ScanLaws.{and_left, and_right}
 use Rattle.tables.specs.Card.{Card}
 use Rattle.tables.specs.Records.{no_sge}
@@ -16,7 +18,7 @@ use Rattle.rules.specs.Permit.{place}
 use Rattle.rules.specs.Touch.{Byte, range, sge_bytes, sge_total}
 use Rattle.rules.proofs.Runs.{run, map_run, read_run, store_run, stored_join, stored_take}
 use Rattle.rules.proofs.Stored.{sge_length}
-use Rattle.dma.specs.Moves.{mapped, mapped_all, places, place_of, front, back, Lies, Splits, read_bytes, moved, Message}
+use Rattle.dma.specs.Moves.{mapped, mapped_all, places, place_of, front, back, Lies, Splits, read_bytes, moved}
 use Rattle.dma.proofs.SgeLaws.{one_bytes, one_total, left_cons, left_none, left_tests, left_total}
 
 -- ---- a copy by way of a staging list
@@ -24,10 +26,6 @@ use Rattle.dma.proofs.SgeLaws.{one_bytes, one_total, left_cons, left_none, left_
 -- what was copied to the front of it
 front_of : (z s : List ℕ) (n : ℕ) → n ≤ length s → take n (paste z 0 s n) ≡ take n s
 front_of z s n h = ap (λ (k : ℕ). take k (paste z 0 s n)) (sym (zero-add n)) ∙ take-paste z 0 s n (omega arith) h
-
--- copied on from there
-pub through : (d z s : List ℕ) (at n : ℕ) → n ≤ length s → paste d at (drop 0 (paste z 0 s n)) n ≡ paste d at s n
-through d z s at n h = ap (λ (l : List ℕ). take at d ++ l ++ drop (at + n) d) (front_of z s n h)
 
 -- ---- places
 
@@ -123,6 +121,14 @@ module _ (c : Card) (m : List ℕ) (s : Sge) (n : ℕ) (h : n ≤ s.length) wher
 -- an entry whose first part is all of it
 pub whole_lies : (c : Card) (memory : ℕ) (s : Sge) (n : ℕ) → Splits c memory s n → n ≡ s.length → Lies c memory s
 whole_lies c memory s n d e = rw e at d.first
+
+-- two entries of which the code found that each is one run
+pub both_lie : (c : Card) (memory : ℕ) (a b : Sge) (n k : ℕ) → Splits c memory a n → Splits c memory b k → (eqb n a.length && eqb k b.length) ≡ true →
+    Lies c memory a × Lies c memory b
+both_lie c memory a b n k x y t = (
+  whole_lies c memory a n x (eqb-true n a.length (and_left (eqb n a.length) (eqb k b.length) t)),
+  whole_lies c memory b k y (eqb-true k b.length (and_right (eqb n a.length) (eqb k b.length) t)),
+)
 
 -- ---- one entry more of a list
 
@@ -228,9 +234,3 @@ between c m m' a b x y true la lb ex ey k e =
     let n : a.length ≡ b.length = sym (one_total a) ∙ sym k ∙ one_total b in
     moved_one c m m' b a y x lb la ey ex (sym k) (e ∙ ap (paste m x (drop y m)) n)
 between c m m' a b x y false la lb ex ey k e = moved_one c m m' a b x y la lb ex ey k e
-
-pub backwards : (c : Card) (a b : List Sge) → Message c a b → Message c b a
-backwards c a b m =
-    let k = m.total in
-    let h = m.most in
-    record { sources = m.targets; targets = m.sources; total = sym k; most = omega arith }

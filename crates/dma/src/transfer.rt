@@ -11,8 +11,8 @@ ghost use Rattle.rules.specs.Lists.{stored};
 ghost use Rattle.dma.specs.Moves.{Ready, mapped_all, places, place_of, Lies, Splits, read_bytes, moved, Message};
 
 use tables::limits::{FLAT, MOST_PAGES, PAGE_SIZE};
-use tables::rows::State;
 use tables::{Sge, rows};
+use tables::rows::State;
 
 // The place in memory where an entry begins; 0 for an empty one.
 fn place_of(state: &State, s: Sge) -> usize
@@ -73,7 +73,8 @@ fn copy_out(state: &State, memory: &[u8], s: Sge, staging: &mut [u8], at: usize)
     }
 }
 
-// Copies staging, from index at on, to an entry's bytes.
+// Copies staging, from index at on, to an entry's bytes. Apart from copy_out, as scatter from gather: memory is lent to be written here and to be
+// read there, and stored and read_bytes, which the two promise, are no one equation.
 fn copy_in(state: &State, memory: &mut [u8], s: Sge, staging: &[u8], at: usize)
     requires ready { Ready state.now memory.old }
     requires s_value { (mapped_all (card state.now) (sge_bytes (s ∷ [])) ≡ true) × (s.length ≤ most_message) × (at + s.length ≤ length staging.now) }
@@ -194,7 +195,7 @@ pub fn transfer(state: &State, memory: &mut [u8], from: &[Sge], to: &[Sge])
     }
 }
 
-// Writes inline bytes to a place of memory.
+// Writes inline bytes to a place of memory. Apart from deliver_one, whose bytes stand in memory itself, which is lent once.
 fn deliver_inline(memory: &mut [u8], bytes: &[u8], to: usize)
     requires { (length bytes.now ≤ most_inline) × (to + length bytes.now ≤ length memory.old) }
     ensures { memory.new ≡ paste memory.old to bytes.now (length bytes.now) }
@@ -205,7 +206,7 @@ fn deliver_inline(memory: &mut [u8], bytes: &[u8], to: usize)
     wire::copy_bytes(memory, to, &staging, 0, n);
 }
 
-// Writes inline bytes to the entries to.
+// Writes inline bytes to the entries to. Apart from transfer_many: inline bytes stand in no region and are not gathered.
 fn inline_many(state: &State, memory: &mut [u8], bytes: &[u8], to: &[Sge])
     requires ready { Ready state.now memory.old }
     requires targets { mapped_all (card state.now) (sge_bytes to.now) ≡ true }
