@@ -56,7 +56,7 @@ fn put_queue(state: &mut State, n: usize, places: u8)
     ensures { state.new ≡ command_bytes state.old (Command.create_cq places) }
 {
     let head = QueueHead {
-        places: places,
+        places,
         first: 0,
         count: 0,
     };
@@ -119,9 +119,9 @@ pub fn put_region(state: &mut State, n: usize, g: Registration, kind: u8) -> u8
     let variant = rows::load_mr(state, n).variant + 1;
     let row = Region {
         access: g.access as u8,
-        variant: variant,
+        variant,
         pd: g.pd as u8,
-        kind: kind,
+        kind,
         start: g.start,
         length: g.length,
         virt: g.virt,

@@ -143,7 +143,8 @@ pub struct CreateQp {
     pub rcq: u32,
 }
 
-// The data of command 10, modify QP; the paddings must be zero; flags are access flags.
+// The data of command 10, modify QP; the paddings must be zero; flags are access flags. Three paddings, and no array: modify_qp_codec
+// gives back every value (its law `back`), and the list of an array may have any length.
 #[derive(Clone, Copy)]
 pub struct ModifyQp {
     pub qpn: u32,
