@@ -8,6 +8,8 @@ ghost use Rattle.rules.specs.Call.{Call};
 ghost use Rattle.judge.specs.Whole.{FromC};
 ghost use Rattle.caller.specs.Exchange.{seen, exchange, Answered};
 
+// ---- a function for each export, with the clause `FromC` of its own call
+
 pub fn reset(state: &mut [u8], memory: u64) -> u32
     ensures { FromC state.old (seen (Call.reset memory) result state.new [] []) }
 {
@@ -99,7 +101,7 @@ pub struct Results {
 }
 
 // The nine in turn on one state, which each finds as the last one left it. Post send has one memory, the two calls of send
-// queues another.
+// queues another. The buffers stay parameters: a clause names what is left behind a `&mut` in a struct by its place alone.
 pub fn run(
     state: &mut [u8],
     given: Given<'_>,

@@ -19,7 +19,7 @@ pub struct Source {
 enum Stream {
     Named(File),
     Standard(Stdin),
-    Missing,
+    Missing, // no Err of `open`: `Reported` has a read of the file that failed (`Silent.no_calls`)
 }
 
 // The bytes of a window that are held of an input, and whether a read has found its end.
@@ -94,6 +94,7 @@ fn read_once(source: &Source, buffer: &mut [u8]) -> io::Result<usize>
 }
 
 // One read behind the bytes held, which move to the window's start. A read that gives nothing, or fails, is the input's end.
+// No type holds the window with its bytes: `Reads` speaks of every window and every `held`, which such a type would narrow.
 pub fn more(source: &Source, window: &mut [u8], held: Held) -> Result<Held, ReadFailed>
     ensures { Reads source.now.number held window.old result window.new }
 {

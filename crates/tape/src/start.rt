@@ -12,7 +12,8 @@ use std::rt::Env;
 // The longest memory that a program takes.
 const MOST_LENGTH: u64 = 1048576;
 
-// Resets the card to a memory of the given length; false, with the state as it was, where no reset takes it.
+// Resets the card to a memory of the given length; false, with the state as it was, where no reset takes it. A Result would be no
+// plainer: its error would have nothing in it, as `resets` says only whether.
 pub fn start(state: &mut [u8], memory: u64) -> bool
     ensures value { result ≡ resets state.old memory }
     ensures state_after { state.new

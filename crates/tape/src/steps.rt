@@ -53,7 +53,8 @@ fn answer_whole(
     Reply::Answered { used, written }
 }
 
-// The reply to what stands at the front of the bytes held. What is to be written stands at the start of `out`.
+// The reply to what stands at the front of the bytes held. What is to be written stands at the start of `out`, which is lent, as
+// there is no heap. State and memory stay two parameters: a struct of two `&mut` takes two clauses more in each contract.
 pub fn reply(
     state: &mut [u8],
     memory: &mut [u8],
