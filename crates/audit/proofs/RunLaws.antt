@@ -11,24 +11,25 @@ use lib.ListN.{length, take, drop, length-take, length-drop, length-append, take
 use lib.Seq.{length-take-le, take-add, drop-drop, drop_at}
 use borrow.Author.Tests.{eqb-false}
 use Rattle.tables.specs.Reset.{zeros, reset_bytes}
+use Rattle.std.specs.Prelude.{Result, Ok, Err, Option, Some, None}
+use Rattle.std.specs.declared.ops.ControlFlow.TheVariants.{Continue, Break}
 use Rattle.tape.specs.declared.Found.{Found}
 use Rattle.tape.specs.declared.input.Held.{Held}
-use Rattle.tape.specs.declared.input.Read.{Read}
+use Rattle.tape.specs.declared.input.ReadFailed.{ReadFailed}
 use Rattle.tape.specs.Tape.{played, records}
 use Rattle.tape.specs.Pieces.{Input, next, past}
 use Rattle.tape.specs.System.{BytesOf, Continues}
 use Rattle.tape.specs.Audit.{Verdict, against, verdict}
-use Rattle.tape.specs.Inside.{held_in, Lies, Room, Reads, Finding, Finds}
+use Rattle.tape.specs.Inside.{held_in, Lies, Room, is_err, held_after, Reads, Finding, Finds}
 use Rattle.tape.proofs.PieceLaws.{content, Lawful, next_content, past_content}
 use Rattle.tape.proofs.InputLaws.{gives_bytes, gives_failure}
 use Rattle.tape.proofs.FoundLaws.{Within, found_within}
 use Rattle.tape.proofs.AuditLaws.{verdict_from, verdict_by, round_keeps}
 use Rattle.audit.specs.declared.Files.{Files}
-use Rattle.audit.specs.declared.Next.{Next}
 use Rattle.audit.specs.declared.Position.{Position}
 use Rattle.audit.specs.declared.Report.{Report}
 use Rattle.audit.specs.Report.{Tapes, VerdictOn, Silent, Reports}
-use Rattle.audit.specs.Inside.{shown, behind, passed, on_calls, on_answers, Follows, Round}
+use Rattle.audit.specs.Inside.{shown, behind, passed, read_by, on_calls, on_answers, Follows, Round}
 use Rattle.audit.proofs.RoundLaws.{among}
 
 -- the first bytes of a memory of zeros
@@ -80,7 +81,8 @@ cost_past b h n e le =
 
 module _ {file : ℤ} {before : List ℕ} {h : Held} {w : List ℕ} (s : Side file before h w) where
   -- after a read that did not fail
-  side_read : h.ended ≡ false → Room h w → {d : Read} {w' : List ℕ} → Reads file h w d w' → d.failed ≡ false → Side file before d.held w'
+  side_read : h.ended ≡ false → Room h w → {d : Result Held ReadFailed} {w' : List ℕ} → Reads file h w d w' → is_err d ≡ false
+      → Side file before (held_after d) w'
   side_read still room {d} {w'} r good =
       let b : List ℕ = take r.count r.buffer in
       let from : BytesOf file ((before ++ held_in h w) ++ b) (eqb r.count 0) =
@@ -89,7 +91,7 @@ module _ {file : ℤ} {before : List ℕ} {h : Held} {w : List ℕ} (s : Side fi
       record {
         lies = r.lies;
         from =
-            subst (BytesOf file (before ++ held_in d.held w')) (sym (r.ended s.lies))
+            subst (BytesOf file (before ++ held_in (held_after d) w')) (sym (r.ended s.lies))
             (subst (λ (x : List ℕ). BytesOf file x (eqb r.count 0))
             (append_assoc before (held_in h w) b ∙ ap (λ (x : List ℕ). before ++ x) (sym (r.held s.lies))) from);
       }
@@ -194,7 +196,7 @@ pub record Stand (files : Files) (memory : ℕ) (l m x y : List ℕ) (p : Positi
 abbrev unheld : Held
 unheld = record { from = 0; to = 0; ended = false }
 
-abbrev start : Position
+abbrev pub start : Position
 start = record { calls = unheld; answers = unheld; number = 0 }
 
 pub stand_start : (files : Files) (memory : ℕ) (l m x y : List ℕ) → l ≡ reset_bytes memory → m ≡ zeros memory
@@ -210,13 +212,13 @@ stand_start files memory l m x y sl sm = record {
 }
 
 -- a read that failed ends the rounds, and no other
-read_on : (b : Bool) {q : Position} (q₀ : Position) → Next.On q ≡ cond b (Next.Done Report.Nothing) (Next.On q₀) → (b ≡ false) × (q ≡ q₀)
-read_on true q₀ e = absurd (let z : ◌≡◌ {A = ℕ} 0 1 = cc in omega arith)
-read_on false q₀ e = (refl, cc)
+read_on : (d : Result Held ReadFailed) {q : Position} (on : Held → Position) → Continue q ≡ read_by d on → (is_err d ≡ false) × (q ≡ on (held_after d))
+read_on (Ok h) on e = (refl, cc)
+read_on (Err f) on e = absurd cc
 
-read_done : (b : Bool) {v : Report} (q₀ : Position) → Next.Done v ≡ cond b (Next.Done Report.Nothing) (Next.On q₀) → (b ≡ true) × (v ≡ Report.Nothing)
-read_done true q₀ e = (refl, cc)
-read_done false q₀ e = absurd (let z : ◌≡◌ {A = ℕ} 0 1 = cc in omega arith)
+read_done : (d : Result Held ReadFailed) {v : Option Report} (on : Held → Position) → Break v ≡ read_by d on → (is_err d ≡ true) × (v ≡ None)
+read_done (Ok h) on e = absurd cc
+read_done (Err f) on e = (refl, cc)
 
 module _ {files : Files} {memory : ℕ} {l m x y : List ℕ} {p : Position} {rounds : ℕ} (s : Stand files memory l m x y p rounds) where
   abbrev held_calls : List ℕ
@@ -228,11 +230,11 @@ module _ {files : Files} {memory : ℕ} {l m x y : List ℕ} {p : Position} {rou
   -- ---- a round more
 
   module _ (q : Position) (l' m' : List ℕ) (sl : l' ≡ (shown l m x y p).state) (sm : m' ≡ (shown l m x y p).memory) (k : ℕ) (fewer : rounds ≤ k + 1) where
-    read_calls : (shown l m x y p).found ≡ Found.Calls → (d : Read) {x' : List ℕ} → Room p.calls x → Reads files.calls.number p.calls x d x'
-        → d.failed ≡ false → Stand files memory l' m' x' y (on_calls p d.held) k
+    read_calls : (shown l m x y p).found ≡ Found.Calls → (d : Result Held ReadFailed) {x' : List ℕ} → Room p.calls x → Reads files.calls.number p.calls x d x'
+        → is_err d ≡ false → Stand files memory l' m' x' y (on_calls p (held_after d)) k
     read_calls e d {x'} room r good =
         let still : p.calls.ended ≡ false = (within l m x y p Found.Calls e).1 in
-        let held : held_in d.held x' ≡ held_calls ++ take r.count r.buffer = r.held s.calls.lies in
+        let held : held_in (held_after d) x' ≡ held_calls ++ take r.count r.buffer = r.held s.calls.lies in
         record {
           calls_passed = s.calls_passed;
           answers_passed = s.answers_passed;
@@ -248,18 +250,18 @@ module _ {files : Files} {memory : ℕ} {l m x y : List ℕ} {p : Position} {rou
           spent =
               let before : cost s.calls_passed held_calls p.calls.ended ≡ cost s.calls_passed held_calls false =
               ap (cost s.calls_passed held_calls) still in
-              let after : cost s.calls_passed (held_in d.held x') d.held.ended ≡ cost s.calls_passed (held_calls ++ take r.count r.buffer) (eqb r.count 0) =
+              let after : cost s.calls_passed (held_in (held_after d) x') (held_after d).ended ≡ cost s.calls_passed (held_calls ++ take r.count r.buffer) (eqb r.count 0) =
               ap₂ (cost s.calls_passed) held (r.ended s.calls.lies) in
               let more = cost_read s.calls_passed held_calls r.buffer r.count (r.room s.calls.lies room) in
               let most = s.spent in
               omega arith;
         }
 
-    read_answers : (shown l m x y p).found ≡ Found.Answers → (d : Read) {y' : List ℕ} → Room p.answers y → Reads files.answers.number p.answers y d y'
-        → d.failed ≡ false → Stand files memory l' m' x y' (on_answers p d.held) k
+    read_answers : (shown l m x y p).found ≡ Found.Answers → (d : Result Held ReadFailed) {y' : List ℕ} → Room p.answers y → Reads files.answers.number p.answers y d y'
+        → is_err d ≡ false → Stand files memory l' m' x y' (on_answers p (held_after d)) k
     read_answers e d {y'} room r good =
         let still : p.answers.ended ≡ false = (within l m x y p Found.Answers e).1 in
-        let held : held_in d.held y' ≡ held_answers ++ take r.count r.buffer = r.held s.answers.lies in
+        let held : held_in (held_after d) y' ≡ held_answers ++ take r.count r.buffer = r.held s.answers.lies in
         record {
           calls_passed = s.calls_passed;
           answers_passed = s.answers_passed;
@@ -275,7 +277,7 @@ module _ {files : Files} {memory : ℕ} {l m x y : List ℕ} {p : Position} {rou
           spent =
               let before : cost s.answers_passed held_answers p.answers.ended ≡ cost s.answers_passed held_answers false =
               ap (cost s.answers_passed held_answers) still in
-              let after : cost s.answers_passed (held_in d.held y') d.held.ended ≡ cost s.answers_passed (held_answers ++ take r.count r.buffer) (eqb r.count 0) =
+              let after : cost s.answers_passed (held_in (held_after d) y') (held_after d).ended ≡ cost s.answers_passed (held_answers ++ take r.count r.buffer) (eqb r.count 0) =
               ap₂ (cost s.answers_passed) held (r.ended s.answers.lies) in
               let more = cost_read s.answers_passed held_answers r.buffer r.count (r.room s.answers.lies room) in
               let most = s.spent in
@@ -313,26 +315,26 @@ module _ {files : Files} {memory : ℕ} {l m x y : List ℕ} {p : Position} {rou
               omega arith;
         }
 
-    on_by : (x' y' : List ℕ) (f : Found) → (shown l m x y p).found ≡ f → Follows files f p x y (Next.On q) x' y' → Stand files memory l' m' x' y' q k
+    on_by : (x' y' : List ℕ) (f : Found) → (shown l m x y p).found ≡ f → Follows files f p x y (Continue q) x' y' → Stand files memory l' m' x' y' q k
     on_by x' y' Found.Calls e w =
-        let o = read_on w.0.failed (on_calls p w.0.held) w.1 in
+        let o = read_on w.0 (on_calls p) w.1 in
         subst (λ (q : Position). Stand files memory l' m' x' y' q k) (sym o.1)
-        (subst (λ (y' : List ℕ). Stand files memory l' m' x' y' (on_calls p w.0.held) k) (sym w.4) (read_calls e w.0 w.2 w.3 o.0))
+        (subst (λ (y' : List ℕ). Stand files memory l' m' x' y' (on_calls p (held_after w.0)) k) (sym w.4) (read_calls e w.0 w.2 w.3 o.0))
     on_by x' y' Found.Answers e w =
-        let o = read_on w.0.failed (on_answers p w.0.held) w.1 in
+        let o = read_on w.0 (on_answers p) w.1 in
         subst (λ (q : Position). Stand files memory l' m' x' y' q k) (sym o.1)
-        (subst (λ (x' : List ℕ). Stand files memory l' m' x' y' (on_answers p w.0.held) k) (sym w.4) (read_answers e w.0 w.2 w.3 o.0))
+        (subst (λ (x' : List ℕ). Stand files memory l' m' x' y' (on_answers p (held_after w.0)) k) (sym w.4) (read_answers e w.0 w.2 w.3 o.0))
     on_by x' y' (Found.Same u n) e w =
-        let t : Next.On q ≡ Next.On (passed p u n) = w.0 in
+        let t : Continue q ≡ Continue (passed p u n) = w.0 in
         let z : q ≡ passed p u n = cc in
         subst (λ (q : Position). Stand files memory l' m' x' y' q k) (sym z)
         (subst (λ (x' : List ℕ). Stand files memory l' m' x' y' (passed p u n) k) (sym w.1)
         (subst (λ (y' : List ℕ). Stand files memory l' m' x y' (passed p u n) k) (sym w.2) (pass_record u n e)))
-    on_by x' y' Found.Agrees e w = absurd (let t : Next.On q ≡ Next.Done Report.Agrees = w in let z : ◌≡◌ {A = ℕ} 0 1 = cc in omega arith)
+    on_by x' y' Found.Agrees e w = absurd (let t : Continue q ≡ Break (Some Report.Agrees) = w in cc)
     on_by x' y' (Found.Differs n) e w =
-        absurd (let t : Next.On q ≡ Next.Done (Report.Differs (p.number + n)) = w in let z : ◌≡◌ {A = ℕ} 0 1 = cc in omega arith)
+        absurd (let t : Continue q ≡ Break (Some (Report.Differs (p.number + n))) = w in cc)
 
-  pub stand_on : {q : Position} {l' m' x' y' : List ℕ} → Round files l m x y p (Next.On q) l' m' x' y' → (k : ℕ) → rounds ≤ k + 1
+  pub stand_on : {q : Position} {l' m' x' y' : List ℕ} → Round files l m x y p (Continue q) l' m' x' y' → (k : ℕ) → rounds ≤ k + 1
       → Stand files memory l' m' x' y' q k
   stand_on {q} {l'} {m'} {x'} {y'} r k fewer =
       on_by q l' m' r.state r.memory k fewer x' y' (shown l m x y p).found refl r.follows
@@ -358,24 +360,24 @@ module _ {files : Files} {memory : ℕ} {l m x y : List ℕ} {p : Position} {rou
       ∙ s.keeps (held_calls ++ bc.0) (held_answers ++ ba.0) b b' ∙ sym (found l m x y p b b' f e)
       ∙ says (calls l m x y p b b') (answers l m x y p b b')
 
-  done_by : (v : Report) (x' y' : List ℕ) (f : Found) → (shown l m x y p).found ≡ f → Follows files f p x y (Next.Done v) x' y'
+  done_by : (v : Option Report) (x' y' : List ℕ) (f : Found) → (shown l m x y p).found ≡ f → Follows files f p x y (Break v) x' y'
       → Reports files.calls.number files.answers.number memory v
   done_by v x' y' Found.Calls e w =
-      let o = read_done w.0.failed (on_calls p w.0.held) w.1 in
+      let o = read_done w.0 (on_calls p) w.1 in
       subst (Reports files.calls.number files.answers.number memory) (sym o.1) (Silent.no_calls (gives_failure (w.3.gives s.calls.lies) o.0))
   done_by v x' y' Found.Answers e w =
-      let o = read_done w.0.failed (on_answers p w.0.held) w.1 in
+      let o = read_done w.0 (on_answers p) w.1 in
       subst (Reports files.calls.number files.answers.number memory) (sym o.1) (Silent.no_answers (gives_failure (w.3.gives s.answers.lies) o.0))
   done_by v x' y' (Found.Same u n) e w =
-      absurd (let t : Next.Done v ≡ Next.On (passed p u n) = w.0 in let z : ◌≡◌ {A = ℕ} 0 1 = cc in omega arith)
+      absurd (let t : Break v ≡ Continue (passed p u n) = w.0 in cc)
   done_by v x' y' Found.Agrees e w =
-      let z : v ≡ Report.Agrees = cc in
+      let z : v ≡ Some Report.Agrees = cc in
       subst (Reports files.calls.number files.answers.number memory) (sym z) (tapes, verdict_on_lem Found.Agrees e (λ i j. refl))
   done_by v x' y' (Found.Differs n) e w =
-      let z : v ≡ Report.Differs (p.number + n) = cc in
+      let z : v ≡ Some (Report.Differs (p.number + n)) = cc in
       subst (Reports files.calls.number files.answers.number memory) (sym z) (tapes, verdict_on_lem (Found.Differs n) e (λ i j. refl))
 
-  pub stand_done : {v : Report} {l' m' x' y' : List ℕ} → Round files l m x y p (Next.Done v) l' m' x' y' → Reports files.calls.number files.answers.number memory v
+  pub stand_done : {v : Option Report} {l' m' x' y' : List ℕ} → Round files l m x y p (Break v) l' m' x' y' → Reports files.calls.number files.answers.number memory v
   stand_done {v} {l'} {m'} {x'} {y'} r = done_by v x' y' (shown l m x y p).found refl r.follows
 
   -- all rounds are used up

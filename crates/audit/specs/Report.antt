@@ -1,5 +1,5 @@
 -- Document 02, M-110: what the program reports, by its command line and by what the reads of both files gave. Assumes nothing.
-use Rattle.std.specs.Prelude.{◌≡◌, Bool, List, ℕ, ◌+◌, ◌≤◌, ℤ, length}
+use Rattle.std.specs.Prelude.{◌≡◌, Bool, List, ℕ, ◌+◌, ◌≤◌, ℤ, length, Option, Some, None}
 use Rattle.tape.specs.System.{BytesOf, Unreadable, Continues, Opens}
 use Rattle.tape.specs.Length.{Asks}
 use Rattle.tape.specs.Audit.{Verdict, verdict}
@@ -33,13 +33,13 @@ pub data Silent (calls answers : ℤ) (memory : ℕ) : Type 0 where
   endless : (t : Tapes calls answers) → 9223372036854775807 ≤ length t.call_bytes + length t.answer_bytes
       → Silent calls answers memory
 
-abbrev pub Reports : (calls answers : ℤ) → (memory : ℕ) → Report → Type 0
-Reports c a memory Report.Agrees = (t : Tapes c a) × VerdictOn memory Verdict.agrees t
-Reports c a memory (Report.Differs n) = (t : Tapes c a) × VerdictOn memory (Verdict.differs n) t
-Reports c a memory Report.Nothing = Silent c a memory
+abbrev pub Reports : (calls answers : ℤ) → (memory : ℕ) → Option Report → Type 0
+Reports c a memory (Some Report.Agrees) = (t : Tapes c a) × VerdictOn memory Verdict.agrees t
+Reports c a memory (Some (Report.Differs n)) = (t : Tapes c a) × VerdictOn memory (Verdict.differs n) t
+Reports c a memory None = Silent c a memory
 
 -- "reads two tapes, calls and answers, from files named by its two arguments"; a third word is the length of the card's memory
-pub record Reported (r : Report) : Type 0 where
+pub record Reported (r : Option Report) : Type 0 where
   pub calls : ℤ
   pub answers : ℤ
   pub memory : ℕ

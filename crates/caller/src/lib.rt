@@ -8,6 +8,8 @@ ghost use Rattle.rules.specs.Call.{Call};
 ghost use Rattle.judge.specs.Whole.{FromC};
 ghost use Rattle.caller.specs.Exchange.{seen, exchange, Answered};
 
+// ---- a function for each export, with the clause `FromC` of its own call
+
 pub fn reset(state: &mut [u8], memory: u64) -> u32
     ensures { FromC state.old (seen (Call.reset memory) result state.new [] []) }
 {
@@ -69,71 +71,69 @@ pub fn poll(state: &mut [u8], cqn: u32, buffer: &mut [u8]) -> u32
     engine::lesungkap_poll(state, cqn, buffer)
 }
 
+// What the calls of `run` are given, beside the state and the buffers that they change.
+#[derive(Clone, Copy)]
+pub struct Given<'a> {
+    pub size: u64,
+    pub command: &'a [u8],
+    pub region: &'a [u8],
+    pub pages: &'a [u64],
+    pub receiver: u32,
+    pub posted: &'a [u8],
+    pub sender: u32,
+    pub sent: &'a [u8],
+    pub queued: &'a [u8],
+    pub cqn: u32,
+}
+
 // What the calls of `run` returned.
 #[derive(Clone, Copy)]
 pub struct Results {
-    reset: u32,
-    control: u32,
-    pages: u32,
-    receive: u32,
-    send: u32,
-    enqueue: u32,
-    turn: u32,
-    flush: u32,
-    poll: u32,
+    pub reset: u32,
+    pub control: u32,
+    pub pages: u32,
+    pub receive: u32,
+    pub send: u32,
+    pub enqueue: u32,
+    pub turn: u32,
+    pub flush: u32,
+    pub poll: u32,
 }
 
 // The nine in turn on one state, which each finds as the last one left it. Post send has one memory, the two calls of send
-// queues another.
+// queues another. The buffers stay parameters: a clause names what is left behind a `&mut` in a struct by its place alone.
 pub fn run(
     state: &mut [u8],
-    size: u64,
-    command: &[u8],
+    given: Given<'_>,
     ack: &mut [u8],
-    region: &[u8],
-    pages: &[u64],
     keys: &mut [u8],
-    receiver: u32,
-    posted: &[u8],
     memory: &mut [u8],
-    sender: u32,
-    sent: &[u8],
-    queued: &[u8],
     later: &mut [u8],
-    cqn: u32,
     buffer: &mut [u8],
 ) -> Results
-    ensures { Answered state.old (exchange (Call.reset size) result.reset [] [])
-        (exchange (Call.control command.now ack.old) result.control [] ack.new
-        ∷ exchange (Call.register_pages region.now pages.now keys.old) result.pages []
+    ensures { let g = given.entry in
+        Answered state.old (exchange (Call.reset g.size) result.reset [] [])
+        (exchange (Call.control g.command.now ack.old) result.control [] ack.new
+        ∷ exchange (Call.register_pages g.region.now g.pages.now keys.old) result.pages []
         keys.new
-        ∷ exchange (Call.receive receiver posted.now) result.receive [] []
-        ∷ exchange (Call.send sender sent.now memory.old) result.send memory.new []
-        ∷ exchange (Call.enqueue sender queued.now later.old) result.enqueue later.old []
+        ∷ exchange (Call.receive g.receiver g.posted.now) result.receive [] []
+        ∷ exchange (Call.send g.sender g.sent.now memory.old) result.send memory.new []
+        ∷ exchange (Call.enqueue g.sender g.queued.now later.old) result.enqueue later.old []
         ∷ exchange (Call.turn later.old) result.turn later.new []
-        ∷ exchange (Call.flush receiver) result.flush [] []
-        ∷ exchange (Call.poll cqn buffer.old) result.poll [] buffer.new
+        ∷ exchange (Call.flush g.receiver) result.flush [] []
+        ∷ exchange (Call.poll g.cqn buffer.old) result.poll [] buffer.new
         ∷ [])
         state.new }
 {
-    let first = reset(state, size);
-    let second = control(state, command, ack);
-    let third = register_pages(state, region, pages, keys);
-    let fourth = receive(state, receiver, posted);
-    let fifth = send(state, memory, sender, sent);
-    let sixth = enqueue(state, later, sender, queued);
-    let seventh = turn(state, later);
-    let eighth = flush(state, receiver);
-    let ninth = poll(state, cqn, buffer);
     Results {
-        reset: first,
-        control: second,
-        pages: third,
-        receive: fourth,
-        send: fifth,
-        enqueue: sixth,
-        turn: seventh,
-        flush: eighth,
-        poll: ninth,
+        reset: reset(state, given.size),
+        control: control(state, given.command, ack),
+        pages: register_pages(state, given.region, given.pages, keys),
+        receive: receive(state, given.receiver, given.posted),
+        send: send(state, memory, given.sender, given.sent),
+        enqueue: enqueue(state, later, given.sender, given.queued),
+        turn: turn(state, later),
+        flush: flush(state, given.receiver),
+        poll: poll(state, given.cqn, buffer),
     }
 }

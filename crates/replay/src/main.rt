@@ -3,53 +3,14 @@
 // only moved.
 #![tactic(auto)]
 
-ghost use Rattle.std.specs.Prelude.{List, ℕ, ◌≤◌, length as ListN·length};
+ghost use Rattle.std.specs.Prelude.{IfSome};
 ghost use Rattle.tape.specs.Inside.{Lies, Starts};
-ghost use Rattle.replay.specs.Inside.{Uses, Goes};
 
-use tape::Reply;
 use tape::input::{Held, Source};
+use tape::{Part, Reply};
 
-// What a round did: it used so many of the bytes held, wants more, or ends the tape.
-#[derive(Clone, Copy)]
-enum Done {
-    Used(usize),
-    More,
-    Stop,
-}
-
-// What is held after a round, or that the tape ends.
-#[derive(Clone, Copy)]
-enum Next {
-    On(Held),
-    Stop,
-}
-
-// Writes an answer record of a record of so many bytes. The tape goes on where it could be written.
-fn write(rt: &impl Print, out: &[u8], used: usize) -> Done
-    ensures { (held : List ℕ) → used ≤ ListN·length held → Uses result held }
-{
-    match rt.write_all(out) {
-        Ok(()) => Done::Used(used),
-        Err(_) => Done::Stop,
-    }
-}
-
-fn answer(rt: &impl Print, state: &mut [u8], memory: &mut [u8], held: &[u8], ended: bool) -> Done
-    ensures { Uses result held.now }
-{
-    let mut out = [0u8; tape::MOST_ANSWER];
-    match tape::steps::reply(state, memory, held, ended, &mut out) {
-        Reply::Answered { used, written } => write(rt, &out[..written], used),
-        Reply::Fault => {
-            let _ = rt.write_all(&out[..6]);
-            Done::Stop
-        }
-        Reply::End => Done::Stop,
-        Reply::More => Done::More,
-    }
-}
-
+// Answers what stands at the front of the bytes held. What is held after that; nothing where the tape ends, or an answer can't be
+// written.
 fn round(
     rt: &impl Print,
     source: &Source,
@@ -57,42 +18,41 @@ fn round(
     memory: &mut [u8],
     window: &mut [u8],
     held: Held,
-) -> Next
+) -> Option<Held>
     requires { Lies held window.old }
-    ensures { Goes result window.new }
+    ensures { IfSome result (λ h. Lies h window.new) }
 {
-    let from = held.from;
-    let to = held.to;
-    let ended = held.ended;
-    match answer(rt, state, memory, &window[from..to], ended) {
-        Done::Used(n) => Next::On(Held {
-            from: from + n,
-            to,
-            ended,
-        }),
-        Done::More => {
-            let read = tape::input::more(source, window, held);
-            let after = read.held; // a read that fails is the input's end
-            Next::On(after)
+    let mut out = [0u8; tape::MOST_ANSWER];
+    let part = Part {
+        bytes: &window[held.from..held.to],
+        ended: held.ended,
+    };
+    match tape::steps::reply(state, memory, part, &mut out) {
+        Reply::Answered { used, written } => {
+            rt.write_all(&out[..written]).ok()?;
+            let from = held.from + used;
+            Some(Held { from, ..held })
         }
-        Done::Stop => Next::Stop,
+        Reply::Fault => {
+            let _ = rt.write_all(&out[..6]);
+            None
+        }
+        Reply::End => None,
+        Reply::More => match tape::input::more(source, window, held) {
+            Ok(held) => Some(held),
+            Err(failed) => Some(failed.held), // it is the input's end
+        },
     }
 }
 
-// A proved loop has to end, and nothing says that a tape does: the rounds are counted down from a number that no run uses up.
+// A proved loop has to end, and nothing says that a tape does: there are more rounds than any run uses up.
 fn run(rt: &impl Print, source: &Source, state: &mut [u8], memory: &mut [u8], window: &mut [u8]) {
-    let mut held = Held {
-        from: 0,
-        to: 0,
-        ended: false,
-    };
-    let mut rounds = u64::MAX;
-    while rounds > 0 {
+    let mut held = Held::default();
+    for _ in 0..u64::MAX {
         match round(rt, source, state, memory, window, held) {
-            Next::On(next) => held = next,
-            Next::Stop => return,
+            Some(next) => held = next,
+            None => return,
         }
-        rounds -= 1;
     }
 }
 
@@ -108,12 +68,14 @@ fn main(rt: HostRuntime) {
     let source = tape::input::standard(rt.stdin());
     let mut state = [0u8; tape::STATE];
     let mut memory = tape::start::memory();
-    let length = tape::start::length_asked(&rt, 1);
-    if tape::start::start(&mut state, length) {
-        run_in(&rt, &source, &mut state, &mut memory, length as usize);
-    } else {
-        let _ = eprintln!(rt;
-            "usage: replay [LENGTH] <CALLS >ANSWERS   LENGTH is the memory's, 1 to 1048576"
-        );
+    match tape::start::length_asked(&rt, 1) {
+        Some(length) if tape::start::start(&mut state, length) => {
+            run_in(&rt, &source, &mut state, &mut memory, length as usize)
+        }
+        _ => {
+            let _ = eprintln!(rt;
+                "usage: replay [LENGTH] <CALLS >ANSWERS   LENGTH is the memory's, 1 to 1048576"
+            );
+        }
     }
 }

@@ -13,6 +13,7 @@ use borrow.Author.Tests.{leb-true, ne_eqb}
 use Rattle.rules.specs.Call.{Call}
 use Rattle.rules.specs.Contract.{bytes_after}
 use Rattle.tape.specs.declared.Found.{Found}
+use Rattle.tape.specs.declared.Header.{Header}
 use Rattle.tape.specs.declared.Step.{Step}
 use Rattle.tape.specs.Tape.{step_of, call_at, memory_left, answer_to, bad_record, played}
 use Rattle.tape.specs.Pieces.{replied, Input, next, past}
@@ -109,23 +110,23 @@ module _ (n : ℕ) (l m : List ℕ) (c a : Input) (lc : Lawful c) (la : Lawful a
       ∙ same_at held bad_record [] (omega arith) h
   fault_at held false h = other_at held bad_record [] (omega arith) h
 
-  whole_at : Enough a → (k q s : ℕ) (b : Bool) → starts (answer_to l (call_at k q s m c.held)) a.held ≡ b
-      → let call = call_at k q s m c.held in
-      verdict_by n (cond b (Found.Same (6 + s) (length (answer_to l call))) (Found.Differs 0)) (bytes_after l call) (memory_left l m call) c a
-      ≡ against n (answer_to l call ∷ played (bytes_after l call) (memory_left l m call) (content (past (6 + s) c))) (content a)
-  whole_at held k q s true h =
-      let call : Call = call_at k q s m c.held in
+  whole_at : Enough a → (x : Header) (b : Bool) → starts (answer_to l (call_at x m c.held)) a.held ≡ b
+      → let call = call_at x m c.held in
+      verdict_by n (cond b (Found.Same (6 + x.length) (length (answer_to l call))) (Found.Differs 0)) (bytes_after l call) (memory_left l m call) c a
+      ≡ against n (answer_to l call ∷ played (bytes_after l call) (memory_left l m call) (content (past (6 + x.length) c))) (content a)
+  whole_at held x true h =
+      let call : Call = call_at x m c.held in
       let r : List ℕ = answer_to l call in
-      ap (against (suc n) (played (bytes_after l call) (memory_left l m call) (content (past (6 + s) c))))
+      ap (against (suc n) (played (bytes_after l call) (memory_left l m call) (content (past (6 + x.length) c))))
       (sym (past_content a (length r) (starts_long r a.held h)))
-      ∙ same_at held r (played (bytes_after l call) (memory_left l m call) (content (past (6 + s) c))) (answer_most l call) h
-  whole_at held k q s false h =
-      let call : Call = call_at k q s m c.held in
-      other_at held (answer_to l call) (played (bytes_after l call) (memory_left l m call) (content (past (6 + s) c))) (answer_most l call) h
+      ∙ same_at held r (played (bytes_after l call) (memory_left l m call) (content (past (6 + x.length) c))) (answer_most l call) h
+  whole_at held x false h =
+      let call : Call = call_at x m c.held in
+      other_at held (answer_to l call) (played (bytes_after l call) (memory_left l m call) (content (past (6 + x.length) c))) (answer_most l call) h
 
   step_at_lem : Enough a → (x : Step) → step_of c.held c.ended ≡ x → verdict_at n l m c a true x ≡ verdict_from n l m c a
-  step_at_lem held (Step.Whole k q s) e =
-      whole_at held k q s (starts (answer_to l (call_at k q s m c.held)) a.held) refl
+  step_at_lem held (Step.Whole r) e =
+      whole_at held r (starts (answer_to l (call_at r m c.held)) a.held) refl
       ∙ ap (λ (rs : List (List ℕ)). against n rs (content a)) (sym (played_whole l m c lc e))
   step_at_lem held Step.Fault e =
       fault_at held (starts bad_record a.held) refl

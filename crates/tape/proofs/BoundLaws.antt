@@ -1,31 +1,34 @@
 -- The bounds of a record: a header is in its first six bytes, a body has at most 640, an answer record at most 135. Assumes nothing.
-use mathlib.Core.Path.{◌≡◌, refl, sym, ◌∙◌}
+use mathlib.Core.Path.{◌≡◌, refl, sym, ap, ◌∙◌}
 use mathlib.Core.Bool.{Bool, true, false, cond, ◌&&◌, ◌||◌}
 use mathlib.Core.List.{List}
 use mathlib.Core.Option.{Option, none, some}
 use Prim.Native.Nat.{ℕ, ◌+◌, min, ◌≤◌}
 use native.Mathlib.Decide.{dec_lt}
 use native.Mathlib.Omega.{arith}
-use lib.Dec.{eqb, ltb, leb}
+use lib.Dec.{eqb, ltb}
 use lib.ListN.{length, take, length-take, length-append}
 use lib.Seq.{get_or-take}
-use borrow.Author.Tests.{le-ltb, lt-ltb, leb-true}
+use borrow.Author.Tests.{le-ltb, lt-ltb, leb-true, eqb-true}
 use Rattle.wire.specs.Le.{le_at}
 use Rattle.wire.proofs.LeLaws.{le_at_same}
-use Rattle.wire.proofs.ScanLaws.{and_left, and_right}
+use Rattle.wire.proofs.ScanLaws.{and_right}
 use Rattle.validate.specs.Accept.{accepts}
 use Rattle.tables.specs.Card.{Card}
 use Rattle.tables.specs.State.{card}
 use Rattle.tables.specs.Commands.{Command, ack_size}
 use Rattle.rules.specs.Answer.{is_done}
 use Rattle.rules.specs.Call.{Call, Buffer, given}
-use Rattle.rules.specs.Calls.{Result, owed}
+use Rattle.rules.specs.Calls.{Result as Calls·Result, owed}
 use Rattle.rules.specs.Control.{command_ack}
 use Rattle.rules.specs.Lists.{maybe}
 use Rattle.rules.specs.declared.Answer.{Answer}
 use Rattle.rules.specs.declared.Answer.TheVariants.{Done, Held, Refused}
-use Rattle.tape.specs.declared.Header.TheVariants.{Record, Bad, Cut}
-use Rattle.tape.specs.Tape.{is_mark, is_kind, is_good, is_length, ack_written_by, written_in, written_by, answer_head, answer_record, header_of, answer_to}
+use Rattle.std.specs.Prelude.{Ok, Err}
+use Rattle.tape.specs.declared.HeaderError.{HeaderError}
+use Rattle.tape.specs.declared.Kind.{Kind}
+use Rattle.tape.specs.declared.Header.{Header}
+use Rattle.tape.specs.Tape.{is_mark, is_kind, kind_of, is_good, is_length, header_at, ack_written_by, written_in, written_by, answer_head, answer_record, header_of, answer_to}
 use Rattle.tape.specs.Inside.{Answers}
 
 -- ---- a header is in its first six bytes
@@ -47,17 +50,24 @@ module _ (i : List ℕ) where
 
 -- ---- a record's body has at most 640 bytes
 
-taken : (a g : Bool) (k n s : ℕ) {k' n' s' : ℕ} → cond a Cut (cond g (Record k n s) Bad) ≡ Record k' n' s' → (g ≡ true) × (s ≡ s')
-taken true g k n s e = absurd (let z : ◌≡◌ {A = ℕ} 0 1 = cc in omega arith)
-taken false true k n s e = (refl, cc)
-taken false false k n s e = absurd (let z : ◌≡◌ {A = ℕ} 0 1 = cc in omega arith)
+taken : (a g : Bool) (r : Header) {r' : Header} → cond a (Err HeaderError.Cut) (cond g (Ok r) (Err HeaderError.Bad)) ≡ Ok r' → (g ≡ true) × (r ≡ r')
+taken true g r e = absurd cc
+taken false true r e = (refl, cc)
+taken false false r e = absurd cc
 
-pub body_most : (i : List ℕ) {k n s : ℕ} → header_of i ≡ Record k n s → s ≤ 640
+length_most : (k : Kind) (n : ℕ) → is_length k n ≡ true → n ≤ 640
+length_most Kind.Control n h = leb-true n 640 h
+length_most Kind.Send n h = leb-true n 640 h
+length_most Kind.Receive n h = leb-true n 640 h
+length_most Kind.Poll n h = let z = eqb-true n 0 h in omega arith
+length_most Kind.Flush n h = let z = eqb-true n 0 h in omega arith
+
+pub body_most : (i : List ℕ) {r : Header} → header_of i ≡ Ok r → r.length ≤ 640
 unfolding header_of
-body_most i {k} {n} {s} e =
-    let t : (is_good i ≡ true) × (le_at 2 i 4 ≡ s) = taken (ltb (length i) 6) (is_good i) (le_at 1 i 2) (le_at 1 i 3) (le_at 2 i 4) e in
-    let g : is_length (le_at 1 i 2) (le_at 2 i 4) ≡ true = and_right (is_mark i && is_kind (le_at 1 i 2)) _ t.0 in
-    let m : le_at 2 i 4 ≤ 640 = leb-true _ 640 (and_left (leb (le_at 2 i 4) 640) _ g) in
+body_most i {r} e =
+    let t : (is_good i ≡ true) × (header_at i ≡ r) = taken (ltb (length i) 6) (is_good i) (header_at i) e in
+    let m : le_at 2 i 4 ≤ 640 = length_most (kind_of (le_at 1 i 2)) _ (and_right (is_mark i && is_kind (le_at 1 i 2)) _ t.0) in
+    let s : le_at 2 i 4 ≡ r.length = ap (λ (x : Header). x.length) t.1 in
     omega arith
 
 -- ---- an answer record has at most 135 bytes
@@ -97,7 +107,7 @@ written_most r c o (Buffer.for_completion b) = picked_most (is_done r) (omega ar
 pub answer_most : (l : List ℕ) (k : Call) → length (answer_to l k) ≤ 135
 unfolding answer_to answer_record
 answer_most l k =
-    let o : Result = owed card accepts l k in
+    let o : Calls·Result = owed card accepts l k in
     let n : ℕ = written_by o.answer (card l) k in
     let w : n ≤ 129 = written_most o.answer (card l) (given k).command (given k).buffer in
     let t : length (take n o.buffer) ≡ min n (length o.buffer) = length-take n o.buffer in

@@ -1,6 +1,6 @@
 -- "lends buffers that never give 12": no call of a tape is answered 12, on any state. Assumes nothing.
 use mathlib.Core.Path.{◌≡◌, refl, sym}
-use mathlib.Core.Bool.{Bool, true, false, cond, not, true≢false}
+use mathlib.Core.Bool.{Bool, true, not, true≢false}
 use mathlib.Core.List.{List, [], ◌∷◌, ◌++◌}
 use mathlib.Core.Option.{Option, some}
 use Prim.Native.Nat.{ℕ}
@@ -26,6 +26,7 @@ use Rattle.rules.specs.Send.{pair_checks, queue_checks, delivery_checks}
 use Rattle.tables.specs.Records.{request_of}
 use Rattle.rules.proofs.Answers.{first_with, command_tests, hold_tests}
 use Rattle.rules.proofs.Ranges.{all_split}
+use Rattle.tape.specs.declared.Kind.{Kind}
 use Rattle.tape.specs.Tape.{completion_size, tape_ack, call_of}
 
 abbrev other : ℕ → Bool
@@ -71,13 +72,9 @@ module _ (l : List ℕ) where
   unfolding all checks buffer_checks poll_checks within clear apart completion_codec
   poll_never n e = without (unusable ∷ poll_checks (card l) n) refl e
 
-  either : (b : Bool) (x y : Call) → Never l x → Never l y → Never l (cond b x y)
-  either true x y p q = p
-  either false x y p q = q
-
-  pub never_short : (k n : ℕ) (b m : List ℕ) → Never l (call_of k n b m)
-  never_short k n b m =
-      either (eqb k 1) (Call.control b (zeros tape_ack)) _ (control_never b)
-      (either (eqb k 2) (Call.send n b m) _ (send_never n b m)
-      (either (eqb k 3) (Call.receive n b) _ (receive_never n b)
-      (either (eqb k 4) (Call.poll n (zeros completion_size)) (Call.flush n) (poll_never n) (flush_never n))))
+  pub never_short : (k : Kind) (n : ℕ) (b m : List ℕ) → Never l (call_of k n b m)
+  never_short Kind.Control n b m = control_never b
+  never_short Kind.Send n b m = send_never n b m
+  never_short Kind.Receive n b m = receive_never n b
+  never_short Kind.Poll n b m = poll_never n
+  never_short Kind.Flush n b m = flush_never n

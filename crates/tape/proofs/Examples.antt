@@ -18,7 +18,9 @@ use Rattle.tables.proofs.ResetLaws.{reset_card}
 use Rattle.rules.specs.Call.{Call}
 use Rattle.rules.specs.Calls.{checks, control_checks, status_of, buffer_after}
 use Rattle.rules.specs.Control.{command_checks, command_ack}
-use Rattle.tape.specs.declared.Header.TheVariants.{Record, Bad, Cut}
+use Rattle.std.specs.Prelude.{Ok, Err}
+use Rattle.tape.specs.declared.HeaderError.{HeaderError}
+use Rattle.tape.specs.declared.Kind.{Kind}
 use Rattle.tape.specs.Tape.{header_of, step_of, answer_record, answer_to, play, records, tape_ack, tape_memory, bad_record, output}
 use Rattle.tape.specs.Audit.{Verdict, starts, against, verdict}
 use Rattle.tape.proofs.VerdictLaws.{agrees_output}
@@ -40,10 +42,10 @@ pub whole_case_lem : output whole_case ≡ 114 ∷ 107 ∷ 0 ∷ 0 ∷ 5 ∷ 0 �
 unfolding output records play step_of header_of le_at flatten
 whole_case_lem = ap (λ (a : List ℕ). a ++ []) first_domain
 
-pub header_edges : (header_of (82 ∷ 75 ∷ 1 ∷ 0 ∷ 128 ∷ 2 ∷ []) ≡ Record 1 0 640) × (header_of (82 ∷ 75 ∷ 1 ∷ 0 ∷ 129 ∷ 2 ∷ []) ≡ Bad)
-    × (header_of (82 ∷ 75 ∷ 4 ∷ 255 ∷ 0 ∷ 0 ∷ []) ≡ Record 4 255 0) × (header_of (82 ∷ 75 ∷ 5 ∷ 0 ∷ 1 ∷ 0 ∷ []) ≡ Bad)
-    × (header_of (82 ∷ 75 ∷ 0 ∷ 0 ∷ 0 ∷ 0 ∷ []) ≡ Bad) × (header_of (82 ∷ 75 ∷ 6 ∷ 0 ∷ 0 ∷ 0 ∷ []) ≡ Bad)
-    × (header_of (75 ∷ 82 ∷ 1 ∷ 0 ∷ 2 ∷ 0 ∷ []) ≡ Bad) × (header_of (82 ∷ 75 ∷ 1 ∷ 0 ∷ 2 ∷ []) ≡ Cut)
+pub header_edges : (header_of (82 ∷ 75 ∷ 1 ∷ 0 ∷ 128 ∷ 2 ∷ []) ≡ Ok (record { kind = Kind.Control; number = 0; length = 640 })) × (header_of (82 ∷ 75 ∷ 1 ∷ 0 ∷ 129 ∷ 2 ∷ []) ≡ Err HeaderError.Bad)
+    × (header_of (82 ∷ 75 ∷ 4 ∷ 255 ∷ 0 ∷ 0 ∷ []) ≡ Ok (record { kind = Kind.Poll; number = 255; length = 0 })) × (header_of (82 ∷ 75 ∷ 5 ∷ 0 ∷ 1 ∷ 0 ∷ []) ≡ Err HeaderError.Bad)
+    × (header_of (82 ∷ 75 ∷ 0 ∷ 0 ∷ 0 ∷ 0 ∷ []) ≡ Err HeaderError.Bad) × (header_of (82 ∷ 75 ∷ 6 ∷ 0 ∷ 0 ∷ 0 ∷ []) ≡ Err HeaderError.Bad)
+    × (header_of (75 ∷ 82 ∷ 1 ∷ 0 ∷ 2 ∷ 0 ∷ []) ≡ Err HeaderError.Bad) × (header_of (82 ∷ 75 ∷ 1 ∷ 0 ∷ 2 ∷ []) ≡ Err HeaderError.Cut)
 unfolding header_of le_at
 header_edges = (refl, refl, refl, refl, refl, refl, refl, refl)
 

@@ -1,5 +1,5 @@
 -- What a round of the audit finds, from what its reply to the calls left. Assumes nothing.
-use mathlib.Core.Path.{◌≡◌, refl, sym, ap, subst, ◌∙◌}
+use mathlib.Core.Path.{◌≡◌, refl, sym, ap, ap₂, subst, ◌∙◌}
 use mathlib.Core.Bool.{Bool, true, false, cond, ◌||◌, true≢false}
 use mathlib.Core.List.{List}
 use Prim.Native.Nat.{ℕ, ◌+◌, ◌-◌, ◌≤◌, ◌<◌}
@@ -9,6 +9,7 @@ use lib.ListN.{length, take, drop}
 use lib.Seq.{take-append_seam}
 use borrow.Author.Tests.{leb-false}
 use Rattle.tape.specs.declared.Found.{Found}
+use Rattle.tape.specs.declared.Header.{Header}
 use Rattle.tape.specs.declared.Step.{Step}
 use Rattle.tape.specs.declared.Reply.{Reply}
 use Rattle.tape.specs.Tape.{step_of, call_at, answer_to, bad_record}
@@ -28,30 +29,30 @@ finds l m t a g q e = record { found = e; state = a.state; memory = a.memory }
 
 module _ {out : List ℕ} {r : Reply} {l' m' out' : List ℕ} (g : List ℕ) (q : Found) where
   pub found_answered : (x : Step) (l m i : List ℕ) → Leaves (replied x l m i) out r l' m' out' → {u w : ℕ} → r ≡ Reply.Answered u w
-      → q ≡ cond (starts (take w out') g) (Found.Same u (length (take w out'))) (Found.Differs 0) → Finds (finding_by true l m (replied x l m i) g) q l' m'
-  found_answered (Step.Whole k n s) l m i t {u} {w} e p =
-      let b : List ℕ = answer_to l (call_at k n s m i) in
-      let says : r ≡ Reply.Answered (6 + s) (length b) = t.says in
-      let eu : u ≡ 6 + s = cc in
+      → q ≡ cond (starts (take w out') g) (Found.Same u w) (Found.Differs 0) → Finds (finding_by true l m (replied x l m i) g) q l' m'
+  found_answered (Step.Whole x) l m i t {u} {w} e p =
+      let b : List ℕ = answer_to l (call_at x m i) in
+      let says : r ≡ Reply.Answered (6 + x.length) (length b) = t.says in
+      let eu : u ≡ 6 + x.length = cc in
       let ew : w ≡ length b = cc in
       let f : take w out' ≡ b = ap (λ (j : ℕ). take j out') ew ∙ written b out out' t.bytes in
-      finds l m (replied (Step.Whole k n s) l m i) t g q
-      (p ∙ ap (λ (y : List ℕ). cond (starts y g) (Found.Same u (length y)) (Found.Differs 0)) f
-      ∙ ap (λ (y : ℕ). cond (starts b g) (Found.Same y (length b)) (Found.Differs 0)) eu)
-  found_answered Step.Fault l m i t e p = absurd (let says : r ≡ Reply.Fault = t.says in let z : ◌≡◌ {A = ℕ} 0 1 = cc in omega arith)
-  found_answered Step.End l m i t e p = absurd (let says : r ≡ Reply.End = t.says in let z : ◌≡◌ {A = ℕ} 0 1 = cc in omega arith)
-  found_answered Step.More l m i t e p = absurd (let says : r ≡ Reply.More = t.says in let z : ◌≡◌ {A = ℕ} 0 1 = cc in omega arith)
+      finds l m (replied (Step.Whole x) l m i) t g q
+      (p ∙ ap (λ (y : List ℕ). cond (starts y g) (Found.Same u w) (Found.Differs 0)) f
+      ∙ ap₂ (λ (y z : ℕ). cond (starts b g) (Found.Same y z) (Found.Differs 0)) eu ew)
+  found_answered Step.Fault l m i t e p = absurd (let says : r ≡ Reply.Fault = t.says in cc)
+  found_answered Step.End l m i t e p = absurd (let says : r ≡ Reply.End = t.says in cc)
+  found_answered Step.More l m i t e p = absurd (let says : r ≡ Reply.More = t.says in cc)
 
   pub found_fault : (x : Step) (l m i : List ℕ) → Leaves (replied x l m i) out r l' m' out' → r ≡ Reply.Fault
-      → q ≡ cond (starts (take 6 out') g) (closing 1 (length g - length (take 6 out'))) (Found.Differs 0)
+      → q ≡ cond (starts (take 6 out') g) (closing 1 (length g - 6)) (Found.Differs 0)
       → Finds (finding_by true l m (replied x l m i) g) q l' m'
-  found_fault (Step.Whole k n s) l m i t e p =
-      absurd (let says : r ≡ Reply.Answered (6 + s) (length (answer_to l (call_at k n s m i))) = t.says in let z : ◌≡◌ {A = ℕ} 0 1 = cc in omega arith)
+  found_fault (Step.Whole x) l m i t e p =
+      absurd (let says : r ≡ Reply.Answered (6 + x.length) (length (answer_to l (call_at x m i))) = t.says in cc)
   found_fault Step.Fault l m i t e p =
       finds l m (replied Step.Fault l m i) t g q
-      (p ∙ ap (λ (y : List ℕ). cond (starts y g) (closing 1 (length g - length y)) (Found.Differs 0)) (written bad_record out out' t.bytes))
-  found_fault Step.End l m i t e p = absurd (let says : r ≡ Reply.End = t.says in let z : ◌≡◌ {A = ℕ} 0 1 = cc in omega arith)
-  found_fault Step.More l m i t e p = absurd (let says : r ≡ Reply.More = t.says in let z : ◌≡◌ {A = ℕ} 0 1 = cc in omega arith)
+      (p ∙ ap (λ (y : List ℕ). cond (starts y g) (closing 1 (length g - 6)) (Found.Differs 0)) (written bad_record out out' t.bytes))
+  found_fault Step.End l m i t e p = absurd (let says : r ≡ Reply.End = t.says in cc)
+  found_fault Step.More l m i t e p = absurd (let says : r ≡ Reply.More = t.says in cc)
 
   pub found_end : (x : Step) (l m i : List ℕ) → Leaves (replied x l m i) out r l' m' out' → r ≡ Reply.End → q ≡ closing 0 (length g)
       → Finds (finding_by true l m (replied x l m i) g) q l' m'
@@ -92,9 +93,9 @@ module _ (l m i : List ℕ) (e : Bool) (g : List ℕ) (f : Bool) where
   closing_within true k h = tt
   closing_within false k h = h
 
-  whole_within : {k n s : ℕ} → step_of i e ≡ Step.Whole k n s → (b : Bool) → starts (answer_to l (call_at k n s m i)) g ≡ b
-      → Within (cond b (Found.Same (6 + s) (length (answer_to l (call_at k n s m i)))) (Found.Differs 0)) i e g f
-  whole_within {k} {n} {s} p true h = ((whole_held i e p).1, starts_long (answer_to l (call_at k n s m i)) g h, omega arith)
+  whole_within : {r : Header} → step_of i e ≡ Step.Whole r → (b : Bool) → starts (answer_to l (call_at r m i)) g ≡ b
+      → Within (cond b (Found.Same (6 + r.length) (length (answer_to l (call_at r m i)))) (Found.Differs 0)) i e g f
+  whole_within {r} p true h = ((whole_held i e p).1, starts_long (answer_to l (call_at r m i)) g h, omega arith)
   whole_within p false h = omega arith
 
   fault_within : (b : Bool) → Within (cond b (closing 1 (length g - 6)) (Found.Differs 0)) i e g f
@@ -102,7 +103,7 @@ module _ (l m i : List ℕ) (e : Bool) (g : List ℕ) (f : Bool) where
   fault_within false = omega arith
 
   step_within : (x : Step) → step_of i e ≡ x → Within (finding_by true l m (replied x l m i) g).found i e g f
-  step_within (Step.Whole k n s) p = whole_within p (starts (answer_to l (call_at k n s m i)) g) refl
+  step_within (Step.Whole r) p = whole_within p (starts (answer_to l (call_at r m i)) g) refl
   step_within Step.Fault p = fault_within (starts bad_record g)
   step_within Step.End p = closing_within (eqb (length g) 0) 0 (omega arith)
   step_within Step.More p = ((more_wanting i e p).0, (more_wanting i e p).1)

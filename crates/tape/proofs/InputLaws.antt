@@ -1,57 +1,31 @@
 -- Bytes held in a window: moved to its start, with a piece read behind them. Assumes nothing.
-use mathlib.Core.Path.{◌≡◌, refl, sym, ap, subst, ◌∙◌}
-use mathlib.Core.List.{List, [], ◌∷◌, ◌++◌}
+use mathlib.Core.Path.{◌≡◌, refl, sym, ap, ap₂, subst, ◌∙◌}
+use mathlib.Core.List.{List, [], ◌++◌, append-nil}
 use mathlib.Core.Bool.{Bool, true, false, true≢false}
-use Prim.Native.Nat.{ℕ, ◌+◌, ◌-◌, ◌≤◌, ◌<◌}
-use native.Mathlib.Numerals.{add-one}
+use Prim.Native.Nat.{ℕ, ◌+◌, ◌-◌, ◌≤◌}
 use native.Mathlib.Omega.{arith}
-use lib.ListN.{length, take, drop, get_or, set, length-set, length-drop}
+use lib.ListN.{length, take, drop, length-drop, length-append, drop_of_length-le}
 use lib.Dec.{eqb}
 use lib.IntN.{ℤ, pos, negsuc}
 use Rattle.tape.specs.declared.input.Held.{Held}
-use Rattle.tape.specs.declared.input.Read.{Read}
+use Rattle.tape.specs.declared.input.ReadFailed.{ReadFailed}
 use Rattle.tape.specs.System.{Event, Happened, Unreadable}
-use Rattle.tape.specs.Inside.{held_in, Lies, bytes_by, is_failure, Gives, Reads}
-use lib.Seq.{length-take-le, take-add, take-suc, take-suc-set, drop-set-lt, drop-drop, get_or-drop}
-
--- i bytes of the window w₀ are moved to its start, from the place `from` on
-pub record Moved (from : ℕ) (w₀ : List ℕ) (i : ℕ) (w : List ℕ) : Type 0 where
-  pub front : take i w ≡ take i (drop from w₀)
-  pub rest : drop i w ≡ drop i w₀
-  pub sized : length w ≡ length w₀
-
-pub moved_none : (from : ℕ) (w : List ℕ) → Moved from w 0 w
-moved_none from w = record { front = refl; rest = refl; sized = refl }
-
-pub moved_more : (from : ℕ) (w₀ : List ℕ) (i : ℕ) (w : List ℕ) → from + i < length w₀ → Moved from w₀ i w
-    → Moved from w₀ (i + 1) (set w i (get_or w (from + i) 0))
-moved_more from w₀ i w h m =
-    let z : length w ≡ length w₀ = m.sized in
-    let v : ℕ = get_or w (from + i) 0 in
-    let swap : from + i ≡ i + from = omega arith in
-    let d : length (drop from w₀) ≡ length w₀ - from = length-drop from w₀ in
-    let e : v ≡ get_or (drop from w₀) i 0 =
-    ap (λ (k : ℕ). get_or w k 0) swap ∙ sym (get_or-drop i w from 0) ∙ ap (λ (l : List ℕ). get_or l from 0) m.rest
-    ∙ get_or-drop i w₀ from 0 ∙ ap (λ (k : ℕ). get_or w₀ k 0) (sym swap) ∙ sym (get_or-drop from w₀ i 0) in
-    record {
-      front =
-          ap (λ (k : ℕ). take k (set w i v)) (add-one i) ∙ take-suc-set w i v (omega arith)
-          ∙ ap (λ (l : List ℕ). l ++ (v ∷ [])) m.front ∙ ap (λ (x : ℕ). take i (drop from w₀) ++ (x ∷ [])) e
-          ∙ sym (take-suc (drop from w₀) i 0 (omega arith)) ∙ ap (λ (k : ℕ). take k (drop from w₀)) (sym (add-one i));
-      rest =
-          drop-set-lt (i + 1) w i v (omega arith) ∙ sym (drop-drop 1 i w) ∙ ap (drop 1) m.rest ∙ drop-drop 1 i w₀;
-      sized = length-set w i v ∙ m.sized;
-    }
+use Rattle.tape.specs.Inside.{held_in, Lies, bytes_by, is_failure, count_in, is_err, held_after, Gives, Reads}
+use borrow.Rule.Slice.PartMut.{put_mid}
+use lib.Seq.{length-take-le, take-add, take-append_seam, drop-append_seam}
+use Rattle.std.specs.List.{copy_within}
+use Rattle.std.specs.Prelude.{Result, Ok, Err}
 
 -- ---- a read
 
--- one that answered with so many bytes
-pub gives_read : (file : ℤ) (buffer : List ℕ) (n : ℕ) → Happened (Event.read file (pos n) buffer) → Gives file buffer n false
-gives_read file buffer n h = record { answer = pos n; happened = h; bytes = refl; failure = refl }
+abbrev pub answered : {E : Type 0} → Result ℕ E → ℤ
+answered (Ok n) = pos n
+answered (Err e) = negsuc 0
 
--- one that failed
-pub gives_error : (file : ℤ) (buffer : List ℕ) → Happened (Event.read file (negsuc 0) buffer) → Gives file buffer 0 true
-gives_error file buffer h = record { answer = negsuc 0; happened = h; bytes = refl; failure = refl }
+pub gives : {E : Type 0} (file : ℤ) (buffer : List ℕ) (r : Result ℕ E) → Happened (Event.read file (answered r) buffer)
+    → Gives file buffer (count_in r) (is_err r)
+gives file buffer (Ok n) h = record { answer = pos n; happened = h; bytes = refl; failure = refl }
+gives file buffer (Err e) h = record { answer = negsuc 0; happened = h; bytes = refl; failure = refl }
 
 module _ {file : ℤ} {buffer : List ℕ} {n : ℕ} {failed : Bool} (g : Gives file buffer n failed) where
   pub gives_bytes : failed ≡ false → Happened (Event.read file (pos n) buffer)
@@ -70,7 +44,7 @@ module _ {file : ℤ} {buffer : List ℕ} {n : ℕ} {failed : Bool} (g : Gives f
 
 module _ (file : ℤ) (h : Held) (w : List ℕ) where
   -- no bytes of a window that has not those asked for
-  pub reads_none : (r : Read) → (r.held.from ≡ 0) × (r.held.to ≡ 0) → (Lies h w → ⊥) → Reads file h w r w
+  pub reads_none : (r : Result Held ReadFailed) → ((held_after r).from ≡ 0) × ((held_after r).to ≡ 0) → (Lies h w → ⊥) → Reads file h w r w
   reads_none r z out = record {
     lies = (omega arith, omega arith);
     buffer = [];
@@ -81,28 +55,65 @@ module _ (file : ℤ) (h : Held) (w : List ℕ) where
     ended = λ l. absurd (out l);
   }
 
-  module _ (w₁ w₂ : List ℕ) (k n : ℕ) (failed : Bool) (size : k ≡ h.to - h.from)
-      (moved : take (h.to - h.from) w₁ ≡ take (h.to - h.from) (drop h.from w))
-      (same : take k w₂ ≡ take k w₁) (fits : k + n ≤ length w₂) (long : length w₂ ≡ length w) (gave : Gives file (drop k w₂) n failed) where
-    counted : Lies h w → length (held_in h w) ≡ k
-    counted l =
+  -- a read into the buffer behind those held, which moved to the window's start
+  module _ (lies : Lies h w) (r : Result Held ReadFailed) (w₁ buffer : List ℕ) (n : ℕ)
+      (is : held_after r ≡ record { from = 0; to = h.to - h.from + n; ended = eqb n 0 })
+      (moved : w₁ ≡ copy_within w h.from h.to 0) (sized : length buffer ≡ length w₁ - (h.to - h.from))
+      (fits : n ≤ length buffer) (gave : Gives file buffer n (is_err r)) where
+    abbrev k : ℕ
+    k = h.to - h.from
+
+    counted : length (held_in h w) ≡ k
+    counted =
         let d : length (drop h.from w) ≡ length w - h.from = length-drop h.from w in
-        length-take-le (h.to - h.from) (drop h.from w) (omega arith) ∙ sym size
+        length-take-le k (drop h.from w) (omega arith)
+
+    shifted : w₁ ≡ held_in h w ++ drop k w
+    shifted = let z : 0 + k ≡ k = omega arith in moved ∙ ap (λ (j : ℕ). held_in h w ++ drop j w) z
+
+    long : length w₁ ≡ length w
+    long =
+        let a : length (held_in h w ++ drop k w) ≡ length (held_in h w) + length (drop k w) = length-append (held_in h w) (drop k w) in
+        let d : length (drop k w) ≡ length w - k = length-drop k w in
+        let e = counted in
+        let s : length w₁ ≡ length (held_in h w ++ drop k w) = ap length shifted in
+        omega arith
+
+    front : take k w₁ ≡ held_in h w
+    front =
+        ap (take k) shifted ∙ ap (λ (j : ℕ). take j (held_in h w ++ drop k w)) (sym counted) ∙ take-append_seam (held_in h w) (drop k w)
+
+    abbrev w₂ : List ℕ
+    w₂ = put_mid k (length w₁ - k) w₁ buffer
+
+    behind : w₂ ≡ held_in h w ++ buffer
+    behind =
+        let e = counted in
+        let l = long in
+        let past : length (drop k w₁) ≤ length w₁ - k = omega (arith, length-drop k w₁) in
+        ap₂ (λ (x y : List ℕ). x ++ (buffer ++ y)) front (drop_of_length-le (drop k w₁) past) ∙ ap (λ (x : List ℕ). held_in h w ++ x) (append-nil buffer)
 
     -- the window's first bytes are those held, and then what the read gave
-    all : held_in (record { from = 0; to = k + n; ended = eqb n 0 }) w₂ ≡ held_in h w ++ take n (drop k w₂)
+    all : take (k + n - 0) w₂ ≡ held_in h w ++ take n buffer
     all =
-        let e : k + n - 0 ≡ k + n = omega arith in
-        ap (λ (j : ℕ). take j w₂) e ∙ take-add k n w₂
-        ∙ ap (λ (x : List ℕ). x ++ take n (drop k w₂)) (same ∙ ap (λ (j : ℕ). take j w₁) size ∙ moved)
+        let e : k + n - 0 ≡ length (held_in h w) + n = omega (arith, counted) in
+        ap₂ take e behind ∙ take-add (length (held_in h w)) n (held_in h w ++ buffer)
+        ∙ ap₂ (λ (x y : List ℕ). x ++ take n y) (take-append_seam (held_in h w) buffer) (drop-append_seam (held_in h w) buffer)
 
-    pub reads_more : Reads file h w (record { held = record { from = 0; to = k + n; ended = eqb n 0 }; failed = failed }) w₂
+    pub reads_more : Reads file h w r w₂
     reads_more = record {
-      lies = (omega arith, fits);
-      buffer = drop k w₂;
+      lies =
+          rw is (
+            omega arith,
+            let a : length (held_in h w ++ buffer) ≡ length (held_in h w) + length buffer = length-append (held_in h w) buffer in
+                let e = counted in
+                let s : length w₂ ≡ length (held_in h w ++ buffer) = ap length behind in
+                omega arith,
+          );
+      buffer = buffer;
       count = n;
       gives = λ l. gave;
-      room = λ l r. let d : length (drop k w₂) ≡ length w₂ - k = length-drop k w₂ in let e = counted l in omega arith;
-      held = λ l. all;
-      ended = λ l. refl;
+      room = λ l x. let e = counted in let y = long in omega arith;
+      held = λ l. rw is all;
+      ended = λ l. rw is;
     }

@@ -1,24 +1,20 @@
 -- A length in decimal digits, digit by digit. Assumes nothing.
 use mathlib.Core.Path.{◌≡◌, refl, sym, ap, ◌∙◌}
 use mathlib.Core.Bool.{Bool, true, false, cond, ◌&&◌, true≢false}
-use mathlib.Core.List.{List, ◌∷◌}
+use mathlib.Core.List.{List, [], ◌∷◌}
 use Prim.Native.Nat.{ℕ, zero, suc, ◌+◌, ◌≤◌, ◌<◌}
 use native.Mathlib.Numerals.{add-one}
 use native.Mathlib.Omega.{arith}
-use lib.Dec.{leb}
+use lib.Dec.{leb, ltb}
+use Rattle.std.specs.Bool.{then_some}
 use lib.ListN.{length, drop, get_or, drop_of_length-le}
 use lib.Seq.{drop-cons}
-use borrow.Author.Tests.{le-leb, lt-leb, leb-true, eq-eqb}
-use Rattle.wire.proofs.ScanLaws.{and_left, and_right}
+use borrow.Author.Tests.{le-leb, lt-leb, lt-ltb, eq-eqb}
 use Rattle.tables.specs.Layout.{state_size}
 use Rattle.tables.specs.Limits.{most_memory}
 use Rattle.tables.specs.Reset.{zeros, reset_bytes}
-use Rattle.tape.specs.Length.{most_length, is_digit, with_digit, value_of, length_of, Asks}
+use Rattle.tape.specs.Length.{most_length, is_digit, length_in, with_digit, value_of, length_of, Asks}
 use Rattle.tape.specs.Inside.{resets, Starts}
-
--- what a digit is worth
-pub digit_most : (b : ℕ) → is_digit b ≡ true → (48 ≤ b) × (b ≤ 57)
-digit_most b h = (leb-true 48 b (and_left (leb 48 b) (leb b 57) h), leb-true b 57 (and_right (leb 48 b) (leb b 57) h))
 
 module _ (t : List ℕ) (v i : ℕ) (within : i < length t) where
   abbrev byte : ℕ
@@ -45,6 +41,14 @@ value_end t v i h = ap (value_of v) (drop_of_length-le t h)
 pub value_start : (t : List ℕ) → length_of t ≡ value_of 0 (drop 0 t)
 unfolding length_of
 value_start t = refl
+
+pub length_none : length_of [] ≡ 0
+unfolding length_of value_of
+length_none = refl
+
+pub some_value : (n : ℕ) → length_in (then_some (ltb 0 n) n) ≡ n
+some_value zero = refl
+some_value (suc k) = rw (lt-ltb 0 (suc k) (omega arith))
 
 -- a reset of a card takes every length that the programs take, but for 0
 pub resets_none : (l : List ℕ) (n : ℕ) → length l ≡ state_size → n ≤ most_length → resets l n ≡ false → n ≡ 0

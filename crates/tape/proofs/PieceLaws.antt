@@ -8,6 +8,7 @@ use lib.ListN.{length, take, drop, length-drop, length-append}
 use lib.Seq.{take-append-le, drop-append-le}
 use Rattle.rules.specs.Call.{Call}
 use Rattle.rules.specs.Contract.{bytes_after}
+use Rattle.tape.specs.declared.Header.{Header}
 use Rattle.tape.specs.declared.Step.{Step}
 use Rattle.tape.specs.Tape.{step_of, call_of, call_at, memory_left, answer_to, play_by, play, played, records}
 use Rattle.tape.specs.Pieces.{Input, unread, read_by, next, past, run_by, run, HoweverCut}
@@ -17,9 +18,9 @@ use Rattle.tape.proofs.StepLaws.{is_more, whole_held, more_wanting, step_kept}
 
 by_same : (f g : (l m i : List ℕ) → List (List ℕ)) (x : Step) (l m i : List ℕ)
     → ((l m : List ℕ) (s : ℕ) → f l m (drop (6 + s) i) ≡ g l m (drop (6 + s) i)) → play_by f x l m i ≡ play_by g x l m i
-by_same f g (Step.Whole k n s) l m i e =
-    let call : Call = call_at k n s m i in
-    ap (λ (x : List (List ℕ)). answer_to l call ∷ x) (e (bytes_after l call) (memory_left l m call) s)
+by_same f g (Step.Whole r) l m i e =
+    let call : Call = call_at r m i in
+    ap (λ (x : List (List ℕ)). answer_to l call ∷ x) (e (bytes_after l call) (memory_left l m call) r.length)
 by_same f g Step.Fault l m i e = refl
 by_same f g Step.End l m i e = refl
 by_same f g Step.More l m i e = refl
@@ -102,10 +103,10 @@ module _ (i : Input) (n : ℕ) (within : n ≤ length i.held) where
 -- ---- the program
 
 -- a whole record is the same among the bytes held and in the whole input
-whole_same : (k n s : ℕ) (m h r : List ℕ) → 6 + s ≤ length h → call_at k n s m (h ++ r) ≡ call_at k n s m h
-whole_same k n s m h r le =
-    ap (λ (b : List ℕ). call_of k n b m)
-    (ap (take s) (drop-append-le 6 h r (omega arith)) ∙ take-append-le s (drop 6 h) r (simp length-drop (omega arith)))
+whole_same : (x : Header) (m h r : List ℕ) → 6 + x.length ≤ length h → call_at x m (h ++ r) ≡ call_at x m h
+whole_same x m h r le =
+    ap (λ (b : List ℕ). call_of x.kind x.number b m)
+    (ap (take x.length) (drop-append-le 6 h r (omega arith)) ∙ take-append-le x.length (drop 6 h) r (simp length-drop (omega arith)))
 
 -- no piece is left of an input that has ended
 pub none_left : (i : Input) → Lawful i → i.ended ≡ true → flatten i.pieces ≡ []
@@ -121,14 +122,14 @@ module _ (l m : List ℕ) (i : Input) (lawful : Lawful i) where
   pub played_known : (x : Step) → step_of i.held i.ended ≡ x → is_more x ≡ false → played l m (content i) ≡ play_by played x l m (content i)
   played_known x e k = played_step l m (content i) ∙ ap (λ (y : Step). play_by played y l m (content i)) (content_step i lawful x e k)
 
-  pub played_whole : {k n s : ℕ} → step_of i.held i.ended ≡ Step.Whole k n s
-      → let call = call_at k n s m i.held in
-      played l m (content i) ≡ answer_to l call ∷ played (bytes_after l call) (memory_left l m call) (content (past (6 + s) i))
-  played_whole {k} {n} {s} e =
-      let w : 6 + s ≤ length i.held = (whole_held i.held i.ended e).1 in
-      played_known (Step.Whole k n s) e refl
+  pub played_whole : {r : Header} → step_of i.held i.ended ≡ Step.Whole r
+      → let call = call_at r m i.held in
+      played l m (content i) ≡ answer_to l call ∷ played (bytes_after l call) (memory_left l m call) (content (past (6 + r.length) i))
+  played_whole {r} e =
+      let w : 6 + r.length ≤ length i.held = (whole_held i.held i.ended e).1 in
+      played_known (Step.Whole r) e refl
       ∙ ap₂ (λ (call : Call) (rest : List ℕ). answer_to l call ∷ played (bytes_after l call) (memory_left l m call) rest)
-      (whole_same k n s m i.held (flatten i.pieces) w) (past_content i (6 + s) w)
+      (whole_same r m i.held (flatten i.pieces) w) (past_content i (6 + r.length) w)
 
 -- so many rounds write the answer records of the whole input
 abbrev Writes : (rounds : ℕ) → Type 0
@@ -142,11 +143,11 @@ one_more : (t : ℕ) → Writes t → Writes (suc t)
 one_more t later l m i lawful c = by (step_of i.held i.ended) refl
   where
     by : (x : Step) → step_of i.held i.ended ≡ x → run (suc t) l m i ≡ played l m (content i)
-    by (Step.Whole k n s) e =
-        let p : cost (past (6 + s) i) + (6 + s) ≡ cost i = past_cost i (6 + s) (whole_held i.held i.ended e).1 in
-        let call : Call = call_at k n s m i.held in
-        round_of t l m i (Step.Whole k n s) e
-        ∙ ap (λ (x : List (List ℕ)). answer_to l call ∷ x) (later (bytes_after l call) (memory_left l m call) (past (6 + s) i) lawful (omega arith))
+    by (Step.Whole r) e =
+        let p : cost (past (6 + r.length) i) + (6 + r.length) ≡ cost i = past_cost i (6 + r.length) (whole_held i.held i.ended e).1 in
+        let call : Call = call_at r m i.held in
+        round_of t l m i (Step.Whole r) e
+        ∙ ap (λ (x : List (List ℕ)). answer_to l call ∷ x) (later (bytes_after l call) (memory_left l m call) (past (6 + r.length) i) lawful (omega arith))
         ∙ sym (played_whole l m i lawful e)
     by Step.Fault e = round_of t l m i Step.Fault e ∙ sym (played_known l m i lawful Step.Fault e refl)
     by Step.End e = round_of t l m i Step.End e ∙ sym (played_known l m i lawful Step.End e refl)

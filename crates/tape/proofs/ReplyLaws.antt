@@ -18,22 +18,22 @@ pub answered_within : (i : List ℕ) (e : Bool) (l m : List ℕ) {u n : ℕ} →
 answered_within i e l m {u} {n} p = by (step_of i e) refl p
   where
     by : (x : Step) → step_of i e ≡ x → (replied x l m i).reply ≡ Reply.Answered u n → (u ≤ length i) × (n ≤ 135)
-    by (Step.Whole k q s) w p =
-        let h : 6 + s ≤ length i = (whole_held i e w).1 in
-        let a : length (answer_to l (call_at k q s m i)) ≤ 135 = answer_most l (call_at k q s m i) in
-        let eu : 6 + s ≡ u = cc in
-        let en : length (answer_to l (call_at k q s m i)) ≡ n = cc in
+    by (Step.Whole r) w p =
+        let h : 6 + r.length ≤ length i = (whole_held i e w).1 in
+        let a : length (answer_to l (call_at r m i)) ≤ 135 = answer_most l (call_at r m i) in
+        let eu : 6 + r.length ≡ u = cc in
+        let en : length (answer_to l (call_at r m i)) ≡ n = cc in
         (omega arith, omega arith)
-    by Step.Fault w p = absurd (let z : ◌≡◌ {A = ℕ} 0 1 = cc in omega arith)
-    by Step.End w p = absurd (let z : ◌≡◌ {A = ℕ} 0 1 = cc in omega arith)
-    by Step.More w p = absurd (let z : ◌≡◌ {A = ℕ} 0 1 = cc in omega arith)
+    by Step.Fault w p = absurd cc
+    by Step.End w p = absurd cc
+    by Step.More w p = absurd cc
 
 -- the buffer keeps its length
 placed_length : (b out : List ℕ) → length b ≤ length out → length (placed b out) ≡ length out
 placed_length b out h = simp (length-append, length-drop) (omega arith)
 
 bytes_most : (x : Step) (l m i : List ℕ) → length (replied x l m i).bytes ≤ 135
-bytes_most (Step.Whole k n s) l m i = answer_most l (call_at k n s m i)
+bytes_most (Step.Whole r) l m i = answer_most l (call_at r m i)
 bytes_most Step.Fault l m i = omega arith
 bytes_most Step.End l m i = omega arith
 bytes_most Step.More l m i = omega arith

@@ -1,46 +1,23 @@
 -- An answer tape that starts with a record, byte by byte and by its parts. Assumes nothing.
-use mathlib.Core.Path.{◌≡◌, refl, sym, ap, ap₂, ◌∙◌}
-use mathlib.Core.Bool.{Bool, true, false, ◌&&◌, true≢false}
+use mathlib.Core.Path.{◌≡◌, refl, sym, ap, ap₂}
+use mathlib.Core.Bool.{Bool, true, ◌&&◌, true≢false}
 use mathlib.Core.List.{List, [], ◌∷◌, ◌++◌}
-use Prim.Native.Nat.{ℕ, ◌+◌, ◌≤◌, ◌<◌}
-use native.Mathlib.Numerals.{add-one}
+use Prim.Native.Nat.{ℕ, ◌≤◌}
 use native.Mathlib.Omega.{arith}
 use lib.Dec.{eqb}
-use lib.ListN.{length, drop, get_or, drop_of_length-le}
-use lib.Seq.{drop-cons}
-use borrow.Author.Tests.{eqb-true, eq-eqb, ne_eqb}
+use lib.ListN.{length, take, drop}
+use borrow.Author.Tests.{eqb-true, eq-eqb}
+use Rattle.std.specs.Cmp.Lexicographic.{pointwise}
 use Rattle.wire.proofs.ScanLaws.{and_left, and_right}
 use Rattle.tape.specs.Audit.{starts}
 
--- ---- by the comparison's passes
+-- ---- by the library's comparison
 
-pub starts_short : (r g : List ℕ) → length g < length r → starts r g ≡ false
+pub starts_pointwise : (r g : List ℕ) → pointwise eqb r (take (length r) g) ≡ starts r g
 unfolding starts
-starts_short [] g h = absurd (omega arith)
-starts_short (a ∷ r) [] h = refl
-starts_short (a ∷ r) (b ∷ g) h = ap (λ (x : Bool). eqb a b && x) (starts_short r g (omega arith)) ∙ and_false (eqb a b)
-  where
-    and_false : (x : Bool) → (x && false) ≡ false
-    and_false true = refl
-    and_false false = refl
-
-module _ (r g : List ℕ) (i : ℕ) (in-r : i < length r) (in_g : i < length g) where
-  unroll : starts (drop i r) (drop i g) ≡ (eqb (get_or r i 0) (get_or g i 0) && starts (drop (i + 1) r) (drop (i + 1) g))
-  unfolding starts
-  unroll =
-      ap₂ starts
-      (drop-cons r i 0 in-r ∙ ap (λ (k : ℕ). get_or r i 0 ∷ drop k r) (sym (add-one i)))
-      (drop-cons g i 0 in_g ∙ ap (λ (k : ℕ). get_or g i 0 ∷ drop k g) (sym (add-one i)))
-
-  pub starts_other : (get_or r i 0 ≡ get_or g i 0 → ⊥) → starts (drop i r) (drop i g) ≡ false
-  starts_other h = unroll ∙ rw (ne_eqb (get_or r i 0) (get_or g i 0) h)
-
-  pub starts_more : get_or r i 0 ≡ get_or g i 0 → starts (drop i r) (drop i g) ≡ starts (drop (i + 1) r) (drop (i + 1) g)
-  starts_more h = unroll ∙ rw (eq-eqb (get_or r i 0) (get_or g i 0) h)
-
-pub starts_end : (r g : List ℕ) (i : ℕ) → length r ≤ i → starts (drop i r) (drop i g) ≡ true
-unfolding starts
-starts_end r g i h = ap (λ (l : List ℕ). starts l (drop i g)) (drop_of_length-le r h)
+starts_pointwise [] g = refl
+starts_pointwise (a ∷ r) [] = refl
+starts_pointwise (a ∷ r) (b ∷ g) = ap (λ (x : Bool). eqb a b && x) (starts_pointwise r g)
 
 -- ---- by its parts
 

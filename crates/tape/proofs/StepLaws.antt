@@ -2,6 +2,7 @@
 use mathlib.Core.Path.{◌≡◌, refl, sym, ap, ◌∙◌}
 use mathlib.Core.Bool.{Bool, true, false, cond, true≢false}
 use mathlib.Core.List.{List, [], ◌++◌, append-nil}
+use mathlib.Core.Logic.{◌⊎◌, ⊎_elim}
 use Prim.Native.Nat.{ℕ, ◌+◌, ◌≤◌, ◌<◌}
 use native.Mathlib.Decide.{dec_lt}
 use native.Mathlib.Omega.{arith}
@@ -9,17 +10,20 @@ use lib.Dec.{eqb, ltb}
 use lib.ListN.{length, length-append}
 use lib.Seq.{take-append-le}
 use borrow.Author.Tests.{le-ltb, lt-ltb, ltb-true, eq-eqb, ne_eqb}
-use Rattle.wire.specs.Le.{le_at}
+use Rattle.std.specs.Prelude.{Result, Ok, Err}
+use Rattle.tape.specs.declared.HeaderError.{HeaderError}
 use Rattle.tape.specs.declared.Header.{Header}
-use Rattle.tape.specs.declared.Header.TheVariants.{Record, Bad, Cut}
 use Rattle.tape.specs.declared.Step.{Step}
-use Rattle.tape.specs.Tape.{is_good, header_of, lacking, step_by, step_of}
+use Rattle.tape.specs.Tape.{is_good, header_at, header_of, lacking, step_by, step_of}
 use Rattle.tape.proofs.BoundLaws.{header_front, body_most}
 use Rattle.tape.proofs.HeadLaws.{header_cut}
 
 -- ---- a step by the number of bytes held and their header
 
-abbrev step_at : (held : ℕ) → Header → Bool → Step
+abbrev Read : Type 0
+Read = Result Header HeaderError
+
+abbrev step_at : (held : ℕ) → Read → Bool → Step
 step_at n h e = cond (eqb n 0) (cond e Step.End Step.More) (step_by h n e)
 
 pub step_none : (i : List ℕ) (e : Bool) → length i ≡ 0 → step_of i e ≡ cond e Step.End Step.More
@@ -31,24 +35,50 @@ unfolding step_of
 step_some i e h = rw (ne_eqb (length i) 0 h)
 
 -- a record with and without all of its bytes
-module _ (k n s held : ℕ) (e : Bool) where
-  by_lacks : held < 6 + s → step_by (Record k n s) held e ≡ lacking e
-  by_lacks h = rw (lt-ltb held (6 + s) h)
+module _ (r : Header) (held : ℕ) (e : Bool) where
+  by_lacks : held < 6 + r.length → step_by (Ok r) held e ≡ lacking e
+  by_lacks h = rw (lt-ltb held (6 + r.length) h)
 
-  by_whole : 6 + s ≤ held → step_by (Record k n s) held e ≡ Step.Whole k n s
-  by_whole h = rw (le-ltb held (6 + s) h)
+  by_whole : 6 + r.length ≤ held → step_by (Ok r) held e ≡ Step.Whole r
+  by_whole h = rw (le-ltb held (6 + r.length) h)
+
+-- ---- a step by the header that is read
+
+header_none : (i : List ℕ) → length i ≡ 0 → header_of i ≡ Err HeaderError.Cut
+header_none i z = sym (header_cut i (omega arith))
+
+module _ (i : List ℕ) (e : Bool) where
+  pub step_whole : (h : Header) → header_of i ≡ Ok h → 6 + h.length ≤ length i → step_of i e ≡ Step.Whole h
+  step_whole h r le =
+      step_some i e (λ z. omega arith) ∙ ap (λ (x : Read). step_by x (length i) e) r ∙ by_whole h (length i) e le
+
+  pub step_bad : header_of i ≡ Err HeaderError.Bad → step_of i e ≡ Step.Fault
+  step_bad r =
+      step_some i e (λ z. let w : Err HeaderError.Bad ≡ Err HeaderError.Cut = sym r ∙ header_none i z in cc)
+      ∙ ap (λ (x : Read). step_by x (length i) e) r
+
+  -- the bytes held end in a header, or behind one
+  abbrev pub Lacks : Type 0
+  Lacks = (header_of i ≡ Err HeaderError.Cut) ⊎ ((h : Header) × (header_of i ≡ Ok h) × (length i < 6 + h.length))
+
+  pub step_lacks : Lacks → step_of i e ≡ cond (eqb (length i) 0) (cond e Step.End Step.More) (lacking e)
+  unfolding step_of
+  step_lacks =
+      ⊎_elim
+      (λ r. ap (λ (x : Read). step_at (length i) x e) r)
+      (λ (h, r, le). ap (λ (x : Read). step_at (length i) x e) r ∙ ap (cond (eqb (length i) 0) (cond e Step.End Step.More)) (by_lacks h (length i) e le))
 
 -- ---- headers
 
 -- less than a header
-picked_cut : (b g : Bool) (k n s : ℕ) → cond b Cut (cond g (Record k n s) Bad) ≡ Cut → b ≡ true
-picked_cut true g k n s p = refl
-picked_cut false true k n s p = absurd (let z : ◌≡◌ {A = ℕ} 0 1 = cc in omega arith)
-picked_cut false false k n s p = absurd (let z : ◌≡◌ {A = ℕ} 0 1 = cc in omega arith)
+picked_cut : (b g : Bool) (r : Header) → cond b (Err HeaderError.Cut) (cond g (Ok r) (Err HeaderError.Bad)) ≡ Err HeaderError.Cut → b ≡ true
+picked_cut true g r p = refl
+picked_cut false true r p = absurd cc
+picked_cut false false r p = absurd cc
 
-cut_short : (i : List ℕ) → header_of i ≡ Cut → length i < 6
+cut_short : (i : List ℕ) → header_of i ≡ Err HeaderError.Cut → length i < 6
 unfolding header_of
-cut_short i p = ltb-true (length i) 6 (picked_cut (ltb (length i) 6) (is_good i) (le_at 1 i 2) (le_at 1 i 3) (le_at 2 i 4) p)
+cut_short i p = ltb-true (length i) 6 (picked_cut (ltb (length i) 6) (is_good i) (header_at i) p)
 
 -- further bytes leave it as it is
 header_more : (i r : List ℕ) → 6 ≤ length i → header_of (i ++ r) ≡ header_of i
@@ -56,28 +86,29 @@ header_more i r h = sym (header_front (i ++ r)) ∙ ap header_of (take-append-le
 
 -- ---- a whole record is held
 
-module _ {k n s : ℕ} where
-  whole_lacking : (e : Bool) → lacking e ≡ Step.Whole k n s → ⊥
-  whole_lacking true p = let z : ◌≡◌ {A = ℕ} 0 1 = cc in omega arith
-  whole_lacking false p = let z : ◌≡◌ {A = ℕ} 0 1 = cc in omega arith
+module _ {r : Header} where
+  whole_lacking : (e : Bool) → lacking e ≡ Step.Whole r → ⊥
+  whole_lacking true p = cc
+  whole_lacking false p = cc
 
-  whole_none : (e : Bool) → cond e Step.End Step.More ≡ Step.Whole k n s → ⊥
-  whole_none true p = let z : ◌≡◌ {A = ℕ} 0 1 = cc in omega arith
-  whole_none false p = let z : ◌≡◌ {A = ℕ} 0 1 = cc in omega arith
+  whole_none : (e : Bool) → cond e Step.End Step.More ≡ Step.Whole r → ⊥
+  whole_none true p = cc
+  whole_none false p = cc
 
-  whole_by : (h : Header) (held : ℕ) (e : Bool) → step_by h held e ≡ Step.Whole k n s → (h ≡ Record k n s) × (6 + s ≤ held)
-  whole_by (Record k' n' s') held e p =
-      elim (dec_lt held (6 + s')) [
-        | yes a ↦ absurd (whole_lacking e (sym (by_lacks k' n' s' held e a) ∙ p))
+  whole_by : (h : Read) (held : ℕ) (e : Bool) → step_by h held e ≡ Step.Whole r → (h ≡ Ok r) × (6 + r.length ≤ held)
+  whole_by (Ok r') held e p =
+      elim (dec_lt held (6 + r'.length)) [
+        | yes a ↦ absurd (whole_lacking e (sym (by_lacks r' held e a) ∙ p))
         | no a ↦
-            let q : Step.Whole k' n' s' ≡ Step.Whole k n s = sym (by_whole k' n' s' held e (omega arith)) ∙ p in
-            let es : s' ≡ s = cc in
+            let q : Step.Whole r' ≡ Step.Whole r = sym (by_whole r' held e (omega arith)) ∙ p in
+            let s : r' ≡ r = cc in
+            let l : r'.length ≡ r.length = ap (λ (x : Header). x.length) s in
             (cc, omega arith)
       ]
-  whole_by Bad held e p = absurd (let z : ◌≡◌ {A = ℕ} 0 1 = cc in omega arith)
-  whole_by Cut held e p = absurd (whole_lacking e p)
+  whole_by (Err HeaderError.Bad) held e p = absurd cc
+  whole_by (Err HeaderError.Cut) held e p = absurd (whole_lacking e p)
 
-  pub whole_held : (i : List ℕ) (e : Bool) → step_of i e ≡ Step.Whole k n s → (header_of i ≡ Record k n s) × (6 + s ≤ length i)
+  pub whole_held : (i : List ℕ) (e : Bool) → step_of i e ≡ Step.Whole r → (header_of i ≡ Ok r) × (6 + r.length ≤ length i)
   whole_held i e p =
       elim (dec_lt 0 (length i)) [
         | yes a ↦ whole_by (header_of i) (length i) e (sym (step_some i e (λ z. omega arith)) ∙ p)
@@ -90,24 +121,22 @@ abbrev pub Wanting : (held : ℕ) → (ended : Bool) → Type 0
 Wanting held e = (held < 646) × (e ≡ false)
 
 lacking_more : (e : Bool) → lacking e ≡ Step.More → e ≡ false
-lacking_more true p = absurd (let z : ◌≡◌ {A = ℕ} 0 1 = cc in omega arith)
+lacking_more true p = absurd cc
 lacking_more false p = refl
 
 none_more : (e : Bool) → cond e Step.End Step.More ≡ Step.More → e ≡ false
-none_more true p = absurd (let z : ◌≡◌ {A = ℕ} 0 1 = cc in omega arith)
+none_more true p = absurd cc
 none_more false p = refl
 
-more_by : (i : List ℕ) (e : Bool) (h : Header) → header_of i ≡ h → step_by h (length i) e ≡ Step.More → Wanting (length i) e
-more_by i e (Record k n s) q p =
-    let b : s ≤ 640 = body_most i q in
-    elim (dec_lt (length i) (6 + s)) [
-      | yes a ↦ (omega arith, lacking_more e (sym (by_lacks k n s (length i) e a) ∙ p))
-      | no a ↦
-          absurd
-          (let r : Step.Whole k n s ≡ Step.More = sym (by_whole k n s (length i) e (omega arith)) ∙ p in let z : ◌≡◌ {A = ℕ} 0 1 = cc in omega arith)
+more_by : (i : List ℕ) (e : Bool) (h : Read) → header_of i ≡ h → step_by h (length i) e ≡ Step.More → Wanting (length i) e
+more_by i e (Ok r) q p =
+    let b : r.length ≤ 640 = body_most i q in
+    elim (dec_lt (length i) (6 + r.length)) [
+      | yes a ↦ (omega arith, lacking_more e (sym (by_lacks r (length i) e a) ∙ p))
+      | no a ↦ absurd (let w : Step.Whole r ≡ Step.More = sym (by_whole r (length i) e (omega arith)) ∙ p in cc)
     ]
-more_by i e Bad q p = absurd (let z : ◌≡◌ {A = ℕ} 0 1 = cc in omega arith)
-more_by i e Cut q p = (let a = cut_short i q in omega arith, lacking_more e p)
+more_by i e (Err HeaderError.Bad) q p = absurd cc
+more_by i e (Err HeaderError.Cut) q p = (let a = cut_short i q in omega arith, lacking_more e p)
 
 pub more_wanting : (i : List ℕ) (e : Bool) → step_of i e ≡ Step.More → Wanting (length i) e
 more_wanting i e p =
@@ -119,25 +148,25 @@ more_wanting i e p =
 -- ---- a step that is known stays as it is when bytes follow and the input ends
 
 abbrev pub is_more : Step → Bool
-is_more (Step.Whole k n s) = false
+is_more (Step.Whole r) = false
 is_more Step.Fault = false
 is_more Step.End = false
 is_more Step.More = true
 
-by_kept : (h : Header) (n n' : ℕ) → n ≤ n' → is_more (step_by h n false) ≡ false → step_by h n' true ≡ step_by h n false
-by_kept (Record k q s) n n' le p =
-    elim (dec_lt n (6 + s)) [
-      | yes a ↦ absurd (true≢false (ap is_more (sym (by_lacks k q s n false a)) ∙ p))
-      | no a ↦ by_whole k q s n' true (omega arith) ∙ sym (by_whole k q s n false (omega arith))
+by_kept : (h : Read) (n n' : ℕ) → n ≤ n' → is_more (step_by h n false) ≡ false → step_by h n' true ≡ step_by h n false
+by_kept (Ok r) n n' le p =
+    elim (dec_lt n (6 + r.length)) [
+      | yes a ↦ absurd (true≢false (ap is_more (sym (by_lacks r n false a)) ∙ p))
+      | no a ↦ by_whole r n' true (omega arith) ∙ sym (by_whole r n false (omega arith))
     ]
-by_kept Bad n n' le p = refl
-by_kept Cut n n' le p = absurd (true≢false p)
+by_kept (Err HeaderError.Bad) n n' le p = refl
+by_kept (Err HeaderError.Cut) n n' le p = absurd (true≢false p)
 
 -- where no more bytes are wanted, a header is held
 by_headed : (i : List ℕ) → is_more (step_by (header_of i) (length i) false) ≡ false → 6 ≤ length i
 by_headed i p =
     elim (dec_lt (length i) 6) [
-      | yes a ↦ absurd (true≢false (ap (λ (h : Header). is_more (step_by h (length i) false)) (header_cut i a) ∙ p))
+      | yes a ↦ absurd (true≢false (ap (λ (h : Read). is_more (step_by h (length i) false)) (header_cut i a) ∙ p))
       | no a ↦ omega arith
     ]
 
@@ -149,7 +178,7 @@ open_kept i r p =
           let q : is_more (step_by (header_of i) (length i) false) ≡ false = ap is_more (sym e) ∙ p in
           let n : length (i ++ r) ≡ length i + length r = length-append i r in
           step_some (i ++ r) true (λ z. omega arith)
-          ∙ ap (λ (h : Header). step_by h (length (i ++ r)) true) (header_more i r (by_headed i q))
+          ∙ ap (λ (h : Read). step_by h (length (i ++ r)) true) (header_more i r (by_headed i q))
           ∙ by_kept (header_of i) (length i) (length (i ++ r)) (omega arith) q ∙ sym e
       | no a ↦ absurd (true≢false (ap is_more (sym (step_none i false (omega arith))) ∙ p))
     ]

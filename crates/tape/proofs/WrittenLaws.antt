@@ -8,7 +8,7 @@ use Prim.Native.Nat.{ℕ, ◌+◌, ◌≤◌}
 use native.Mathlib.Omega.{arith}
 use lib.Dec.{eqb}
 use lib.ListN.{length, take, drop, length-append}
-use lib.Seq.{paste, length-take-le, drop-append-add, drop-drop}
+use lib.Seq.{paste, take-length, drop-append-add, drop-drop}
 use borrow.Author.Tests.{ltb-false, ne_eqb}
 use types.Run.{OneOf}
 use Rattle.wire.specs.Checks.{Check, refusal}
@@ -23,7 +23,7 @@ use Rattle.tables.specs.declared.ModifyQp.{ModifyQp}
 use Rattle.tables.specs.declared.Registration.{Registration}
 use Rattle.tables.specs.Commands.{ack_size, Command, number_codec, register_codec, create_qp_codec, modify_qp_codec, command_of}
 use Rattle.tables.specs.Layout.{state_size}
-use Rattle.tables.specs.Reset.{zeros, reset_bytes}
+use Rattle.tables.specs.Reset.{reset_bytes}
 use Rattle.rules.specs.Answer.{is_done}
 use Rattle.rules.specs.Call.{Call}
 use Rattle.rules.specs.Calls.{checks, reset_checks, control_checks, owed_checks, settled}
@@ -34,26 +34,25 @@ use Rattle.rules.proofs.Answers.{answered_not_done}
 use Rattle.rules.proofs.Tests.{passed_before}
 use Rattle.rules.specs.Bytes.{effect_bytes}
 use Rattle.rules.specs.Contract.{Owes, bytes_by}
-use Rattle.tape.specs.Tape.{answer_head, answer_record, answer_to, written_by, completion_size, call_of, tape_ack}
+use Rattle.tape.specs.Tape.{answer_head, answer_record, answer_to, written_by}
 use Rattle.tape.specs.Inside.{placed, Answers, resets}
 
--- the head, then the first n of the bytes behind it
-module _ (r : Answer) (b : List ℕ) (n : ℕ) (within : n ≤ length b) where
-  pub record_size_lem : 6 + n ≡ length (answer_record r (take n b))
+-- the head, then the bytes behind it
+module _ (r : Answer) (b : List ℕ) where
+  pub record_size_lem : 6 + length b ≡ length (answer_record r b)
   unfolding answer_record
   record_size_lem =
-      let e : length (take n b) ≡ n = length-take-le n b within in
-      let f : length (answer_head r (length (take n b)) ++ take n b) ≡ 6 + length (take n b) = length-append (answer_head r (length (take n b))) (take n b) in
+      let f : length (answer_head r (length b) ++ b) ≡ 6 + length b = length-append (answer_head r (length b)) b in
       omega arith
 
-  pub record_placed : (out : List ℕ) → paste (answer_head r n ++ drop 6 out) 6 (drop 0 b) n ≡ placed (answer_record r (take n b)) out
+  pub record_placed : (out : List ℕ) → paste (answer_head r (length b) ++ drop 6 out) 6 b (length b) ≡ placed (answer_record r b) out
   unfolding answer_record
   record_placed out =
-      let e : length (take n b) ≡ n = length-take-le n b within in
-      let s : 6 + n ≡ length (answer_record r (take n b)) = record_size_lem in
-      let d : drop (6 + n) (answer_head r n ++ drop 6 out) ≡ drop n (drop 6 out) = drop-append-add (answer_head r n) (drop 6 out) n in
-      let f : drop n (drop 6 out) ≡ drop (6 + n) out = drop-drop n 6 out in
-      ap₂ (λ (h t : List ℕ). h ++ take n b ++ t) (ap (λ (k : ℕ). answer_head r k) (sym e)) (d ∙ f ∙ ap (λ (k : ℕ). drop k out) s)
+      let s : 6 + length b ≡ length (answer_record r b) = record_size_lem in
+      let d : drop (6 + length b) (answer_head r (length b) ++ drop 6 out) ≡ drop (length b) (drop 6 out) =
+      drop-append-add (answer_head r (length b)) (drop 6 out) (length b) in
+      let f : drop (length b) (drop 6 out) ≡ drop (6 + length b) out = drop-drop (length b) 6 out in
+      ap₂ (λ (x t : List ℕ). answer_head r (length b) ++ x ++ t) (take-length b) (d ∙ f ∙ ap (λ (k : ℕ). drop k out) s)
 
 -- ---- the size of an ack
 
@@ -174,21 +173,3 @@ module _ (l : List ℕ) (n : ℕ) where
     pub started_bytes : l' ≡ cond (resets l n) (reset_bytes n) l
     unfolding checks reset_checks
     started_bytes = o.bytes ∙ bytes_by_lem (eqb (length l) state_size) (memory_ok n)
-
--- ---- the call of each kind
-
-module _ (k n : ℕ) (b m : List ℕ) where
-  pub call_control : k ≡ 1 → call_of k n b m ≡ Call.control b (zeros tape_ack)
-  call_control e = rw e
-
-  pub call_send : k ≡ 2 → call_of k n b m ≡ Call.send n b m
-  call_send e = rw e
-
-  pub call_receive : k ≡ 3 → call_of k n b m ≡ Call.receive n b
-  call_receive e = rw e
-
-  pub call_poll : k ≡ 4 → call_of k n b m ≡ Call.poll n (zeros completion_size)
-  call_poll e = rw e
-
-  pub call_flush : (k ≡ 1 → ⊥) → (k ≡ 2 → ⊥) → (k ≡ 3 → ⊥) → (k ≡ 4 → ⊥) → call_of k n b m ≡ Call.flush n
-  call_flush a b c d = rw (ne_eqb k 1 a, ne_eqb k 2 b, ne_eqb k 3 c, ne_eqb k 4 d)

@@ -1,6 +1,6 @@
 -- Inner contracts: what the functions of this crate owe one another and the programs. No statement of the other files rests
 -- on this one. Assumes nothing.
-use Rattle.std.specs.Prelude.{◌≡◌, Bool, true, false, cond, ◌&&◌, ◌||◌, List, ◌++◌, ℕ, ◌+◌, ◌-◌, ◌≤◌, ◌<◌, eqb, leb, ℤ, pos, negsuc, length, take, drop}
+use Rattle.std.specs.Prelude.{◌≡◌, Bool, true, false, cond, ◌&&◌, ◌||◌, List, ◌++◌, ℕ, ◌+◌, ◌-◌, ◌≤◌, ◌<◌, eqb, leb, ℤ, pos, negsuc, length, take, drop, Result, Ok, Err}
 use Rattle.validate.specs.Accept.{memory_ok}
 use Rattle.tables.specs.Layout.{state_size}
 use Rattle.tables.specs.Reset.{zeros, reset_bytes}
@@ -9,7 +9,7 @@ use Rattle.rules.specs.Contract.{bytes_after}
 use Rattle.tape.specs.declared.Reply.{Reply}
 use Rattle.tape.specs.declared.Found.{Found}
 use Rattle.tape.specs.declared.input.Held.{Held}
-use Rattle.tape.specs.declared.input.Read.{Read}
+use Rattle.tape.specs.declared.input.ReadFailed.{ReadFailed}
 use Rattle.tape.specs.Tape.{header_size, tape_ack, step_of, answer_to}
 use Rattle.tape.specs.Pieces.{Left, replied}
 use Rattle.tape.specs.Audit.{starts}
@@ -69,6 +69,20 @@ abbrev pub is_failure : (answer : ℤ) → Bool
 is_failure (pos n) = false
 is_failure (negsuc k) = true
 
+-- how many bytes a read gave that returned r, and whether it failed
+abbrev pub count_in : {E : Type 0} → Result ℕ E → ℕ
+count_in (Ok n) = n
+count_in (Err e) = 0
+
+abbrev pub is_err : {T E : Type 0} → Result T E → Bool
+is_err (Ok x) = false
+is_err (Err e) = true
+
+-- what is held after it
+abbrev pub held_after : Result Held ReadFailed → Held
+held_after (Ok h) = h
+held_after (Err e) = e.held
+
 -- One read of the file, which left its buffer so, gave so many bytes, or failed.
 pub record Gives (file : ℤ) (buffer : List ℕ) (count : ℕ) (failed : Bool) : Type 0 where
   pub answer : ℤ
@@ -78,14 +92,14 @@ pub record Gives (file : ℤ) (buffer : List ℕ) (count : ℕ) (failed : Bool) 
 
 -- One read of the file into the window w, of which h is held: those bytes stay held, what it gave is behind them, and where
 -- that is nothing the input has ended.
-pub record Reads (file : ℤ) (h : Held) (w : List ℕ) (r : Read) (w' : List ℕ) : Type 0 where
-  pub lies : Lies r.held w'
+pub record Reads (file : ℤ) (h : Held) (w : List ℕ) (r : Result Held ReadFailed) (w' : List ℕ) : Type 0 where
+  pub lies : Lies (held_after r) w'
   pub buffer : List ℕ
   pub count : ℕ
-  pub gives : Lies h w → Gives file buffer count r.failed
+  pub gives : Lies h w → Gives file buffer count (is_err r)
   pub room : Lies h w → Room h w → 0 < length buffer
-  pub held : Lies h w → held_in r.held w' ≡ held_in h w ++ take count buffer
-  pub ended : Lies h w → r.held.ended ≡ eqb count 0
+  pub held : Lies h w → held_in (held_after r) w' ≡ held_in h w ++ take count buffer
+  pub ended : Lies h w → (held_after r).ended ≡ eqb count 0
 
 -- ---- a round of the audit, on parts of both tapes
 

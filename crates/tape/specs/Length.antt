@@ -1,5 +1,5 @@
 -- The programs' last word: the length of the card's memory, in decimal digits. Assumes nothing.
-use Rattle.std.specs.Prelude.{◌≡◌, Bool, cond, ◌&&◌, List, [], ◌∷◌, ℕ, ◌+◌, ◌-◌, ◌*◌, leb, ltb}
+use Rattle.std.specs.Prelude.{◌≡◌, Bool, cond, ◌&&◌, List, [], ◌∷◌, ℕ, ◌+◌, ◌-◌, ◌*◌, leb, ltb, Option, None, Some}
 use Rattle.tape.specs.Tape.{tape_memory}
 use Rattle.tape.specs.System.{Event, Happened}
 
@@ -23,6 +23,11 @@ value_of v (b ∷ t) = cond (is_digit b && leb (with_digit v b) most_length) (va
 
 unfoldable pub length_of : (text : List ℕ) → ℕ
 length_of t = value_of 0 t
+
+-- a length, or 0 for none
+abbrev pub length_in : Option ℕ → ℕ
+length_in None = 0
+length_in (Some n) = n
 
 -- the length that a program takes from word i of so many: 4,096 where there is none, and 0 where words follow it
 abbrev pub length_by : (count i : ℕ) → (text : List ℕ) → ℕ

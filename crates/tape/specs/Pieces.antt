@@ -19,10 +19,10 @@ pub record Left : Type 0 where
   pub bytes : List ℕ
 
 abbrev pub replied : Step → (l m held : List ℕ) → Left
-replied (Step.Whole k n s) l m i =
-    let call : Call = call_at k n s m i in
+replied (Step.Whole r) l m i =
+    let call : Call = call_at r m i in
     record {
-      reply = Reply.Answered (header_size + s) (length (answer_to l call));
+      reply = Reply.Answered (header_size + r.length) (length (answer_to l call));
       state = bytes_after l call;
       memory = memory_left l m call;
       bytes = answer_to l call;
@@ -60,9 +60,9 @@ past n i = record { held = drop n i.held; ended = i.ended; pieces = i.pieces }
 -- The answer records that it writes from a step on, where `more` gives those of the rounds after it.
 abbrev pub run_by : (more : (l m : List ℕ) → Input → List (List ℕ)) → Step → (l m : List ℕ) → Input
     → List (List ℕ)
-run_by more (Step.Whole k n s) l m i =
-    let t : Left = replied (Step.Whole k n s) l m i.held in
-    t.bytes ∷ more t.state t.memory (past (header_size + s) i)
+run_by more (Step.Whole r) l m i =
+    let t : Left = replied (Step.Whole r) l m i.held in
+    t.bytes ∷ more t.state t.memory (past (header_size + r.length) i)
 run_by more Step.Fault l m i = bad_record ∷ []
 run_by more Step.End l m i = []
 run_by more Step.More l m i = more l m (next i)

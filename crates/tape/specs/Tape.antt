@@ -1,5 +1,5 @@
 -- Document 01, "Replay tape (house)": the records of a tape, the answer to each, and the whole output. Assumes nothing.
-use Rattle.std.specs.Prelude.{Bool, true, cond, ◌&&◌, ◌||◌, ℕ, zero, suc, ◌+◌, ◌/◌, ◌%◌, eqb, ltb, leb, length, take, drop}
+use Rattle.std.specs.Prelude.{Bool, true, cond, ◌&&◌, ◌||◌, ℕ, zero, suc, ◌+◌, ◌/◌, ◌%◌, eqb, ltb, leb, length, take, drop, Result, Ok, Err}
 use mathlib.Core.List.{List, [], ◌∷◌, ◌++◌, flatten}
 use Rattle.std.proofs.Math.Option.{Option}
 use Rattle.wire.specs.Le.{le_at}
@@ -10,14 +10,15 @@ use Rattle.tables.specs.Commands.{Command, ack_size, command_of}
 use Rattle.tables.specs.Reset.{zeros, reset_bytes}
 use Rattle.rules.specs.Answer.{number, status, is_done}
 use Rattle.rules.specs.Call.{Call, Buffer, given}
-use Rattle.rules.specs.Calls.{Result, owed}
+use Rattle.rules.specs.Calls.{Result as Calls·Result, owed}
 use Rattle.rules.specs.Control.{command_ack}
 use Rattle.rules.specs.Lists.{maybe}
 use Rattle.rules.specs.declared.Answer.{Answer}
 use Rattle.rules.specs.declared.Answer.TheVariants.{Done, Held, Refused}
 use Rattle.rules.specs.Contract.{bytes_after}
+use Rattle.tape.specs.declared.HeaderError.{HeaderError}
+use Rattle.tape.specs.declared.Kind.{Kind}
 use Rattle.tape.specs.declared.Header.{Header}
-use Rattle.tape.specs.declared.Header.TheVariants.{Record, Bad, Cut}
 use Rattle.tape.specs.declared.Step.{Step}
 
 -- ---- a record: "mark 52 4B, kind .., QP or CQ number byte .., length 16 bits up to 640, body"
@@ -33,20 +34,37 @@ is_mark i = eqb (le_at 1 i 0) 82 && eqb (le_at 1 i 1) 75
 abbrev pub is_kind : ℕ → Bool
 is_kind k = leb 1 k && leb k 5
 
+abbrev pub kind_of : ℕ → Kind
+kind_of k =
+    cond (eqb k 1) Kind.Control
+    (cond (eqb k 2) Kind.Send (cond (eqb k 3) Kind.Receive (cond (eqb k 4) Kind.Poll Kind.Flush)))
+
+abbrev pub kind_in : ℕ → Result Kind HeaderError
+kind_in k = cond (is_kind k) (Ok (kind_of k)) (Err HeaderError.Bad)
+
 -- "length 16 bits up to 640"
 abbrev pub most_body : ℕ
 most_body = 640
 
 -- "A bad .. length (over 640, or not 0 for 4 and 5)"
-abbrev pub is_length : (kind length : ℕ) → Bool
-is_length k n = leb n most_body && (ltb k 4 || eqb n 0)
+abbrev pub is_length : Kind → (length : ℕ) → Bool
+is_length Kind.Control n = leb n most_body
+is_length Kind.Send n = leb n most_body
+is_length Kind.Receive n = leb n most_body
+is_length Kind.Poll n = eqb n 0
+is_length Kind.Flush n = eqb n 0
 
 abbrev pub is_good : List ℕ → Bool
-is_good i = is_mark i && is_kind (le_at 1 i 2) && is_length (le_at 1 i 2) (le_at 2 i 4)
+is_good i = is_mark i && is_kind (le_at 1 i 2) && is_length (kind_of (le_at 1 i 2)) (le_at 2 i 4)
+
+abbrev pub header_at : List ℕ → Header
+header_at i = record { kind = kind_of (le_at 1 i 2); number = le_at 1 i 3; length = le_at 2 i 4 }
 
 -- what the first bytes of the input hold
-unfoldable pub header_of : List ℕ → Header
-header_of i = cond (ltb (length i) header_size) Cut (cond (is_good i) (Record (le_at 1 i 2) (le_at 1 i 3) (le_at 2 i 4)) Bad)
+unfoldable pub header_of : List ℕ → Result Header HeaderError
+header_of i =
+    cond (ltb (length i) header_size) (Err HeaderError.Cut)
+    (cond (is_good i) (Ok (header_at i)) (Err HeaderError.Bad))
 
 -- ---- what stands at the front of the input, of which the first bytes are held
 
@@ -55,10 +73,10 @@ abbrev pub lacking : (ended : Bool) → Step
 lacking ended = cond ended Step.Fault Step.More
 
 -- a header with `held` bytes from its first on
-abbrev pub step_by : Header → (held : ℕ) → (ended : Bool) → Step
-step_by (Record k n s) held ended = cond (ltb held (header_size + s)) (lacking ended) (Step.Whole k n s)
-step_by Bad held ended = Step.Fault
-step_by Cut held ended = lacking ended
+abbrev pub step_by : Result Header HeaderError → (held : ℕ) → (ended : Bool) → Step
+step_by (Ok r) held ended = cond (ltb held (header_size + r.length)) (lacking ended) (Step.Whole r)
+step_by (Err HeaderError.Bad) held ended = Step.Fault
+step_by (Err HeaderError.Cut) held ended = lacking ended
 
 -- a whole record, a fault, a clean end, or too few bytes to tell
 unfoldable pub step_of : (held : List ℕ) → (ended : Bool) → Step
@@ -75,11 +93,12 @@ abbrev pub tape_ack : ℕ
 tape_ack = 129
 
 -- the number is "ignored for 1"
-abbrev pub call_of : (kind number : ℕ) → (body memory : List ℕ) → Call
-call_of k n b m =
-    cond (eqb k 1) (Call.control b (zeros tape_ack))
-    (cond (eqb k 2) (Call.send n b m)
-    (cond (eqb k 3) (Call.receive n b) (cond (eqb k 4) (Call.poll n (zeros completion_size)) (Call.flush n))))
+abbrev pub call_of : Kind → (number : ℕ) → (body memory : List ℕ) → Call
+call_of Kind.Control n b m = Call.control b (zeros tape_ack)
+call_of Kind.Send n b m = Call.send n b m
+call_of Kind.Receive n b m = Call.receive n b
+call_of Kind.Poll n b m = Call.poll n (zeros completion_size)
+call_of Kind.Flush n b m = Call.flush n
 
 -- the memory after the call k on the state l; of a record's calls only a send is lent it
 abbrev pub memory_left : (l m : List ℕ) → Call → List ℕ
@@ -114,7 +133,7 @@ answer_record r w = answer_head r (length w) ++ w
 -- the answer to the call k on the state l
 unfoldable pub answer_to : (l : List ℕ) → Call → List ℕ
 answer_to l k =
-    let o : Result = owed card accepts l k in answer_record o.answer (take (written_by o.answer (card l) k) o.buffer)
+    let o : Calls·Result = owed card accepts l k in answer_record o.answer (take (written_by o.answer (card l) k) o.buffer)
 
 -- "72 6B 0E 00 00 00"
 abbrev pub bad_record : List ℕ
@@ -123,15 +142,15 @@ bad_record = 114 ∷ 107 ∷ 14 ∷ 0 ∷ 0 ∷ 0 ∷ []
 -- ---- the whole output
 
 -- the call of a whole record at the front of the input
-abbrev pub call_at : (kind number size : ℕ) → (m input : List ℕ) → Call
-call_at k n s m i = call_of k n (take s (drop header_size i)) m
+abbrev pub call_at : Header → (m input : List ℕ) → Call
+call_at r m i = call_of r.kind r.number (take r.length (drop header_size i)) m
 
 -- The answer records from a step on, where `more` gives those of what comes after its record: "A bad mark, kind or length ..
 -- or a cut record gives 72 6B 0E 00 00 00 and ends. Clean end adds nothing." An input that has ended wants no more bytes.
 abbrev pub play_by : (more : (l m input : List ℕ) → List (List ℕ)) → Step → (l m input : List ℕ) → List (List ℕ)
-play_by more (Step.Whole k n s) l m i =
-    let call : Call = call_at k n s m i in
-    answer_to l call ∷ more (bytes_after l call) (memory_left l m call) (drop (header_size + s) i)
+play_by more (Step.Whole r) l m i =
+    let call : Call = call_at r m i in
+    answer_to l call ∷ more (bytes_after l call) (memory_left l m call) (drop (header_size + r.length) i)
 play_by more Step.Fault l m i = bad_record ∷ []
 play_by more Step.End l m i = []
 play_by more Step.More l m i = []

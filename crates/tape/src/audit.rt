@@ -1,29 +1,22 @@
 // The audit of a tape of calls and a tape of answers, round by round, from the bytes of each that are held. What it finds:
 // specs/Inside.antt.
-ghost use Rattle.std.specs.Prelude.{◌≡◌, true, cond, ◌-◌, length};
+ghost use Rattle.std.specs.Prelude.{◌≡◌, true, cond};
 ghost use Rattle.tape.specs.Tape.{step_of};
 ghost use Rattle.tape.specs.Pieces.{replied};
-ghost use Rattle.tape.specs.Audit.{starts as Audit·starts};
+ghost use Rattle.tape.specs.Audit.{starts};
 ghost use Rattle.tape.specs.Inside.{closing as Inside·closing, finding_by, finding_of, Finds};
 
 use crate::steps::reply;
-use crate::{Found, MOST_ANSWER, Reply};
+use crate::{Found, HEADER, MOST_ANSWER, Part, Reply};
 
-// The answers start with the record.
-fn starts(due: &[u8], given: &[u8]) -> bool
-    ensures { result ≡ Audit·starts due.now given.now }
+// What is found where the answers start with the record that is due, else a difference there.
+fn judge_due(due: &[u8], given: &[u8], found: Found) -> Found
+    ensures { result ≡ cond (starts due.now given.now) found (Found.Differs 0) }
 {
-    if given.len() < due.len() {
-        return false; // bytes are missing
+    if given.starts_with(due) {
+        return found;
     }
-    let mut i = 0;
-    while i < due.len() {
-        if due[i] != given[i] {
-            return false;
-        }
-        i += 1;
-    }
-    true
+    Found::Differs { later: 0 }
 }
 
 // No answer is due, and so many bytes of the answers are left.
@@ -36,63 +29,39 @@ fn closing(later: u64, left: usize) -> Found
     Found::Differs { later }
 }
 
-fn judge_answer(used: usize, due: &[u8], given: &[u8]) -> Found
-    ensures { result
-        ≡ cond (Audit·starts due.now given.now)
-        (Found.Same used (length due.now)) (Found.Differs 0) }
-{
-    if starts(due, given) {
-        return Found::Same {
-            calls: used,
-            answers: due.len(),
-        };
-    }
-    Found::Differs { later: 0 }
-}
-
-// The answer to a bad record is the last that is due.
-fn judge_fault(due: &[u8], given: &[u8]) -> Found
-    ensures { result
-        ≡ cond (Audit·starts due.now given.now)
-        (Inside·closing 1 (length given.now - length due.now)) (Found.Differs 0) }
-{
-    if starts(due, given) {
-        return closing(1, given.len() - due.len());
-    }
-    Found::Differs { later: 0 }
-}
-
-// The reply to the calls held, its answer held against the answers.
-fn judge(state: &mut [u8], memory: &mut [u8], calls: &[u8], ended: bool, given: &[u8]) -> Found
+// The reply to the calls held, its answer held against the answers. The answer to a bad record is the last that is due.
+fn judge(state: &mut [u8], memory: &mut [u8], calls: Part<'_>, given: &[u8]) -> Found
     ensures { Finds (finding_by true state.old memory.old
-        (replied (step_of calls.now ended) state.old memory.old calls.now)
+        (replied (step_of calls.entry.bytes.now calls.entry.ended) state.old memory.old calls.entry.bytes.now)
         given.now) result state.new memory.new }
 {
     let mut out = [0u8; MOST_ANSWER];
-    match reply(state, memory, calls, ended, &mut out) {
-        Reply::Answered { used, written } => judge_answer(used, &out[..written], given),
-        Reply::Fault => judge_fault(&out[..6], given),
+    match reply(state, memory, calls, &mut out) {
+        Reply::Answered { used, written } => {
+            let same = Found::Same {
+                calls: used,
+                answers: written,
+            };
+            judge_due(&out[..written], given, same)
+        }
+        Reply::Fault => {
+            let last = closing(1, given.len().saturating_sub(HEADER));
+            judge_due(&out[..HEADER], given, last)
+        }
         Reply::End => closing(0, given.len()),
         Reply::More => Found::Calls,
     }
 }
 
 // The round that the bytes held of both tapes allow.
-pub fn audit(
-    state: &mut [u8],
-    memory: &mut [u8],
-    calls: &[u8],
-    calls_ended: bool,
-    answers: &[u8],
-    answers_ended: bool,
-) -> Found
+pub fn audit(state: &mut [u8], memory: &mut [u8], calls: Part<'_>, answers: Part<'_>) -> Found
     ensures { Finds (finding_of state.old memory.old
-        calls.now calls_ended answers.now answers_ended) result
+        calls.entry.bytes.now calls.entry.ended answers.entry.bytes.now answers.entry.ended) result
         state.new memory.new }
 {
-    let is_held = answers_ended | (MOST_ANSWER <= answers.len());
+    let is_held = answers.ended | (MOST_ANSWER <= answers.bytes.len());
     if is_held {
-        return judge(state, memory, calls, calls_ended, answers);
+        return judge(state, memory, calls, answers.bytes);
     }
     Found::Answers
 }

@@ -1,7 +1,7 @@
 // An input that is read piece by piece into a window.
-ghost use Rattle.std.specs.Prelude.{◌≡◌, ◌+◌, ◌-◌, ◌≤◌, pos, negsuc, length, take, drop};
+ghost use Rattle.std.specs.Prelude.{◌≡◌, ◌≤◌, pos, negsuc, length};
 ghost use Rattle.tape.specs.System.{Opens};
-ghost use Rattle.tape.specs.Inside.{Gives, Reads};
+ghost use Rattle.tape.specs.Inside.{count_in, is_err, Gives, Reads};
 
 use std::fs::File;
 use std::io;
@@ -19,29 +19,21 @@ pub struct Source {
 enum Stream {
     Named(File),
     Standard(Stdin),
-    Missing,
+    Missing, // no Err of `open`: `Reported` has a read of the file that failed (`Silent.no_calls`)
 }
 
 // The bytes of a window that are held of an input, and whether a read has found its end.
-#[derive(Clone, Copy)]
+#[derive(Clone, Copy, Default)]
 pub struct Held {
     pub from: usize,
     pub to: usize,
     pub ended: bool,
 }
 
-// What is held after a read, and whether it failed. One that fails gives nothing.
+// A read failed, and gave nothing: what is held after it.
 #[derive(Clone, Copy)]
-pub struct Read {
+pub struct ReadFailed {
     pub held: Held,
-    pub failed: bool,
-}
-
-// The bytes that one read gave.
-#[derive(Clone, Copy)]
-struct Piece {
-    count: usize,
-    failed: bool,
 }
 
 // Opens the file that word i of the command line names, for reading; a source with a negative number, of which no read
@@ -50,10 +42,7 @@ pub fn open<R: Env + Files<File = File>>(rt: &R, i: usize) -> Source
     ensures { Opens i result.number }
 {
     let mut name = [0u8; 4096];
-    let n = match rt.arg(i, &mut name) {
-        Ok(n) => n,
-        Err(_) => 0,
-    };
+    let n = rt.arg(i, &mut name).unwrap_or(0);
     let Ok(path) = str::from_utf8(&name[..n]) else {
         return missing();
     };
@@ -86,41 +75,12 @@ pub fn standard(stdin: Stdin) -> Source
     }
 }
 
-// No bytes of a window that has none of those asked for.
-fn none() -> Read
-    ensures { (result.held.from ≡ 0) × (result.held.to ≡ 0) }
-{
-    Read {
-        held: Held {
-            from: 0,
-            to: 0,
-            ended: true,
-        },
-        failed: true,
-    }
-}
-
-// Moves the bytes from..to to the window's start, and answers how many they are.
-fn keep(window: &mut [u8], from: usize, to: usize) -> usize
-    requires { (from ≤ to) × (to ≤ length window.old) }
-    ensures value { result ≡ to - from }
-    ensures window_after { take (to - from) window.new ≡ take (to - from) (drop from window.old) }
-{
-    let n = to - from;
-    let mut i = 0;
-    while i < n {
-        window[i] = window[from + i];
-        i += 1;
-    }
-    n
-}
-
 // One read of the source.
-fn read_once(source: &Source, buffer: &mut [u8]) -> Piece
-    ensures count_in_bounds { result.count ≤ length buffer.new }
-    ensures gives { Gives source.now.number buffer.new result.count result.failed }
+fn read_once(source: &Source, buffer: &mut [u8]) -> io::Result<usize>
+    ensures count_in_bounds { count_in result ≤ length buffer.new }
+    ensures gives { Gives source.now.number buffer.new (count_in result) (is_err result) }
 {
-    let got = match &source.stream {
+    match &source.stream {
         Stream::Named(file) => {
             let mut file: &File = file;
             io::Read::read(&mut file, buffer)
@@ -130,50 +90,39 @@ fn read_once(source: &Source, buffer: &mut [u8]) -> Piece
             io::Read::read(&mut stdin, buffer)
         }
         Stream::Missing => Err(io::Error::from(io::ErrorKind::NotFound)),
-    };
-    match got {
-        Ok(count) => Piece {
-            count,
-            failed: false,
-        },
-        Err(_) => Piece {
-            count: 0,
-            failed: true,
-        },
     }
-}
-
-// One read behind the first `kept` bytes of the window.
-fn read_behind(source: &Source, window: &mut [u8], kept: usize) -> Piece
-    requires { kept ≤ length window.old }
-    ensures count_in_bounds { kept + result.count ≤ length window.new }
-    ensures window_unchanged { take kept window.new ≡ take kept window.old }
-    ensures gives { Gives source.now.number (drop kept window.new) result.count result.failed }
-{
-    read_once(source, &mut window[kept..])
 }
 
 // One read behind the bytes held, which move to the window's start. A read that gives nothing, or fails, is the input's end.
-pub fn more(source: &Source, window: &mut [u8], held: Held) -> Read
+// No type holds the window with its bytes: `Reads` speaks of every window and every `held`, which such a type would narrow.
+pub fn more(source: &Source, window: &mut [u8], held: Held) -> Result<Held, ReadFailed>
     ensures { Reads source.now.number held window.old result window.new }
 {
-    let from = held.from;
-    let to = held.to;
-    if to < from {
-        return none();
+    let Held { from, to, .. } = held;
+    if to < from || window.len() < to {
+        // the window has no such bytes
+        return Err(ReadFailed {
+            held: Held {
+                ended: true,
+                ..Held::default()
+            },
+        });
     }
-    if window.len() < to {
-        return none();
-    }
-    let kept = keep(window, from, to);
-    let piece = read_behind(source, window, kept);
-    let n = piece.count;
-    Read {
-        held: Held {
+    window.copy_within(from..to, 0);
+    let kept = to - from;
+    match read_once(source, &mut window[kept..]) {
+        Ok(n) => Ok(Held {
             from: 0,
             to: kept + n,
             ended: n == 0,
-        },
-        failed: piece.failed,
+        }),
+        Err(_) => {
+            let held = Held {
+                from: 0,
+                to: kept,
+                ended: true,
+            };
+            Err(ReadFailed { held })
+        }
     }
 }

@@ -15,7 +15,7 @@ ghost use Rattle.rules.specs.Answer.{is_done};
 ghost use Rattle.rules.specs.Call.{Call};
 ghost use Rattle.rules.specs.Control.{command_ack};
 ghost use Rattle.rules.specs.Lists.{maybe};
-ghost use Rattle.tape.specs.Tape.{is_mark, is_kind, is_length, header_of, ack_written, answer_head};
+ghost use Rattle.tape.specs.Tape.{is_mark, kind_in, is_length, header_of, ack_written, answer_head};
 ghost use Rattle.tape.specs.Tape.{answer_record, bad_record, completion_size, call_of, memory_left, tape_ack};
 ghost use Rattle.tape.specs.Inside.{placed, Answers};
 
@@ -27,16 +27,8 @@ use rules::numbers::{
 
 const HEADER: usize = 6;
 
-// The kinds of record.
-const CONTROL: u8 = 1;
-
-const SEND: u8 = 2;
-
-const RECEIVE: u8 = 3;
-
-const POLL: u8 = 4;
-
-const FLUSH: u8 = 5;
+// The length of a record's body at most.
+const MOST_BODY: u16 = 640;
 
 // The length of a card's state.
 pub const STATE: usize = tables::rows::STATE_SIZE;
@@ -44,19 +36,42 @@ pub const STATE: usize = tables::rows::STATE_SIZE;
 // The length of an answer record at most.
 pub const MOST_ANSWER: usize = 135;
 
-// What the first bytes of the input hold: a header with its kind, number and body length, a bad one, or less than a header.
-#[derive(Drop)]
-pub enum Header {
-    Record { kind: u8, number: u8, length: u16 },
+// The kinds of record.
+#[derive(Clone, Copy)]
+pub enum Kind {
+    Control,
+    Send,
+    Receive,
+    Poll,
+    Flush,
+}
+
+// A record by its header: its kind, its number byte and the length of its body.
+#[derive(Clone, Copy)]
+pub struct Header {
+    pub kind: Kind,
+    pub number: u8,
+    pub length: u16,
+}
+
+// Why the first bytes of the input hold no header: a bad one stands there, or less than one.
+#[derive(Clone, Copy)]
+pub enum HeaderError {
     Bad,
     Cut,
 }
 
-// What stands at the front of the input: a whole record with its kind, number and body length, a bad or a cut record, a clean
-// end, or too few bytes to tell.
-#[derive(Drop)]
+// The bytes of a tape that are held, and whether the tape has ended behind them.
+#[derive(Clone, Copy)]
+pub struct Part<'a> {
+    pub bytes: &'a [u8],
+    pub ended: bool,
+}
+
+// What stands at the front of the input: a whole record, a bad or a cut one, a clean end, or too few bytes to tell.
+#[derive(Clone, Copy)]
 pub enum Step {
-    Whole { kind: u8, number: u8, length: u16 },
+    Whole(Header),
     Fault,
     End,
     More,
@@ -64,7 +79,7 @@ pub enum Step {
 
 // What was done about the bytes held: a record, of `used` bytes of the input, was answered by `written` bytes; a fault was
 // answered by six, and the tape ends there; the clean end was found; or more bytes are wanted.
-#[derive(Drop)]
+#[derive(Clone, Copy)]
 pub enum Reply {
     Answered { used: usize, written: usize },
     Fault,
@@ -74,7 +89,7 @@ pub enum Reply {
 
 // What a round of an audit finds: more bytes of the calls or of the answers are wanted; an answer as it is due, of so many
 // bytes of each tape; the tapes agree; or they differ, at the record due or so many records later.
-#[derive(Drop)]
+#[derive(Clone, Copy)]
 pub enum Found {
     Calls,
     Answers,
@@ -83,43 +98,58 @@ pub enum Found {
     Differs { later: u64 },
 }
 
+impl TryFrom<u8> for Kind {
+    type Error = HeaderError;
+
+    ghost try_from_gives = { λ byte r. r ≡ kind_in byte };
+
+    fn try_from(byte: u8) -> Result<Self, HeaderError> {
+        match byte {
+            1 => Ok(Kind::Control),
+            2 => Ok(Kind::Send),
+            3 => Ok(Kind::Receive),
+            4 => Ok(Kind::Poll),
+            5 => Ok(Kind::Flush),
+            _ => Err(HeaderError::Bad),
+        }
+    }
+}
+
 fn is_mark(input: &[u8]) -> bool
     requires { 6 ≤ length input.now }
     ensures { result ≡ is_mark input.now }
 {
-    (wire::get::<u8>(input, 0) == 0x52) & (wire::get::<u8>(input, 1) == 0x4B)
+    input.starts_with(b"RK")
 }
 
-fn is_kind(kind: u8) -> bool
-    ensures { result ≡ is_kind kind }
-{
-    (CONTROL <= kind) & (kind <= FLUSH)
-}
-
-fn is_length(kind: u8, length: u16) -> bool
+// A poll and a flush have no body.
+fn is_length(kind: Kind, length: u16) -> bool
     ensures { result ≡ is_length kind length }
 {
-    (length <= 640) & ((kind < POLL) | (length == 0))
+    match kind {
+        Kind::Control | Kind::Send | Kind::Receive => length <= MOST_BODY,
+        Kind::Poll | Kind::Flush => length == 0,
+    }
 }
 
-fn read_header(input: &[u8]) -> Header
+fn read_header(input: &[u8]) -> Result<Header, HeaderError>
     ensures { result ≡ header_of input.now }
 {
     if input.len() < HEADER {
-        return Header::Cut;
+        return Err(HeaderError::Cut);
     }
-    let kind = wire::get::<u8>(input, 2);
+    let kind = Kind::try_from(wire::get::<u8>(input, 2))?;
     let length = wire::get::<u16>(input, 4);
-    let is_good = is_mark(input) & is_kind(kind) & is_length(kind, length);
-    if is_good {
-        let number = wire::get::<u8>(input, 3);
-        return Header::Record {
-            kind,
-            number,
-            length,
-        };
+    let is_good = is_mark(input) & is_length(kind, length);
+    if !is_good {
+        return Err(HeaderError::Bad);
     }
-    Header::Bad
+    let number = wire::get::<u8>(input, 3);
+    Ok(Header {
+        kind,
+        number,
+        length,
+    })
 }
 
 // The six bytes before what an answer record carries.
@@ -127,33 +157,22 @@ fn put_head(out: &mut [u8], answer: Answer, size: u16)
     requires { 6 ≤ length out.old }
     ensures { out.new ≡ answer_head answer size ++ drop 6 out.old }
 {
-    out[0] = 0x72;
-    out[1] = 0x6B;
-    out[2] = answer.number();
-    out[3] = answer.status();
-    out[4] = (size % 256) as u8;
-    out[5] = (size / 256) as u8;
+    let [low, high] = size.to_le_bytes();
+    let answer_number = rules::number_of(answer);
+    let status = rules::status_of(answer);
+    out[..HEADER].copy_from_slice(&[b'r', b'k', answer_number, status, low, high]);
 }
 
-// Writes the answer record of a call that writes no bytes, and returns its length.
-fn put_bare(out: &mut [u8], answer: Answer) -> usize
-    requires { 6 ≤ length out.old }
-    ensures value { result ≡ length (answer_record answer []) }
-    ensures out_after { out.new ≡ placed (answer_record answer []) out.old }
+// Writes the answer record of a call that wrote these bytes, and returns its length.
+fn put_answer(out: &mut [u8], answer: Answer, written: &[u8]) -> usize
+    requires { (length written.now ≤ 129) × (135 ≤ length out.old) }
+    ensures value { result ≡ length (answer_record answer written.now) }
+    ensures out_after { out.new ≡ placed (answer_record answer written.now) out.old }
 {
-    put_head(out, answer, 0);
-    HEADER
-}
-
-// Writes the answer record of a call that wrote the first n of the bytes, and returns its length.
-fn put_answer(out: &mut [u8], answer: Answer, bytes: &[u8], n: usize) -> usize
-    requires { (n ≤ length bytes.now) × (n ≤ 129) × (135 ≤ length out.old) }
-    ensures value { result ≡ length (answer_record answer (take n bytes.now)) }
-    ensures out_after { out.new ≡ placed (answer_record answer (take n bytes.now)) out.old }
-{
-    put_head(out, answer, n as u16);
-    wire::copy_bytes(out, HEADER, bytes, 0, n);
-    HEADER + n
+    let size = HEADER + written.len();
+    put_head(out, answer, written.len() as u16);
+    out[HEADER..size].copy_from_slice(written);
+    size
 }
 
 // How many ack bytes a command writes that is answered 0.
@@ -198,7 +217,7 @@ fn completion_written(answer: Answer) -> usize
     }
 }
 
-// ---- one call for each kind of record, with its answer record written
+// ---- the call of a record, with its answer record written
 
 fn answer_control(state: &mut [u8], body: &[u8], out: &mut [u8]) -> usize
     requires { 135 ≤ length out.old }
@@ -208,33 +227,7 @@ fn answer_control(state: &mut [u8], body: &[u8], out: &mut [u8]) -> usize
     let mut ack = [0u8; 129];
     let answer = commands::control::control(state, body, &mut ack);
     let n = ack_written(answer, body);
-    put_answer(out, answer, &ack, n)
-}
-
-fn answer_send(
-    state: &mut [u8],
-    memory: &mut [u8],
-    number: u8,
-    body: &[u8],
-    out: &mut [u8],
-) -> usize
-    requires { 135 ≤ length out.old }
-    ensures answers { Answers (Call.send number body.now memory.old)
-        state.old out.old result state.new out.new }
-    ensures memory_after { memory.new
-        ≡ memory_left state.old memory.old (Call.send number body.now memory.old) }
-{
-    let answer = engine::send::post_send(state, memory, number as u32, body);
-    put_bare(out, answer)
-}
-
-fn answer_receive(state: &mut [u8], number: u8, body: &[u8], out: &mut [u8]) -> usize
-    requires { 135 ≤ length out.old }
-    ensures { Answers (Call.receive number body.now)
-        state.old out.old result state.new out.new }
-{
-    let answer = queues::post_receive(state, number as u32, body);
-    put_bare(out, answer)
+    put_answer(out, answer, &ack[..n])
 }
 
 fn answer_poll(state: &mut [u8], number: u8, out: &mut [u8]) -> usize
@@ -245,39 +238,39 @@ fn answer_poll(state: &mut [u8], number: u8, out: &mut [u8]) -> usize
     let mut buffer = [0u8; 24];
     let answer = queues::poll(state, number as u32, &mut buffer);
     let n = completion_written(answer);
-    put_answer(out, answer, &buffer, n)
+    put_answer(out, answer, &buffer[..n])
 }
 
-fn answer_flush(state: &mut [u8], number: u8, out: &mut [u8]) -> usize
-    requires { 135 ≤ length out.old }
-    ensures { Answers (Call.flush number)
-        state.old out.old result state.new out.new }
-{
-    let answer = queues::flush(state, number as u32);
-    put_bare(out, answer)
-}
-
-// Makes the call of a record of the given kind, number and body, writes its answer record and returns its length.
+// Makes the call of a record with this body, writes its answer record and returns its length.
 fn answer_record(
     state: &mut [u8],
     memory: &mut [u8],
-    kind: u8,
-    number: u8,
+    header: Header,
     body: &[u8],
     out: &mut [u8],
 ) -> usize
     requires { 135 ≤ length out.old }
-    ensures answers { Answers (call_of kind number body.now memory.old)
+    ensures answers { Answers (call_of header.kind header.number body.now memory.old)
         state.old out.old result state.new out.new }
     ensures memory_after { memory.new
-        ≡ memory_left state.old memory.old (call_of kind number body.now memory.old) }
+        ≡ memory_left state.old memory.old (call_of header.kind header.number body.now memory.old) }
 {
-    match kind {
-        CONTROL => answer_control(state, body, out),
-        SEND => answer_send(state, memory, number, body, out),
-        RECEIVE => answer_receive(state, number, body, out),
-        POLL => answer_poll(state, number, out),
-        _ => answer_flush(state, number, out),
+    let number = header.number;
+    match header.kind {
+        Kind::Control => answer_control(state, body, out),
+        Kind::Send => {
+            let answer = engine::send::post_send(state, memory, number as u32, body);
+            put_answer(out, answer, &[])
+        }
+        Kind::Receive => {
+            let answer = queues::post_receive(state, number as u32, body);
+            put_answer(out, answer, &[])
+        }
+        Kind::Poll => answer_poll(state, number, out),
+        Kind::Flush => {
+            let answer = queues::flush(state, number as u32);
+            put_answer(out, answer, &[])
+        }
     }
 }
 

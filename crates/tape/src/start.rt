@@ -1,7 +1,7 @@
 // The card of a tape: its reset, and its memory's length as the command line asks for it.
-ghost use Rattle.std.specs.Prelude.{◌≡◌, cond, ◌≤◌, length};
+ghost use Rattle.std.specs.Prelude.{◌≡◌, cond, ◌≤◌, length, IfSome};
 ghost use Rattle.tables.specs.Reset.{zeros, reset_bytes};
-ghost use Rattle.tape.specs.Length.{most_length, is_digit, length_of, Asks};
+ghost use Rattle.tape.specs.Length.{most_length, length_in, length_of, Asks};
 ghost use Rattle.tape.specs.System.{Event, Happened};
 ghost use Rattle.tape.specs.Inside.{resets};
 
@@ -12,44 +12,32 @@ use std::rt::Env;
 // The longest memory that a program takes.
 const MOST_LENGTH: u64 = 1048576;
 
-// Resets the card to a memory of the given length; false, with the state as it was, where no reset takes it.
+// Resets the card to a memory of the given length; false, with the state as it was, where no reset takes it. A Result would be no
+// plainer: its error would have nothing in it, as `resets` says only whether.
 pub fn start(state: &mut [u8], memory: u64) -> bool
     ensures value { result ≡ resets state.old memory }
     ensures state_after { state.new
         ≡ cond (resets state.old memory) (reset_bytes memory) state.old }
 {
-    match queues::reset(state, memory) {
-        Answer::Done(_) => true,
-        Answer::Held(_) => false,
-        Answer::Refused(_) => false,
-    }
+    matches!(queues::reset(state, memory), Answer::Done(_))
 }
 
-fn is_digit(byte: u8) -> bool
-    ensures { result ≡ is_digit byte }
-{
-    (48 <= byte) & (byte <= 57)
-}
-
-// The length that decimal digits say; 0 where they say none from 1 to 1,048,576.
-pub fn memory_length(text: &[u8]) -> u64
-    ensures value { result ≡ length_of text.now }
-    ensures upper_bound { result ≤ most_length }
+// The length that decimal digits say, where they say one from 1 to 1,048,576.
+pub fn memory_length(text: &[u8]) -> Option<u64>
+    ensures value { length_in result ≡ length_of text.now }
+    ensures bounds { IfSome result (λ n. (1 ≤ n) × (n ≤ most_length)) }
 {
     let mut value: u64 = 0;
-    let mut i = 0;
-    while i < text.len() {
-        let byte = text[i];
-        if !is_digit(byte) {
-            return 0;
+    for &byte in text {
+        if !byte.is_ascii_digit() {
+            return None;
         }
-        value = value * 10 + (byte - 48) as u64;
+        value = value * 10 + (byte - b'0') as u64;
         if MOST_LENGTH < value {
-            return 0;
+            return None;
         }
-        i += 1;
     }
-    value
+    (value > 0).then_some(value)
 }
 
 // How many words the program was started with, its own name among them.
@@ -65,24 +53,21 @@ fn words(rt: &impl Env) -> usize
     usize::MAX
 }
 
-// The memory's length that word i, the last, asks for, 4,096 where there is none; 0 where it asks for none that the programs
-// take.
-pub fn length_asked(rt: &impl Env, i: usize) -> u64
-    ensures asks { Asks i result }
-    ensures upper_bound { result ≤ most_length }
+// The memory's length that word i, the last, asks for, 4,096 where there is none; no length where it asks for none that the
+// programs take.
+pub fn length_asked(rt: &impl Env, i: usize) -> Option<u64>
+    ensures asks { Asks i (length_in result) }
+    ensures bounds { IfSome result (λ n. (1 ≤ n) × (n ≤ most_length)) }
 {
     let count = words(rt);
     if count <= i {
-        return 4096;
+        return Some(4096);
     }
     if count - i > 1 {
-        return 0;
+        return None;
     }
     let mut text = [0u8; 8];
-    let n = match rt.arg(i, &mut text) {
-        Ok(n) => n,
-        Err(_) => 0,
-    };
+    let n = rt.arg(i, &mut text).ok()?;
     memory_length(&text[..n])
 }
 

@@ -2,7 +2,7 @@
 //!
 //! `Limits.pd_count` is a number of a `.antt` file (its name without the ending, then the definition's), `limits.RTS` a constant of a `.rt`
 //! file. Of a layout, `Records.send_codec.size` is its length and `Records.send_codec.opcode` the offset of a field. A definition by cases
-//! over a number, `cond (eqb n 2) (some (Call.send ..))`, gives `Tape.call_of.Call.send` = 2; a row, `row_of (register g) = record { number = 7; .. }`,
+//! over a number, `cond (eqb k 2) Kind.Send ..`, gives `Tape.kind_of.Kind.Send` = 2; a row, `row_of (register g) = record { number = 7; .. }`,
 //! `Commands.row_of.register.number` = 7. `Tape.is_mark[2]` is the third literal in the text of a definition, counted from 0.
 
 use std::collections::HashMap;
@@ -99,11 +99,11 @@ impl Specs {
         }
     }
 
-    /// `cond ( eqb n NUMBER ) ( NAME ..`, where the name may stand behind `some`, with a parenthesis or without.
+    /// `cond ( eqb n NUMBER ) NAME ..`, where the name may stand behind `some`, with a parenthesis or without.
     fn cases(&mut self, name: &str, body: &[String]) {
-        for at in (0..body.len()).filter(|&at| body[at] == "eqb" && at + 5 < body.len()) {
-            let case = body[at + 5..].iter().find(|token| !["some", "("].contains(&token.as_str()));
-            if let (Some(number), ")", "(", Some(case)) = (literal(&body[at + 2]), &*body[at + 3], &*body[at + 4], case) {
+        for at in (0..body.len()).filter(|&at| body[at] == "eqb" && at + 4 < body.len()) {
+            let case = body[at + 4..].iter().find(|token| !["some", "("].contains(&token.as_str()));
+            if let (Some(number), ")", Some(case)) = (literal(&body[at + 2]), &*body[at + 3], case) {
                 self.add(format!("{name}.{case}"), number);
             }
         }

@@ -7,21 +7,21 @@ use Rattle.caller.proofs.run.Goals as goal
 
 pub shape_of-state : goal.shape_of-state
 shape_of-state c =
-    c.poll-ninth.auto.state ∙ c.flush-eighth.auto.state ∙ c.turn-seventh.auto.state ∙ c.enqueue-sixth.auto.state ∙ c.send-fifth.auto.state
-    ∙ c.receive-fourth.auto.state ∙ c.register_pages-third.auto.state ∙ c.control-second.auto.state ∙ c.reset-first.auto.state
+    c.poll.auto.state ∙ c.flush.auto.state ∙ c.turn.auto.state ∙ c.enqueue.auto.state ∙ c.send.auto.state
+    ∙ c.receive.auto.state ∙ c.register_pages.auto.state ∙ c.control.auto.state ∙ c.reset.auto.state
 
 pub returns : goal.returns
 unfolding Linked state_after
 returns c =
-    answered _ _ c.reset-first.ensures [] refl (_ ∷ _ ∷ _ ∷ _ ∷ _ ∷ _ ∷ _ ∷ _ ∷ []) (
-      c.control-second.ensures,
+    answered _ _ c.reset.ensures [] refl (_ ∷ _ ∷ _ ∷ _ ∷ _ ∷ _ ∷ _ ∷ _ ∷ []) (
+      c.control.ensures,
       (
-        c.register_pages-third.ensures,
+        c.register_pages.ensures,
         (
-          c.receive-fourth.ensures,
+          c.receive.ensures,
           (
-            c.send-fifth.ensures,
-            (c.enqueue-sixth.ensures, (c.turn-seventh.ensures, (c.flush-eighth.ensures, (c.poll-ninth.ensures, tt)))),
+            c.send.ensures,
+            (c.enqueue.ensures, (c.turn.ensures, (c.flush.ensures, (c.poll.ensures, tt)))),
           ),
         ),
       ),

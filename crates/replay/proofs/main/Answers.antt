@@ -4,8 +4,8 @@ use Rattle.replay.proofs.main.Goals as goal
 
 pub run_in-requires : goal.run_in-requires
 run_in-requires c =
-    let n = c.length_asked-length in
+    let n = c.in-Some in
     let m = c.memory-memory in
     let st = c.start in
-    starts_by 1 n.result n.ensures.asks n.ensures.upper_bound st.ensures.value st.ensures.state_after c.if-start.true
-    m.ensures.value m.ensures.value_2
+    starts_by 1 n.length n.ensures.asks n.ensures.bounds.1 st.ensures.value st.ensures.state_after c.if-start.true m.ensures.value
+    m.ensures.value_2

@@ -1,4 +1,6 @@
+use mathlib.Core.Path.{◌∙◌}
+use Rattle.tape.proofs.HeadLaws.{mark_starts}
 use Rattle.tape.proofs.is_mark.Goals as goal
 
 pub returns : goal.returns
-returns c = rw (c.get.ensures, c.get-2.ensures)
+returns c = c.starts_with.ensures.value ∙ mark_starts c.args.input.now c.requires c.type_inv.input

@@ -1,24 +1,24 @@
 -- The bytes held move to the window's start, and the read is behind them.
-use native.Mathlib.Omega.{arith}
-use Rattle.tape.proofs.InputLaws.{reads_none, reads_more}
+use mathlib.Core.Path.{refl, sym, ap}
+use native.Mathlib.Nat.{add-zero}
+use Prim.Native.Nat.{ℕ, ◌-◌}
+use mathlib.Core.Bool.{true}
+use Rattle.std.specs.Prelude.{Err}
+use Rattle.tape.specs.declared.input.Held.{Held}
+use Rattle.tape.proofs.InputLaws.{reads_more}
 use borrow.Author.Rules.{rules}
 use Rattle.tape.proofs.input.more.Goals as goal
 
-pub returns-then-to-from : goal.returns-then-to-from
-returns-then-to-from c =
+pub returns-in-Ok : goal.returns-in-Ok
+returns-in-Ok c =
     let a = c.args in
-    reads_none a.source.now.number a.held a.window.now c.none.result c.none.ensures (λ l. omega (arith, c.if-to-from.true))
+    reads_more a.source.now.number a.held a.window.now (search rules, search rules) _ c.copy_within.new.self c.read_once.new.buffer c.in-Ok.n refl
+    c.copy_within.ensures.after (search rules) c.in-Ok.ensures.count_in_bounds c.in-Ok.ensures.gives
 
-pub returns-then-window-to : goal.returns-then-window-to
-returns-then-window-to c =
+pub returns-in-Err : goal.returns-in-Err
+returns-in-Err c =
     let a = c.args in
-    reads_none a.source.now.number a.held a.window.now c.none-then-window-to.result c.none-then-window-to.ensures
-    (λ l. omega (arith, c.if-window-to.true))
-
-pub returns : goal.returns
-returns c =
-    let a = c.args in
-    let k = c.keep-kept in
-    let r = c.read_behind-piece in
-    reads_more a.source.now.number a.held a.window.now k.new.window r.new.window k.result r.result.count r.result.failed
-    k.ensures.value k.ensures.window_after r.ensures.window_unchanged r.ensures.count_in_bounds (search rules) r.ensures.gives
+    let k : ℕ = a.held.to - a.held.from in
+    let h = λ (n : ℕ). let r : Held = record { from = 0; to = n; ended = true } in r in
+    reads_more a.source.now.number a.held a.window.now (search rules, search rules) (Err (record { held = h k })) c.copy_within.new.self c.read_once.new.buffer
+    0 (ap h (sym (add-zero k))) c.copy_within.ensures.after (search rules) c.in-Err.ensures.count_in_bounds c.in-Err.ensures.gives

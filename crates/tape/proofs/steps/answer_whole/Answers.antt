@@ -7,10 +7,10 @@ use Rattle.tape.proofs.steps.answer_whole.Goals as goal
 pub returns : goal.returns
 returns c =
     let r = c.answer_record-written.ensures in
-    let a = c.args in
-    let e : 6 + a.length - 6 ≡ a.length = omega arith in
+    let s = c.args.header.length in
+    let e : 6 + s - 6 ≡ s = omega arith in
     record {
-      says = ap (Reply.Answered (6 + a.length)) (rw e at r.answers.count);
+      says = ap (Reply.Answered (6 + s)) (rw e at r.answers.count);
       state = rw e at r.answers.state;
       memory = rw e at r.memory_after;
       bytes = rw e at r.answers.bytes;
