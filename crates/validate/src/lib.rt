@@ -2,8 +2,8 @@
 #![tactic(auto)]
 
 pub mod accept;
-mod eight;
 pub mod find;
+mod objects;
 pub mod regions;
 mod sends;
 mod together;

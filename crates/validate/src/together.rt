@@ -11,7 +11,7 @@ ghost use Rattle.tables.specs.declared.Region.{Region};
 ghost use Rattle.validate.specs.Accept.{mr_ok, completion_ok, receive_ok};
 ghost use Rattle.validate.specs.Together.{Enough, Tells, Gives, Zeros, eight_ok, pages_ok, first_word, remote_ok, words_ok, word_ok, variant_ok, virt_ok, range_ok, row_ok};
 
-use crate::eight::Eight;
+use crate::objects::{Eight, Pair, Queue};
 use tables::limits::{
     FLAT, LOCAL_LENGTH, MOST_ACCESS, MOST_ADDRESS, MOST_MESSAGE, MOST_PAGED, MOST_PAGES,
     MOST_PLACES, MOST_RECEIVE_SGES, MOST_WAITING, MR_COUNT, PAGE_SIZE, PAGED, QP_COUNT,
@@ -253,36 +253,38 @@ pub fn ring_passes<F: Fn(usize) -> bool>(cap: usize, first: u8, count: u8, test:
     true
 }
 
-// All places of completion queue n, whatever its first is: worth it where many hold an unread completion.
-pub fn completions_pass(state: &[u8], n: usize, count: u8) -> bool
-    requires { (n < cq_count) × (length state.now ≡ state_size) }
-    ensures { Enough result (all_below most_places (λ k. completion_ok (row_at entry_t state.now (most_places * n + k)))) }
-{
-    if count < MANY_UNREAD {
-        return false;
-    }
-    let mut statuses: u8 = 0;
-    let mut opcodes: u8 = 0;
-    let mut owners: u32 = 0;
-    for k in 0..MOST_PLACES {
-        let e = rows::load_entry(state, MOST_PLACES * n + k);
-        if MOST_MESSAGE < e.length {
+impl Queue<'_> {
+    // All places, whatever the first is: worth it where many hold an unread completion.
+    pub fn completions_pass(self, count: u8) -> bool
+        ensures { Enough result (all_below most_places (λ k. completion_ok (row_at entry_t self.entry.state.now (most_places * self.entry.n + k)))) }
+    {
+        if count < MANY_UNREAD {
             return false;
         }
-        statuses |= e.status;
-        opcodes |= e.opcode;
-        owners |= e.owner;
+        let mut statuses: u8 = 0;
+        let mut opcodes: u8 = 0;
+        let mut owners: u32 = 0;
+        for k in 0..MOST_PLACES {
+            let e = rows::load_entry(self.state, MOST_PLACES * self.n + k);
+            if MOST_MESSAGE < e.length {
+                return false;
+            }
+            statuses |= e.status;
+            opcodes |= e.opcode;
+            owners |= e.owner;
+        }
+        (statuses <= LOCAL_LENGTH) & (opcodes <= RECEIVED_WRITE) & (owners < QP_COUNT as u32)
     }
-    (statuses <= LOCAL_LENGTH) & (opcodes <= RECEIVED_WRITE) & (owners < QP_COUNT as u32)
 }
 
-// All places of queue pair n's receives.
-pub fn receives_pass(state: &[u8], n: usize, count: u8) -> bool
-    requires { (n < qp_count) × (length state.now ≡ state_size) }
-    ensures { Enough result (all_below most_waiting (λ k. receive_ok (row_at receive_t state.now (most_waiting * n + k)))) }
-{
-    MANY_WAITING <= count
-        && (0..MOST_WAITING).all(|k| {
-            rows::load_receive(state, MOST_WAITING * n + k).count <= MOST_RECEIVE_SGES
-        })
+impl Pair<'_> {
+    // All places of the receives.
+    pub fn receives_pass(self, count: u8) -> bool
+        ensures { Enough result (all_below most_waiting (λ k. receive_ok (row_at receive_t self.entry.state.now (most_waiting * self.entry.n + k)))) }
+    {
+        MANY_WAITING <= count
+            && (0..MOST_WAITING).all(|k| {
+                rows::load_receive(self.state, MOST_WAITING * self.n + k).count <= MOST_RECEIVE_SGES
+            })
+    }
 }
