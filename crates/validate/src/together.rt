@@ -43,15 +43,11 @@ fn remote_ok(any: u32, all: u32) -> bool
 fn words_ok(any: u32, all: u32, kind: u8, domains: usize) -> bool
     ensures { result ≡ words_ok kind domains any all }
 {
-    let access = any % 256;
-    let pd = (any / 65536 % 256) as usize;
-    let most = any / 16777216;
-    let least = all / 16777216;
+    let most = any.to_le_bytes();
+    let least = all.to_le_bytes();
+    let pd = most[2] as usize;
     remote_ok(any, all)
-        && (access <= MOST_ACCESS as u32)
-            & (pd < domains)
-            & (most == kind as u32)
-            & (least == kind as u32)
+        && (most[0] <= MOST_ACCESS) & (pd < domains) & (most[3] == kind) & (least[3] == kind)
 }
 
 // Whether the range is not empty and ends at the limit at most.
@@ -68,13 +64,7 @@ fn joined(a: u16, b: u16) -> u16
     a | b
 }
 
-fn larger(a: u16, b: u16) -> u16
-    ensures { (a ≤ result) × (b ≤ result) }
-{
-    if a < b { b } else { a }
-}
-
-// Page numbers, also those that a region does not need, by one number that is at least each: join is joined or larger.
+// Page numbers, also those that a region does not need, by one number that is at least each, made by join.
 fn pages_below<F: Fn(u16, u16) -> u16>(
     state: &[u8],
     from: usize,
@@ -167,7 +157,7 @@ impl Eight<'_> {
         let from = 8 * MOST_PAGES * self.g;
         let many = 8 * MOST_PAGES;
         page_bits_pass(self.state, from, many, self.memory)
-            || pages_below(self.state, from, many, self.memory, larger)
+            || pages_below(self.state, from, many, self.memory, |a, b| a.max(b))
     }
 
     // Eight live regions of one kind, whose domains are among the first, which are live.
