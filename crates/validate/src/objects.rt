@@ -1,4 +1,5 @@
-// What the state test looks at, by number in a state of the right length.
+// What the state test looks at, by number in a state of the right length. Functions that other crates call, and those over a whole table,
+// take the slice with a clause on its length, as tables::rows does.
 ghost use Rattle.std.specs.Prelude.{◌≡◌, ◌+◌, ◌*◌, ◌<◌, ◌≤◌, length};
 ghost use Rattle.wire.specs.Table.{row_at};
 ghost use Rattle.tables.specs.Layout.{state_size, memory_t, mr_t};

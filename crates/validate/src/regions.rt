@@ -105,8 +105,8 @@ impl Eight<'_> {
     }
 }
 
-// Free slots are passed eight or more at a time: their flags are zero words. A while: g goes on by as many as past_free finds, and
-// without it two live regions cost 116 instructions more.
+// Free slots are passed eight or more at a time: their flags are zero words. A while: g goes on by as many as past_free finds; eight at a
+// time, a test with two live regions took 683 instructions in place of 567 (docs/PERFORMANCE.md).
 pub fn mrs_ok(state: &[u8], memory: u64) -> bool
     requires { (length state.now ≡ state_size) × (memory ≡ row_at memory_t state.now 0) }
     ensures { result ≡ all_below mr_count (mr_ok state.now) }
