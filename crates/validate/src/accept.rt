@@ -10,7 +10,8 @@ ghost use Rattle.tables.specs.Limits.{pd_count, cq_count, qp_count, most_places,
 ghost use Rattle.validate.specs.Accept.{accepts, memory_ok, turn_ok, is_status, is_state, completion_ok, receive_ok, queue_ok, pair_ok, pd_ok, cq_ok, qp_ok, names_ok, receives_ok};
 
 use crate::live::is_live;
-use crate::{regions, sends, together};
+use crate::objects::{Pair, Queue};
+use crate::{regions, together};
 use tables::limits::{
     CQ_COUNT, ERROR, FLUSHED, LOCAL_LENGTH, LOCAL_PROTECTION, MOST_ACCESS, MOST_MEMORY,
     MOST_MESSAGE, MOST_PLACES, MOST_RECEIVE_SGES, MOST_WAITING, PD_COUNT, QP_COUNT, RECEIVED_WRITE,
@@ -18,8 +19,6 @@ use tables::limits::{
 };
 use tables::rows::{STATE_SIZE, State};
 use tables::{Completion, Kind, QueueHead, QueuePair, WaitingHead, WorkQueue, rows};
-
-// pd_live and cq_live are a line each: one function of both would take the count, the number and a loader.
 
 fn is_status(s: u8) -> bool
     ensures { result ≡ is_status s }
@@ -57,28 +56,6 @@ fn pair_ok(n: usize, p: QueuePair) -> bool
         && is_state(p.state)
 }
 
-// The unread completions of queue n, whose head is h.
-fn entries_ok(state: &State, n: usize, h: QueueHead) -> bool
-    requires { (n < cq_count) × (h.first < most_places) }
-    ensures { result ≡ all completion_ok (ring_list no_completion most_places (ring_at state.now n) h.first h.count) }
-{
-    together::completions_pass(state, n, h.count)
-        || together::ring_passes(MOST_PLACES, h.first, h.count, |k| {
-            completion_ok(rows::load_entry(state, MOST_PLACES * n + k))
-        })
-}
-
-// The waiting receives of queue pair n, whose head is h.
-fn receives_ok(state: &State, n: usize, h: WaitingHead) -> bool
-    requires { (n < qp_count) × (h.first < most_waiting) }
-    ensures { result ≡ all receive_ok (ring_list no_record most_waiting (receives_at state.now n) h.first h.count) }
-{
-    together::receives_pass(state, n, h.count)
-        || together::ring_passes(MOST_WAITING, h.first, h.count, |k| {
-            rows::load_receive(state, MOST_WAITING * n + k).count <= MOST_RECEIVE_SGES
-        })
-}
-
 fn queue_ok(h: QueueHead) -> bool
     ensures { result ≡ queue_ok h }
 {
@@ -87,18 +64,30 @@ fn queue_ok(h: QueueHead) -> bool
     (1 <= h.places) & (places <= MOST_PLACES) & (first < MOST_PLACES) & (h.count <= h.places)
 }
 
-#[tactic(auto, unfolding(crate::specs::Accept::cq_ok, tables::specs::State::queue_at))]
-fn cq_ok(state: &State, n: usize) -> bool
-    requires { n < cq_count }
-    ensures { result ≡ cq_ok state.now n }
-{
-    match rows::load_flag(state, Kind::Cq, n) {
-        0 => true,
-        1 => {
-            let h = rows::load_cq(state, n);
-            queue_ok(h) && entries_ok(state, n, h)
+impl Queue<'_> {
+    // The unread completions; h is the queue's head.
+    fn entries_ok(self, h: QueueHead) -> bool
+        requires { h.first < most_places }
+        ensures { result ≡ all completion_ok (ring_list no_completion most_places (ring_at self.entry.state.now self.entry.n) h.first h.count) }
+    {
+        self.completions_pass(h.count)
+            || together::ring_passes(MOST_PLACES, h.first, h.count, |k| {
+                completion_ok(rows::load_entry(self.state, MOST_PLACES * self.n + k))
+            })
+    }
+
+    #[tactic(auto, unfolding(crate::specs::Accept::cq_ok, tables::specs::State::queue_at))]
+    fn cq_ok(self) -> bool
+        ensures { result ≡ cq_ok self.entry.state.now self.entry.n }
+    {
+        match rows::load_flag(self.state, Kind::Cq, self.n) {
+            0 => true,
+            1 => {
+                let h = rows::load_cq(self.state, self.n);
+                queue_ok(h) && self.entries_ok(h)
+            }
+            _ => false,
         }
-        _ => false,
     }
 }
 
@@ -111,33 +100,44 @@ fn names_ok(state: &State, p: QueuePair) -> bool
         && is_live(state, Kind::Cq, p.rcq as u32)
 }
 
-// The waiting receives of queue pair n.
-#[tactic(auto, unfolding(tables::specs::State::pair_at))]
-fn waiting_ok(state: &State, n: usize) -> bool
-    requires { n < qp_count }
-    ensures { result ≡ receives_ok (pair_at state.now n) }
-{
-    let h = rows::load_head(state, WorkQueue::Receive, n);
-    let first = h.first as usize;
-    let count = h.count as usize;
-    first < MOST_WAITING && count <= MOST_WAITING && receives_ok(state, n, h)
-}
+impl Pair<'_> {
+    // The waiting receives; h is their head.
+    fn receives_ok(self, h: WaitingHead) -> bool
+        requires { h.first < most_waiting }
+        ensures { result ≡ all receive_ok (ring_list no_record most_waiting (receives_at self.entry.state.now self.entry.n) h.first h.count) }
+    {
+        self.receives_pass(h.count)
+            || together::ring_passes(MOST_WAITING, h.first, h.count, |k| {
+                rows::load_receive(self.state, MOST_WAITING * self.n + k).count <= MOST_RECEIVE_SGES
+            })
+    }
 
-#[tactic(auto, unfolding(crate::specs::Accept::qp_ok, tables::specs::State::pair_at))]
-fn qp_ok(state: &State, n: usize) -> bool
-    requires { n < qp_count }
-    ensures { result ≡ qp_ok state.now n }
-{
-    match rows::load_flag(state, Kind::Qp, n) {
-        0 => true,
-        1 => {
-            let p = rows::load_qp(state, n);
-            names_ok(state, p)
-                && pair_ok(n, p)
-                && waiting_ok(state, n)
-                && sends::sends_ok(state, n, p.state)
+    // The waiting receives and their head.
+    #[tactic(auto, unfolding(tables::specs::State::pair_at))]
+    fn waiting_ok(self) -> bool
+        ensures { result ≡ receives_ok (pair_at self.entry.state.now self.entry.n) }
+    {
+        let h = rows::load_head(self.state, WorkQueue::Receive, self.n);
+        let first = h.first as usize;
+        let count = h.count as usize;
+        first < MOST_WAITING && count <= MOST_WAITING && self.receives_ok(h)
+    }
+
+    #[tactic(auto, unfolding(crate::specs::Accept::qp_ok, tables::specs::State::pair_at))]
+    fn qp_ok(self) -> bool
+        ensures { result ≡ qp_ok self.entry.state.now self.entry.n }
+    {
+        match rows::load_flag(self.state, Kind::Qp, self.n) {
+            0 => true,
+            1 => {
+                let p = rows::load_qp(self.state, self.n);
+                names_ok(self.state, p)
+                    && pair_ok(self.n, p)
+                    && self.waiting_ok()
+                    && self.sends_ok(p.state)
+            }
+            _ => false,
         }
-        _ => false,
     }
 }
 
@@ -159,13 +159,13 @@ fn pds_ok(state: &State) -> bool
 fn cqs_ok(state: &State) -> bool
     ensures { result ≡ all_below cq_count (cq_ok state.now) }
 {
-    (0..CQ_COUNT).all(|n| cq_ok(state, n))
+    (0..CQ_COUNT).all(|n| Queue::new(state, n).cq_ok())
 }
 
 fn qps_ok(state: &State) -> bool
     ensures { result ≡ all_below qp_count (qp_ok state.now) }
 {
-    (0..QP_COUNT).all(|n| qp_ok(state, n))
+    (0..QP_COUNT).all(|n| Pair::new(state, n).qp_ok())
 }
 
 // Whether the lent state is acceptable: any bytes, of any length.

@@ -2,9 +2,9 @@
 #![tactic(auto)]
 
 pub mod accept;
-mod eight;
 pub mod find;
 pub mod live;
+mod objects;
 pub mod regions;
 mod sends;
 mod together;

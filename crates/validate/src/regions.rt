@@ -8,8 +8,8 @@ ghost use Rattle.tables.specs.Layout.{state_size, memory_t, mr_t};
 ghost use Rattle.tables.specs.Limits.{mr_count, most_pages, page_size};
 ghost use Rattle.validate.specs.Accept.{access_ok, fields_ok, numbers_ok, paged_ok, land_ok, mr_ok};
 
-use crate::eight::Eight;
 use crate::live::is_live;
+use crate::objects::{Eight, Slot};
 use crate::together;
 use tables::limits::{
     FLAT, LOCAL_WRITE, MOST_ACCESS, MOST_ADDRESS, MOST_PAGED, MOST_PAGES, MR_COUNT, PAGE_SIZE,
@@ -38,16 +38,6 @@ fn fields_ok(r: Region) -> bool
         && wire::sum_within(r.virt, r.length, MOST_ADDRESS)
 }
 
-// The first count page numbers of region slot n.
-fn numbers_ok(state: &State, memory: u64, n: usize, count: usize) -> bool
-    requires { (n < mr_count) × (count ≤ most_pages) }
-    ensures { result ≡ numbers_ok memory count (pages_at state.now n) }
-{
-    let limit = memory / PAGE_SIZE;
-    together::page_bits_pass(state, MOST_PAGES * n, MOST_PAGES, memory)
-        || (0..count).all(|k| (rows::load_page(state, MOST_PAGES * n + k) as u64) < limit)
-}
-
 // How many pages the bytes need from an offset into the first one on.
 #[tactic(auto, unfolding(tables::specs::State::pages_needed))]
 pub fn pages_needed(start: u64, length: u64) -> u64
@@ -57,54 +47,68 @@ pub fn pages_needed(start: u64, length: u64) -> u64
     (start + length + (PAGE_SIZE - 1)) / PAGE_SIZE
 }
 
-// Where a region over pages lies; r is the row of slot n.
-#[tactic(auto, unfolding(tables::specs::State::region_at))]
-fn paged_ok(state: &State, memory: u64, n: usize, r: Region) -> bool
-    requires { (n < mr_count) × (r ≡ row_at mr_t state.now n) }
-    ensures { result ≡ paged_ok memory (region_at state.now n) }
-{
-    r.start <= PAGE_SIZE - 1
-        && wire::sum_within(r.start, r.length, MOST_PAGED)
-        && numbers_ok(state, memory, n, pages_needed(r.start, r.length) as usize)
-}
-
-// Where a region lies in the memory; r is the row of slot n.
-#[tactic(auto, unfolding(tables::specs::State::region_at))]
-fn land_ok(state: &State, memory: u64, n: usize, r: Region) -> bool
-    requires { (n < mr_count) × (r ≡ row_at mr_t state.now n) }
-    ensures { result ≡ land_ok memory (region_at state.now n) }
-{
-    match r.kind {
-        FLAT => wire::sum_within(r.start, r.length, memory),
-        PAGED => paged_ok(state, memory, n, r),
-        _ => false,
+impl Slot<'_> {
+    // The first count page numbers.
+    fn numbers_ok(self, count: usize) -> bool
+        requires { count ≤ most_pages }
+        ensures { result ≡ numbers_ok self.entry.memory count (pages_at self.entry.state.now self.entry.n) }
+    {
+        let limit = self.memory / PAGE_SIZE;
+        let from = MOST_PAGES * self.n;
+        together::page_bits_pass(self.state, from, MOST_PAGES, self.memory)
+            || (0..count).all(|k| (rows::load_page(self.state, from + k) as u64) < limit)
     }
-}
 
-#[tactic(auto, unfolding(crate::specs::Accept::mr_ok, tables::specs::State::region_at))]
-fn mr_ok(state: &State, memory: u64, n: usize) -> bool
-    requires { (n < mr_count) × (memory ≡ row_at memory_t state.now 0) }
-    ensures { result ≡ mr_ok state.now n }
-{
-    match rows::load_flag(state, Kind::Mr, n) {
-        0 => true,
-        1 => {
-            let r = rows::load_mr(state, n);
-            fields_ok(r) && is_live(state, Kind::Pd, r.pd as u32) && land_ok(state, memory, n, r)
+    // Where a region over pages lies; r is its row.
+    #[tactic(auto, unfolding(tables::specs::State::region_at))]
+    fn paged_ok(self, r: Region) -> bool
+        requires { r ≡ row_at mr_t self.state.now self.n }
+        ensures { result ≡ paged_ok self.entry.memory (region_at self.entry.state.now self.entry.n) }
+    {
+        r.start <= PAGE_SIZE - 1
+            && wire::sum_within(r.start, r.length, MOST_PAGED)
+            && self.numbers_ok(pages_needed(r.start, r.length) as usize)
+    }
+
+    // Where a region lies in the memory; r is its row.
+    #[tactic(auto, unfolding(tables::specs::State::region_at))]
+    fn land_ok(self, r: Region) -> bool
+        requires { r ≡ row_at mr_t self.state.now self.n }
+        ensures { result ≡ land_ok self.entry.memory (region_at self.entry.state.now self.entry.n) }
+    {
+        match r.kind {
+            FLAT => wire::sum_within(r.start, r.length, self.memory),
+            PAGED => self.paged_ok(r),
+            _ => false,
         }
-        _ => false,
+    }
+
+    #[tactic(auto, unfolding(crate::specs::Accept::mr_ok, tables::specs::State::region_at))]
+    fn mr_ok(self) -> bool
+        ensures { result ≡ mr_ok self.entry.state.now self.entry.n }
+    {
+        match rows::load_flag(self.state, Kind::Mr, self.n) {
+            0 => true,
+            1 => {
+                let r = rows::load_mr(self.state, self.n);
+                fields_ok(r) && is_live(self.state, Kind::Pd, r.pd as u32) && self.land_ok(r)
+            }
+            _ => false,
+        }
     }
 }
 
-// The eight region slots: together, or one by one.
-fn eight_ok(eight: Eight) -> bool
-    ensures { result ≡ all_below 8 (λ i. mr_ok eight.entry.state.now (8 * eight.entry.g + i)) }
-{
-    eight.regions_pass() || (0..8).all(|i| mr_ok(eight.state, eight.memory, 8 * eight.g + i))
+impl Eight<'_> {
+    // Together, or one by one.
+    fn eight_ok(self) -> bool
+        ensures { result ≡ all_below 8 (λ i. mr_ok self.entry.state.now (8 * self.entry.g + i)) }
+    {
+        self.regions_pass() || (0..8).all(|i| self.slot(i).mr_ok())
+    }
 }
 
-// Free slots are passed eight or more at a time: their flags are zero words. A while: g goes on by as many as past_free finds, and
-// without it two live regions cost 116 instructions more.
+// Free slots are passed eight or more at a time: their flags are zero words. A while: g goes on by as many as past_free finds; eight at a
+// time, a test with two live regions took 683 instructions in place of 567 (docs/PERFORMANCE.md).
 pub fn mrs_ok(state: &State, memory: u64) -> bool
     requires { memory ≡ row_at memory_t state.now 0 }
     ensures { result ≡ all_below mr_count (mr_ok state.now) }
@@ -112,7 +116,7 @@ pub fn mrs_ok(state: &State, memory: u64) -> bool
     let mut g = 0;
     while g < MR_COUNT / 8 {
         if wire::get::<u64>(state, rows::MR_FLAGS + 8 * g) != 0 {
-            if !eight_ok(Eight { state, memory, g }) {
+            if !(Eight { state, memory, g }).eight_ok() {
                 return false;
             }
         }

@@ -11,7 +11,7 @@ ghost use Rattle.tables.specs.declared.Region.{Region};
 ghost use Rattle.validate.specs.Accept.{mr_ok, completion_ok, receive_ok};
 ghost use Rattle.validate.specs.Together.{Enough, Tells, Gives, Zeros, eight_ok, pages_ok, first_word, remote_ok, words_ok, word_ok, variant_ok, virt_ok, range_ok, row_ok};
 
-use crate::eight::Eight;
+use crate::objects::{Eight, Pair, Queue};
 use tables::limits::{
     FLAT, LOCAL_LENGTH, MOST_ACCESS, MOST_ADDRESS, MOST_MESSAGE, MOST_PAGED, MOST_PAGES,
     MOST_PLACES, MOST_RECEIVE_SGES, MOST_WAITING, MR_COUNT, PAGE_SIZE, PAGED, QP_COUNT,
@@ -44,15 +44,11 @@ fn remote_ok(any: u32, all: u32) -> bool
 fn words_ok(any: u32, all: u32, kind: u8, domains: usize) -> bool
     ensures { result ≡ words_ok kind domains any all }
 {
-    let access = any % 256;
-    let pd = (any / 65536 % 256) as usize;
-    let most = any / 16777216;
-    let least = all / 16777216;
+    let most = any.to_le_bytes();
+    let least = all.to_le_bytes();
+    let pd = most[2] as usize;
     remote_ok(any, all)
-        && (access <= MOST_ACCESS as u32)
-            & (pd < domains)
-            & (most == kind as u32)
-            & (least == kind as u32)
+        && (most[0] <= MOST_ACCESS) & (pd < domains) & (most[3] == kind) & (least[3] == kind)
 }
 
 // Whether the range is not empty and ends at the limit at most.
@@ -69,13 +65,7 @@ fn joined(a: u16, b: u16) -> u16
     a | b
 }
 
-fn larger(a: u16, b: u16) -> u16
-    ensures { (a ≤ result) × (b ≤ result) }
-{
-    if a < b { b } else { a }
-}
-
-// Page numbers, also those that a region does not need, by one number that is at least each: join is joined or larger.
+// Page numbers, also those that a region does not need, by one number that is at least each, made by join.
 fn pages_below<F: Fn(u16, u16) -> u16>(
     state: &State,
     from: usize,
@@ -116,8 +106,7 @@ impl Eight<'_> {
     fn variants_pass(self) -> bool
         ensures { result ≡ eight_ok variant_ok self.entry.state.now self.entry.g }
     {
-        (0..8).all(|i| 1
-            <= wire::get::<u8>(self.state, rows::MRS + (8 * self.g + i) * rows::MR_SIZE + 1))
+        (0..8).all(|i| 1 <= self.variant(i))
     }
 
     // A number of each row against the limit, by the bits that any of them has.
@@ -168,7 +157,7 @@ impl Eight<'_> {
         let from = 8 * MOST_PAGES * self.g;
         let many = 8 * MOST_PAGES;
         page_bits_pass(self.state, from, many, self.memory)
-            || pages_below(self.state, from, many, self.memory, larger)
+            || pages_below(self.state, from, many, self.memory, |a, b| a.max(b))
     }
 
     // Eight live regions of one kind, whose domains are among the first, which are live.
@@ -259,36 +248,38 @@ pub fn ring_passes<F: Fn(usize) -> bool>(cap: usize, first: u8, count: u8, test:
     true
 }
 
-// All places of completion queue n, whatever its first is: worth it where many hold an unread completion.
-pub fn completions_pass(state: &State, n: usize, count: u8) -> bool
-    requires { n < cq_count }
-    ensures { Enough result (all_below most_places (λ k. completion_ok (row_at entry_t state.now (most_places * n + k)))) }
-{
-    if count < MANY_UNREAD {
-        return false;
-    }
-    let mut statuses: u8 = 0;
-    let mut opcodes: u8 = 0;
-    let mut owners: u32 = 0;
-    for k in 0..MOST_PLACES {
-        let e = rows::load_entry(state, MOST_PLACES * n + k);
-        if MOST_MESSAGE < e.length {
+impl Queue<'_> {
+    // All places, whatever the first is: worth it where many hold an unread completion.
+    pub fn completions_pass(self, count: u8) -> bool
+        ensures { Enough result (all_below most_places (λ k. completion_ok (row_at entry_t self.entry.state.now (most_places * self.entry.n + k)))) }
+    {
+        if count < MANY_UNREAD {
             return false;
         }
-        statuses |= e.status;
-        opcodes |= e.opcode;
-        owners |= e.owner;
+        let mut statuses: u8 = 0;
+        let mut opcodes: u8 = 0;
+        let mut owners: u32 = 0;
+        for k in 0..MOST_PLACES {
+            let e = rows::load_entry(self.state, MOST_PLACES * self.n + k);
+            if MOST_MESSAGE < e.length {
+                return false;
+            }
+            statuses |= e.status;
+            opcodes |= e.opcode;
+            owners |= e.owner;
+        }
+        (statuses <= LOCAL_LENGTH) & (opcodes <= RECEIVED_WRITE) & (owners < QP_COUNT as u32)
     }
-    (statuses <= LOCAL_LENGTH) & (opcodes <= RECEIVED_WRITE) & (owners < QP_COUNT as u32)
 }
 
-// All places of queue pair n's receives.
-pub fn receives_pass(state: &State, n: usize, count: u8) -> bool
-    requires { n < qp_count }
-    ensures { Enough result (all_below most_waiting (λ k. receive_ok (row_at receive_t state.now (most_waiting * n + k)))) }
-{
-    MANY_WAITING <= count
-        && (0..MOST_WAITING).all(|k| {
-            rows::load_receive(state, MOST_WAITING * n + k).count <= MOST_RECEIVE_SGES
-        })
+impl Pair<'_> {
+    // All places of the receives.
+    pub fn receives_pass(self, count: u8) -> bool
+        ensures { Enough result (all_below most_waiting (λ k. receive_ok (row_at receive_t self.entry.state.now (most_waiting * self.entry.n + k)))) }
+    {
+        MANY_WAITING <= count
+            && (0..MOST_WAITING).all(|k| {
+                rows::load_receive(self.state, MOST_WAITING * self.n + k).count <= MOST_RECEIVE_SGES
+            })
+    }
 }
