@@ -100,13 +100,6 @@ module _ (l k : List ℕ) where
           let q : refusal_of n ≡ r = cc in
           record { outcome = rw (z, q); bytes = rw z }
 
-  -- one is
-  pub dispatch_passed : refusal (head_checks k) ≡ none → (r : Result Ack Refusal) (l' : List ℕ) → Chosen l k r l' → Classed l k r l'
-  dispatch_passed e r l' x =
-      let z : refusal (class_checks (card l) k) ≡ refusal (number_checks (card l) k) =
-      refusal_append (head_checks k) (number_checks (card l) k) ∙ rw e in
-      record { outcome = rw z x.outcome; bytes = rw z x.bytes }
-
 -- ---- the call
 
 class_quiet : (c : Card) (k : List ℕ) → all (λ t. quiet t.no) (class_checks c k) ≡ true
@@ -260,9 +253,6 @@ module _ (l k a : List ℕ) where
 
   abbrev o : Option Command
   o = command_of k
-
-  pub control_state : accepts l ≡ false → Owes l call (answer.Refused 15) l [] a
-  control_state e = refused_owes l call 15 (rw e)
 
   module _ (good : accepts l ≡ true) where
     pub control_short : length a < ack_need k → Owes l call (answer.Refused 12) l [] a

@@ -9,7 +9,6 @@ use lib.Dec.{eqb, ltb, leb}
 use lib.ListN.{length}
 use borrow.Author.Tests.{le-leb, lt-leb, leb-true, leb-false, lt-ltb, le-ltb}
 use Rattle.wire.specs.Checks.{Check, ◌if◌, refusal}
-use Rattle.wire.proofs.ScanLaws.{and_right}
 use Rattle.wire.specs.Table.{row_at, put_row}
 use Rattle.tables.specs.State.{card}
 use Rattle.tables.specs.Layout.{memory_t, pd_flag_t, mr_t}
@@ -58,23 +57,12 @@ ran_wrong l = record { outcome = refl; bytes = refl }
 
 -- a command without data, whose test gave this
 module _ (l k : List ℕ) (q : Command) where
-  pub bare_wrong : (r : Refusal) → no_data_read k ≡ Err r → Ran l (bare q k) (Err r) l
-  bare_wrong r e = go (eqb (length k) 2) e
-    where
-      go : (b : Bool) → cond {A = Result (Unit {0}) Refusal} b (Ok tt) (Err WrongLength) ≡ Err r → Ran l (cond b (some q) none) (Err r) l
-      go true e = cc
-      go false e = let w : WrongLength ≡ r = cc in rw (← w) (ran_wrong l)
-
   pub bare_right : no_data_read k ≡ Ok tt → bare q k ≡ some q
   bare_right e = go (eqb (length k) 2) e
     where
       go : (b : Bool) → cond {A = Result (Unit {0}) Refusal} b (Ok tt) (Err WrongLength) ≡ Ok tt → cond b (some q) none ≡ some q
       go true e = refl
       go false e = cc
-
--- the fields that a byte of the state holds
-pub places_small : (p : ℕ) → (leb 1 p && leb p most_places) ≡ true → p < 256
-places_small p e = let b : p ≤ most_places = leb-true p most_places (and_right (leb 1 p) (leb p most_places) e) in omega arith
 
 pub over : (a b : ℕ) → ltb a b ≡ not (leb b a)
 over a b = by (leb b a) refl

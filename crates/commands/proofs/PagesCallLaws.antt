@@ -1,10 +1,9 @@
 -- The registration call over a page list: what it owes. Assumes nothing.
 use mathlib.Core.Path.{◌≡◌, refl, ◌∙◌}
-use mathlib.Core.Bool.{true, false}
+use mathlib.Core.Bool.{true}
 use mathlib.Core.List.{List, []}
-use mathlib.Core.Option.{Option, none, some}
+use mathlib.Core.Option.{none}
 use Prim.Native.Nat.{ℕ, ◌≤◌, ◌<◌}
-use native.Mathlib.Omega.{arith}
 use lib.ListN.{length}
 use borrow.Author.Tests.{lt-ltb, le-ltb}
 use Rattle.wire.specs.Checks.{refusal}
@@ -12,7 +11,7 @@ use Rattle.wire.specs.Scan.{all}
 use Rattle.validate.specs.Accept.{accepts}
 use Rattle.validate.proofs.AcceptedLaws.{accepted}
 use Rattle.tables.specs.State.{card}
-use Rattle.tables.specs.Commands.{encode_ack, ack_size, ack_least}
+use Rattle.tables.specs.Commands.{encode_ack, ack_least}
 use Rattle.tables.specs.declared.Ack.{Ack}
 use Rattle.rules.proofs.Exported.{refused_owes, done_owes}
 use Rattle.rules.specs.Bytes.{effect_bytes, paged_bytes}
@@ -26,27 +25,15 @@ use Rattle.rules.specs.declared.Answer.{Answer}
 use Rattle.rules.specs.declared.Answer.TheVariants as answer
 use Rattle.commands.specs.Control.{outcome_ack}
 use Rattle.commands.specs.Pages.{record_checks, Recorded}
-use Rattle.std.specs.Prelude.{Result, Ok, Err}
-use Rattle.tables.specs.Refusal.{refusal_of}
+use Rattle.std.specs.Prelude.{Result}
 use Rattle.tables.specs.declared.refusal.Refusal.{Refusal}
 use Rattle.commands.proofs.CallLaws.{rest_none}
 use Rattle.commands.proofs.EndLaws.{quiet, ended}
 use Rattle.commands.proofs.RegionEffectLaws.{register_paged}
 
--- its ack fits the buffer
-pub pages_room : (l k ps : List ℕ) (p : Result Ack Refusal) (l' : List ℕ) → Recorded l k ps p l' → ack_size (outcome_ack p) ≤ ack_least
-pages_room l k ps p l' d = go (refusal (record_checks (card l) k ps)) refl
-  where
-    go : (m : Option ℕ) → refusal (record_checks (card l) k ps) ≡ m → ack_size (outcome_ack p) ≤ ack_least
-    go none e = let eo : p ≡ Ok (new_keys (card l)) = d.outcome ∙ rw e in rw eo (omega arith)
-    go (some n) e = let eo : p ≡ Err (refusal_of n) = d.outcome ∙ rw e in rw eo (omega arith)
-
 module _ (l k ps a : List ℕ) where
   abbrev call : Call
   call = Call.register_pages k ps a
-
-  pub pages_state : accepts l ≡ false → Owes l call (answer.Refused 15) l [] a
-  pages_state e = refused_owes l call 15 (rw e)
 
   module _ (good : accepts l ≡ true) where
     pub pages_short : length a < ack_least → Owes l call (answer.Refused 12) l [] a

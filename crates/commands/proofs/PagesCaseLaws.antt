@@ -39,7 +39,7 @@ use Rattle.std.specs.Prelude.{Result, Ok, Err, Some, None}
 use Rattle.std.specs.Prelude.{Option as Read}
 use Rattle.tables.specs.Refusal.{refusal_of}
 use Rattle.tables.specs.declared.refusal.Refusal.{Refusal}
-use Rattle.tables.specs.declared.refusal.Refusal.TheVariants.{BadField, BadRange, Full, NotLive, Unknown, WrongLength}
+use Rattle.tables.specs.declared.refusal.Refusal.TheVariants.{BadField, BadRange, Full, NotLive, Unknown}
 use Rattle.commands.proofs.CaseLaws.{over}
 use Rattle.commands.proofs.PagesEffectLaws.{entries_most}
 
@@ -74,12 +74,6 @@ module _ (g : Registration) (ps : List ℕ) (memory : ℕ) where
     abbrev first : Bool
     first = not (eqb g.length 0) && s && not (leb page_size g.start) && c
 
-    pub range_off : first ≡ false → false ≡ in_pages memory g ps
-    range_off h = rw (← e, ← f, h)
-
-    pub range_on : first ≡ true → (x : Bool) → x ≡ entries_ok memory ps → x ≡ in_pages memory g ps
-    range_on h x i = rw (← e, ← f, h) i
-
   -- a list that passes them
   range_known : in_pages memory g ps ≡ true → (length ps ≤ most_pages) × (entries_ok memory ps ≡ true)
   range_known e =
@@ -97,9 +91,6 @@ list_fits l ps g ok e =
 -- ---- the tests in order
 
 module _ (l ps : List ℕ) where
-  pub listed_wrong : Listed l None ps (Err WrongLength) l
-  listed_wrong = record { outcome = refl; bytes = refl }
-
   module _ (g : Registration) where
     refused : (n : ℕ) → refusal (page_list_checks (card l) g ps) ≡ some n → Listed l (Some g) ps (Err (refusal_of n)) l
     refused n e = record { outcome = rw e; bytes = rw e }

@@ -1,15 +1,14 @@
 -- The cases of the commands of queue pairs: which tests passed and which failed gives what the function owes. Assumes nothing.
-use mathlib.Core.Path.{◌≡◌, refl, sym, ap, ◌∙◌}
-use mathlib.Core.Bool.{Bool, true, false, cond, not, ◌&&◌, ◌||◌, false≢true}
+use mathlib.Core.Path.{◌≡◌, refl, ap, ◌∙◌}
+use mathlib.Core.Bool.{Bool, true, false, cond, not, ◌&&◌, ◌||◌}
 use mathlib.Core.List.{List, [], ◌∷◌}
 use mathlib.Core.Option.{some}
 use Prim.Native.Nat.{ℕ, ◌+◌, ◌≤◌, ◌<◌}
 use native.Mathlib.Omega.{arith}
-use lib.Bits.{bit_and}
 use lib.Dec.{eqb, leb}
-use borrow.Author.Tests.{eq-eqb, ne_eqb, le-leb, lt-leb, leb-false, not-false}
+use borrow.Author.Tests.{le-leb, lt-leb}
 use Rattle.wire.specs.Checks.{Check, ◌if◌, refusal, has, only}
-use Rattle.wire.proofs.ScanLaws.{and_left, and_right, or_left, or_right}
+use Rattle.wire.proofs.ScanLaws.{and_left, and_right}
 use Rattle.wire.specs.Table.{row_at}
 use Rattle.tables.specs.Card.{cq_live, Qp}
 use Rattle.validate.specs.Accept.{is_state}
@@ -22,7 +21,6 @@ use Rattle.validate.specs.Search.{free_qpn}
 use Rattle.tables.specs.declared.Ack.TheVariants as ack
 use Rattle.tables.specs.declared.CreateQp.{CreateQp}
 use Rattle.tables.specs.declared.ModifyQp.{ModifyQp}
-use Rattle.validate.proofs.AcceptedLaws.{only_most}
 use Rattle.rules.specs.Control.{command_checks, command_ack, is_move, state_bit, rights_bit, dest_bit}
 use Rattle.rules.specs.Bytes.{command_bytes}
 use Rattle.commands.specs.Control.{Ran, create_fine, create_live, modify_bad}
@@ -30,14 +28,9 @@ use Rattle.std.specs.Prelude.{Ok, Err}
 use Rattle.tables.specs.declared.refusal.Refusal.TheVariants.{BadField, Full, NotLive, WrongState}
 use Rattle.commands.proofs.CaseLaws.{ran_refused, ran_done, over}
 
--- ---- the fields of modify QP that pass their tests
+-- ---- the tests of modify QP
 module _ (r : ModifyQp) where
-  -- the tests of answer 4 in four parts
-  abbrev early : Bool
-  early =
-      not (only (state_bit + rights_bit + dest_bit) r.mask) || not (has state_bit r.mask) || not (is_state r.state)
-      || not (eqb r.pad0 0 && eqb r.pad1 0 && eqb r.pad2 0) || (has dest_bit r.mask && not (eqb r.state 2))
-
+  -- the last tests of answer 4
   abbrev unnamed : Bool
   unnamed = not (has dest_bit r.mask) && eqb r.state 2
 
@@ -46,24 +39,6 @@ module _ (r : ModifyQp) where
 
   abbrev misflagged : Bool
   misflagged = has rights_bit r.mask && not (only most_access r.flags)
-
-  module _ (good : modify_bad r ≡ false) where
-    -- a destination is named where it is stored
-    pub dest_small : r.state ≡ 2 → r.dest < qp_count
-    dest_small t =
-        let f : (early || unnamed || misnamed) ≡ false = or_left (early || unnamed || misnamed) misflagged good in
-        go (has dest_bit r.mask) (or_right early unnamed (or_left (early || unnamed) misnamed f)) (or_right (early || unnamed) misnamed f)
-      where
-        go : (d : Bool) → (not d && eqb r.state 2) ≡ false → (d && (leb qp_count r.dest || eqb r.dest r.qpn)) ≡ false
-            → r.dest < qp_count
-        go true e f = leb-false qp_count r.dest (or_left (leb qp_count r.dest) (eqb r.dest r.qpn) f)
-        go false e f = absurd (false≢true (sym e ∙ eq-eqb r.state 2 t))
-
-    -- and access flags have no bit above 2 where they are stored
-    pub flags_small : (bit_and r.mask rights_bit ≡ 0 → ⊥) → r.flags ≤ most_access
-    flags_small f =
-        let e : misflagged ≡ false = or_right (early || unnamed || misnamed) misflagged good in
-        only_most r.flags (not-false (only most_access r.flags) (rw (ne_eqb (bit_and r.mask rights_bit) 0 f) at e))
 
 module _ (l : List ℕ) where
   -- ---- create QP

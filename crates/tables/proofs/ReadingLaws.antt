@@ -3,7 +3,7 @@ use mathlib.Core.Path.{◌≡◌, refl, sym, ap, ◌∙◌}
 use mathlib.Core.Logic.{◌⊎◌, inl, inr}
 use mathlib.Core.Bool.{Bool, true, false, not, ◌&&◌, ◌||◌}
 use mathlib.Core.List.{List, [], ◌∷◌}
-use mathlib.Core.Option.{Option, none, some}
+use mathlib.Core.Option.{Option}
 use Prim.Native.Nat.{ℕ, zero, suc, ◌+◌, ◌*◌, ◌%◌, ◌≤◌, ◌<◌}
 use native.Mathlib.Nat.{add-zero, add_assoc}
 use native.Mathlib.Omega.{arith}
@@ -15,17 +15,14 @@ use borrow.Author.Tests.{eq-eqb, ne_eqb, le-leb, lt-leb, lt-ltb, le-ltb}
 use Rattle.wire.specs.Checks.{◌if◌, refusal, only}
 use Rattle.wire.specs.Codec.{fields_at, put_fields, decode, encode}
 use Rattle.wire.specs.Le.{le_at, put_le}
-use Rattle.wire.specs.Scan.{all}
 use Rattle.wire.proofs.LeLaws.{le_at_below, le_at_split}
 use Rattle.tables.specs.Limits.{most_sges, most_inline, most_receive_sges}
 use Rattle.tables.specs.Layout.{kind_codec}
-use Rattle.tables.specs.Commands.{control_class, head_checks, head_read}
+use Rattle.tables.specs.Commands.{control_class, head_read}
 use Rattle.tables.specs.Records.{sge_codec, sge_at, no_sge, send_codec, flag_bits, is_inline, inline_length, send_checks, send_read, send_bad, send_size, receive_codec, receive_checks, receive_read}
-use Rattle.tables.specs.Refusal.{refusal_number, result_by}
+use Rattle.tables.specs.Refusal.{result_by}
 use Rattle.tables.specs.declared.ReceiveRecord.{ReceiveRecord}
-use Rattle.tables.specs.declared.refusal.Refusal.{Refusal}
 use Rattle.tables.specs.declared.refusal.Refusal.TheVariants.{WrongLength, BadField, Unknown}
-use Rattle.tables.proofs.RefusalLaws.{result_ok, result_err}
 use Rattle.tables.specs.declared.SendRecord.{SendRecord}
 use Rattle.tables.specs.declared.Sge.{Sge}
 
@@ -39,14 +36,6 @@ head_class k h e = rw (le-ltb (length k) 2 h, ne_eqb (le_at 1 k 0) control_class
 
 pub head_right : (k : List ℕ) → 2 ≤ length k → le_at 1 k 0 ≡ control_class → head_read k ≡ Ok (le_at 1 k 1)
 head_right k h e = rw (le-ltb (length k) 2 h, eq-eqb (le_at 1 k 0) control_class e)
-
--- what a head that was read tells
-pub head_number : (k : List ℕ) (n : ℕ) → head_read k ≡ Ok n → (refusal (head_checks k) ≡ none) × (le_at 1 k 1 ≡ n)
-head_number k n e = result_ok (refusal (head_checks k)) (le_at 1 k 1) n e
-
-pub head_refused : (k : List ℕ) (r : Refusal) → head_read k ≡ Err r → refusal (head_checks k) ≡ some (refusal_number r)
-unfolding all
-head_refused k r e = result_err (head_checks k) refl (le_at 1 k 1) r e
 
 -- ---- what the record does not have
 

@@ -9,14 +9,14 @@ pub returns-then-q-ge-QP_COUNT : goal.returns-then-q-ge-QP_COUNT
 returns-then-q-ge-QP_COUNT c =
     let r : Request = asked c.args.r.now in
     let b = c in
-    no_pair b.args.state.now b.args.qpn r b.args.memory.now c.if-q-ge-QP_COUNT.true
+    rw c.into.ensures (no_pair b.args.state.now b.args.qpn r b.args.memory.now c.if-q-ge-QP_COUNT.true)
 
 pub returns-then-not-is_live : goal.returns-then-not-is_live
 returns-then-not-is_live c =
     let r : Request = asked c.args.r.now in
     let b = c in
-    not_live b.args.state.now b.args.qpn r b.args.memory.now c.if-q-ge-QP_COUNT.false
-    (sym c.is_live.ensures ∙ c.if-not-is_live.true)
+    rw c.into-then-not-is_live.ensures
+    (not_live b.args.state.now b.args.qpn r b.args.memory.now c.if-q-ge-QP_COUNT.false (sym c.is_live.ensures ∙ c.if-not-is_live.true))
 
 pub returns-then-own-eq-ERROR : goal.returns-then-own-eq-ERROR
 returns-then-own-eq-ERROR c =
@@ -36,7 +36,8 @@ returns-then-own-ne-RTS c =
     let k = c in
     let b = k in
     let y = its in
-    not_ready b.args.state.now b.args.qpn r b.args.memory.now y.below y.live _ y.row c.if-own-eq-ERROR.false c.if-own-ne-RTS.true
+    rw c.into-then-own-ne-RTS.ensures
+    (not_ready b.args.state.now b.args.qpn r b.args.memory.now y.below y.live _ y.row c.if-own-eq-ERROR.false c.if-own-ne-RTS.true)
 
 pub returns-then-is_queued : goal.returns-then-is_queued
 returns-then-is_queued c =
@@ -51,9 +52,10 @@ returns-then-is_queued c =
     let k = c in
     let b = k in
     let y = its in
-    has_queue b.args.state.now b.args.qpn r b.args.memory.now y.below y.live _ y.row
+    rw c.into-then-is_queued.ensures
+    (has_queue b.args.state.now b.args.qpn r b.args.memory.now y.below y.live _ y.row
     (sends b.args.state.now b.args.qpn r b.args.memory.now y.below y.live _ y.row c.if-own-ne-RTS.false) _
-    c.is_queued.ensures c.if-is_queued.true
+    c.is_queued.ensures c.if-is_queued.true)
 
 pub returns : goal.returns
 returns c =
