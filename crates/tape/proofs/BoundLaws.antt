@@ -29,7 +29,6 @@ use Rattle.tape.specs.declared.HeaderError.{HeaderError}
 use Rattle.tape.specs.declared.Kind.{Kind}
 use Rattle.tape.specs.declared.Header.{Header}
 use Rattle.tape.specs.Tape.{is_mark, is_kind, kind_of, is_good, is_length, header_at, ack_written_by, written_in, written_by, answer_head, answer_record, header_of, answer_to}
-use Rattle.tape.specs.Inside.{Answers}
 
 -- ---- a header is in its first six bytes
 
@@ -113,6 +112,3 @@ answer_most l k =
     let t : length (take n o.buffer) ≡ min n (length o.buffer) = length-take n o.buffer in
     let e : length (answer_to l k) ≡ 6 + length (take n o.buffer) = length-append (answer_head o.answer (length (take n o.buffer))) (take n o.buffer) in
     omega arith
-
-pub answers_most : {k : Call} {l out : List ℕ} {n : ℕ} {l' out' : List ℕ} → Answers k l out n l' out' → n ≤ 135
-answers_most {k} {l} a = let h = answer_most l k in let e = a.count in omega arith

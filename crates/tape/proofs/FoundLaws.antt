@@ -62,18 +62,6 @@ module _ {out : List ℕ} {r : Reply} {l' m' out' : List ℕ} (g : List ℕ) (q 
       → Finds (finding_by true l m (replied x l m i) g) q l' m'
   found_more x l m i t e p = finds l m (replied x l m i) t g q (p ∙ ap (λ (y : Reply). found_by y (replied x l m i).bytes g) (sym e ∙ t.says))
 
--- ---- enough of the answers is held, or more are wanted
-
-module _ (l m i : List ℕ) (e : Bool) (g : List ℕ) (f : Bool) where
-  pub found_held : {r : Found} {l' m' : List ℕ} → (f || leb 135 (length g)) ≡ true → Finds (finding_by true l m (replied (step_of i e) l m i) g) r l' m'
-      → Finds (finding_of l m i e g f) r l' m'
-  found_held {r} {l'} {m'} h x = subst (λ (b : Bool). Finds (finding_by b l m (replied (step_of i e) l m i) g) r l' m') (sym h) x
-
-  pub found_wants : (f || leb 135 (length g)) ≡ false → Finds (finding_of l m i e g f) Found.Answers l m
-  found_wants h =
-      subst (λ (b : Bool). Finds (finding_by b l m (replied (step_of i e) l m i) g) Found.Answers l m) (sym h)
-      (record { found = refl; state = refl; memory = refl })
-
 -- ---- bytes used are among those held; bytes are wanted of a tape that has not ended, where fewer than a longest record are held
 
 abbrev pub Within : Found → (calls : List ℕ) → (ended_calls : Bool) → (answers : List ℕ) → (ended_answers : Bool) → Type 0

@@ -1,6 +1,6 @@
 -- Bytes held in a window: moved to its start, with a piece read behind them. Assumes nothing.
 use mathlib.Core.Path.{◌≡◌, refl, sym, ap, ap₂, subst, ◌∙◌}
-use mathlib.Core.List.{List, [], ◌++◌, append-nil}
+use mathlib.Core.List.{List, ◌++◌, append-nil}
 use mathlib.Core.Bool.{Bool, true, false, true≢false}
 use Prim.Native.Nat.{ℕ, ◌+◌, ◌-◌, ◌≤◌}
 use native.Mathlib.Omega.{arith}
@@ -43,18 +43,6 @@ module _ {file : ℤ} {buffer : List ℕ} {n : ℕ} {failed : Bool} (g : Gives f
       by (negsuc k) h f = (k, buffer, h)
 
 module _ (file : ℤ) (h : Held) (w : List ℕ) where
-  -- no bytes of a window that has not those asked for
-  pub reads_none : (r : Result Held ReadFailed) → ((held_after r).from ≡ 0) × ((held_after r).to ≡ 0) → (Lies h w → ⊥) → Reads file h w r w
-  reads_none r z out = record {
-    lies = (omega arith, omega arith);
-    buffer = [];
-    count = 0;
-    gives = λ l. absurd (out l);
-    room = λ l. absurd (out l);
-    held = λ l. absurd (out l);
-    ended = λ l. absurd (out l);
-  }
-
   -- a read into the buffer behind those held, which moved to the window's start
   module _ (lies : Lies h w) (r : Result Held ReadFailed) (w₁ buffer : List ℕ) (n : ℕ)
       (is : held_after r ≡ record { from = 0; to = h.to - h.from + n; ended = eqb n 0 })
