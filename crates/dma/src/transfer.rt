@@ -160,8 +160,8 @@ pub fn transfer_single(state: &State, memory: &mut [u8], from: Sge, to: Sge)
 }
 
 // Moves the bytes of the entry a to the entry b, or where back holds those of b to a: one move where no page ends in between. Apart from
-// transfer_single and called from one place, so that the compiler has the regions' rows at hand: one function for both, or two calls of that in
-// place of back, makes a write of 64 bytes 959 or 955 instructions (bench/instructions), this 924.
+// transfer_single and called from one place, so that the compiler has the regions' rows at hand: by one function for both a write of 64 bytes takes 35
+// instructions of 924 more (bench/instructions), by two calls of transfer_single in place of back 31.
 pub fn transfer_between(state: &State, memory: &mut [u8], a: Sge, b: Sge, back: bool)
     requires ready { Ready state.now memory.old }
     requires message { Message (card state.now) (a ∷ []) (b ∷ []) }
