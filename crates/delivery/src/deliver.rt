@@ -20,8 +20,8 @@ use tables::limits::{
     LOCAL_LENGTH, LOCAL_PROTECTION, LOCAL_WRITE, MOST_MESSAGE, READ, REMOTE_ACCESS, REMOTE_INVALID,
     REMOTE_READ, REMOTE_WRITE, SUCCESS,
 };
-use tables::{QueuePair, ReceiveRecord, SendRecord, Sge, queue};
 use tables::rows::State;
+use tables::{QueuePair, ReceiveRecord, SendRecord, Sge, queue};
 
 // Whose use of memory a queue pair's is. No From: both types are of other crates.
 fn party_of(p: QueuePair) -> Party

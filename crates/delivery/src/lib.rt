@@ -15,8 +15,8 @@ use meet::Ends;
 use request::WorkRequest;
 use rules::{Answer, Cause};
 use tables::limits::{ERROR, FLUSHED};
-use tables::{QueuePair, SendRecord, Sge, rows};
 use tables::rows::State;
+use tables::{QueuePair, SendRecord, Sge, rows};
 
 pub mod deliver;
 pub mod meet;
@@ -50,7 +50,13 @@ fn carry_out(state: &mut State, memory: &mut [u8], e: Ends, r: &WorkRequest) -> 
 
 // A request of queue pair q, whose row is own and which is not in error: what holds it, or the request carried out. The state
 // and the memory are no one struct: C lends them apart, and most calls have the state alone.
-pub fn run(state: &mut State, memory: &mut [u8], q: usize, own: QueuePair, r: &WorkRequest) -> Answer
+pub fn run(
+    state: &mut State,
+    memory: &mut [u8],
+    q: usize,
+    own: QueuePair,
+    r: &WorkRequest,
+) -> Answer
     requires { Ready state.old memory.old × Sender state.old q own × (own.state ≡ 6 → ⊥) }
     ensures { Ran hold_checks state.old q (asked r.now) memory.old result state.new memory.new }
 {

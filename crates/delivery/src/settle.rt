@@ -17,8 +17,8 @@ use tables::limits::{
     ERROR, FLUSHED, LOCAL_LENGTH, LOCAL_PROTECTION, READ, READ_BACK, RECEIVED, RECEIVED_WRITE,
     REMOTE_INVALID, SEND_IMM, SENT, SIGNALED_FLAG, SUCCESS, WRITE_IMM, WRITTEN,
 };
-use tables::{WorkQueue, Completion, QueuePair, ReceiveRecord, SendRecord, queue, rows};
 use tables::rows::State;
+use tables::{Completion, QueuePair, ReceiveRecord, SendRecord, WorkQueue, queue, rows};
 
 // The opcode of the sender's completion: 0 send, 1 write, 2 read.
 fn sender_opcode(opcode: u8) -> u8

@@ -11,8 +11,8 @@ ghost use Rattle.rules.specs.Lists.{stored};
 ghost use Rattle.dma.specs.Moves.{Ready, mapped_all, places, place_of, Lies, Splits, read_bytes, moved, Message};
 
 use tables::limits::{FLAT, MOST_PAGES, PAGE_SIZE};
-use tables::{Sge, rows};
 use tables::rows::State;
+use tables::{Sge, rows};
 
 // The place in memory where an entry begins; 0 for an empty one.
 fn place_of(state: &State, s: Sge) -> usize

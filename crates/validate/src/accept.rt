@@ -168,17 +168,24 @@ fn qps_ok(state: &State) -> bool
     (0..QP_COUNT).all(|n| Pair::new(state, n).qp_ok())
 }
 
-// Whether the lent state is acceptable: any bytes, of any length.
 #[tactic(auto, unfolding(crate::specs::Accept::accepts))]
-pub fn accepted(state: &[u8]) -> bool
+fn state_ok(state: &State) -> bool
     ensures { result ≡ accepts state.now }
 {
-    let Some(state) = state.as_array::<STATE_SIZE>() else {
-        return false;
-    };
     header_ok(state)
         && pds_ok(state)
         && cqs_ok(state)
         && regions::mrs_ok(state, rows::load_memory(state))
         && qps_ok(state)
+}
+
+// Whether the lent state is acceptable: any bytes, of any length.
+#[tactic(auto, unfolding(crate::specs::Accept::accepts))]
+pub fn accepted(state: &[u8]) -> bool
+    ensures { result ≡ accepts state.now }
+{
+    match state.as_array::<STATE_SIZE>() {
+        Some(state) => state_ok(state),
+        None => false,
+    }
 }

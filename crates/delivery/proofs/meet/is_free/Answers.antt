@@ -18,8 +18,8 @@ returns-then-own-eq-ERROR c =
     let a = c.args in
     c.has_place.ensures
     ∙ error_free a.state.now a.q a.opcode _
-      (sender a.state.now c.requires.0 (accepted _ c.requires.0).sized a.q c.requires.1 _ c.load_qp-own.ensures)
-      c.if-own-eq-ERROR.true
+    (sender a.state.now c.requires.0 (accepted _ c.requires.0).sized a.q c.requires.1 _ c.load_qp-own.ensures)
+    c.if-own-eq-ERROR.true
 
 pub meet-requires : goal.meet-requires
 meet-requires c =
