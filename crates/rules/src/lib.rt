@@ -1,7 +1,6 @@
 // The answers of the card's calls. What each call does is in specs/.
 #![tactic(auto)]
 
-pub mod numbers;
 pub mod verb;
 
 ghost use Rattle.std.specs.Prelude.{◌≡◌};

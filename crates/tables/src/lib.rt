@@ -104,7 +104,7 @@ pub struct ReceiveRecord {
 }
 
 // A send record without its inline bytes and scatter/gather entries. With the inline flag, the low 16 bits of count are the inline length.
-#[derive(Clone, Copy)]
+#[derive(Clone, Copy, Default)]
 pub struct SendRecord {
     pub wr: u64,
     pub opcode: u8,

@@ -20,10 +20,8 @@ ghost use Rattle.tape.specs.Tape.{answer_record, bad_record, completion_size, ca
 ghost use Rattle.tape.specs.Inside.{placed, Answers};
 
 use rules::Answer;
-use rules::numbers::{
-    BAD_RECORD, BAD_STATE, CREATE_CQ, CREATE_PD, CREATE_QP, QUERY_DEVICE, QUERY_PORT, REGISTER_MR,
-    SHORT_BUFFER,
-};
+use rules::verb::Verb;
+use tables::refusal::Refusal;
 
 const HEADER: usize = 6;
 
@@ -158,8 +156,8 @@ fn put_head(out: &mut [u8], answer: Answer, size: u16)
     ensures { out.new ≡ answer_head answer size ++ drop 6 out.old }
 {
     let [low, high] = size.to_le_bytes();
-    let answer_number = rules::number_of(answer);
-    let status = rules::status_of(answer);
+    let answer_number = answer.number();
+    let status = answer.status();
     out[..HEADER].copy_from_slice(&[b'r', b'k', answer_number, status, low, high]);
 }
 
@@ -174,6 +172,19 @@ fn put_answer(out: &mut [u8], answer: Answer, written: &[u8]) -> usize
     out[HEADER..size].copy_from_slice(written);
     size
 }
+
+// The commands whose acks are more than the ack byte, by the number in a record's second byte.
+const QUERY_DEVICE: u8 = Verb::QueryDevice as u8;
+
+const QUERY_PORT: u8 = Verb::QueryPort as u8;
+
+const CREATE_CQ: u8 = Verb::CreateCq as u8;
+
+const CREATE_PD: u8 = Verb::CreatePd as u8;
+
+const REGISTER_MR: u8 = Verb::RegisterMr as u8;
+
+const CREATE_QP: u8 = Verb::CreateQp as u8;
 
 // How many ack bytes a command writes that is answered 0.
 fn ack_size(command: &[u8]) -> usize
@@ -199,7 +210,7 @@ fn ack_written(answer: Answer, command: &[u8]) -> usize
         Answer::Done(_) => ack_size(command),
         Answer::Held(_) => 1,
         Answer::Refused(n) => {
-            if (n == SHORT_BUFFER) | (n == BAD_STATE) {
+            if (n == u8::from(Refusal::ShortBuffer)) | (n == u8::from(Refusal::BadState)) {
                 return 0;
             }
             1
@@ -279,5 +290,5 @@ fn bad_record(out: &mut [u8])
     requires { 6 ≤ length out.old }
     ensures { out.new ≡ bad_record ++ drop 6 out.old }
 {
-    put_head(out, Answer::Refused(BAD_RECORD), 0);
+    put_head(out, Refusal::BadRecord.into(), 0);
 }

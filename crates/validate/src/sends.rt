@@ -15,18 +15,15 @@ use crate::together;
 use tables::limits::{ERROR, MOST_QUEUED, RTS};
 use tables::{SendKind, SendRecord, WaitingHead, WorkQueue, records, rows};
 
-// The tests of answer 4, of a queued send's numbers in the column. What they do not look at is 0: SendRecord has no default.
+// The tests of answer 4, of a queued send's numbers in the column.
 fn kind_bad(k: SendKind) -> bool
     ensures { result ≡ send_bad (sent_in (record { kind = k; body = [] })) }
 {
     records::send_bad(SendRecord {
-        wr: 0,
         opcode: k.opcode,
         flags: k.flags,
-        imm: 0,
-        address: 0,
-        key: 0,
         count: k.count as u32,
+        ..SendRecord::default()
     })
 }
 

@@ -1,10 +1,6 @@
-use mathlib.Core.Path.{◌≡◌, sym, ◌∙◌}
-use borrow.Author.Rules.{rules}
-use Rattle.std.specs.Prelude.{Result, Err}
-use Rattle.tables.specs.declared.Ack.{Ack}
-use Rattle.tables.specs.declared.refusal.Refusal.{Refusal}
+use mathlib.Core.Path.{sym, ◌∙◌}
 use Rattle.tables.specs.Commands.{Command}
-use Rattle.commands.proofs.CaseLaws.{bare_wrong, bare_right, create_pd_full, create_pd_done}
+use Rattle.commands.proofs.CaseLaws.{bare_right, create_pd_full, create_pd_done}
 use Rattle.commands.proofs.control.create_pd.Goals as goal
 
 pub returns-then-n-ge-PD_COUNT : goal.returns-then-n-ge-PD_COUNT
@@ -21,8 +17,3 @@ returns c =
     let s = right in
     rw (bare_right s.args.state.now s.args.command.now Command.create_pd (sym right.no_data.ensures ∙ right.in_ok-no_data.was))
     (create_pd_done _ room.free_pdn-n.result room.free_pdn-n.ensures room.if-n-ge-PD_COUNT.false _ c.store_flag.ensures)
-
-pub returns-in_err-no_data : goal.returns-in_err-no_data
-returns-in_err-no_data c =
-    let e : ◌≡◌ {A = Result Ack Refusal} c.from_residual.result (Err c.in_err-no_data.field-0.0) = search rules in
-    rw e (bare_wrong _ c.args.command.now Command.create_pd _ (sym c.no_data.ensures ∙ c.in_err-no_data.was))
