@@ -57,12 +57,10 @@ fn first_runnable(state: &State, next: usize) -> usize
     requires { (accepts state.now ≡ true) × (next < qp_count) }
     ensures { result ≡ passed_over next (runnable (card state.now)) }
 {
-    let mut i = 0;
-    while i < QP_COUNT {
+    for i in 0..QP_COUNT {
         if can_run(state, (next + i) % QP_COUNT) {
             return i;
         }
-        i += 1;
     }
     QP_COUNT
 }

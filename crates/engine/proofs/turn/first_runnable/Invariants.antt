@@ -8,6 +8,3 @@ use Rattle.engine.proofs.turn.first_runnable.Given as goal
 abbrev pub invariant-loop-i : goal.invariant-loop-i
 invariant-loop-i l =
     (l.i ≤ 8) × (passed_over l.next (runnable (card l.state)) ≡ lowest_from (λ k. runnable (card l.state) (seat l.next k)) (8 - l.i) l.i)
-
-abbrev pub decreases-loop-i : goal.decreases-loop-i
-decreases-loop-i l = 8 - l.i
