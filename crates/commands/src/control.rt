@@ -117,6 +117,7 @@ pub fn put_region(state: &mut State, n: usize, g: Registration, kind: u8) -> u8
     ensures { (result ≡ new_variant (card state.old)) × (state.new ≡ region_bytes state.old kind g) }
 {
     let variant = rows::load_mr(state, n).variant + 1;
+    // no From: it could not ask that the numbers fit a byte
     let row = Region {
         access: g.access as u8,
         variant,
@@ -131,6 +132,7 @@ pub fn put_region(state: &mut State, n: usize, g: Registration, kind: u8) -> u8
     variant
 }
 
+// Apart from register_paged, whose tests differ from the third on; what both leave is put_region's.
 fn register(state: &mut State, read: Option<Registration>) -> Result<Ack, Refusal>
     ensures { Ran state.old (read_as Command.register read) result state.new }
 {

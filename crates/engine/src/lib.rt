@@ -10,7 +10,7 @@ use commands::{control, pages};
 pub mod send;
 pub mod turn;
 
-// ---- calls from C: each answers with its number in bits 0 to 7 and its status in bits 8 to 15
+// ---- calls from C, each an export of its own: it answers with its number in bits 0 to 7 and its status in bits 8 to 15
 
 #[unsafe(no_mangle)]
 pub extern "C" fn lesungkap_reset(state: &mut [u8], memory: u64) -> u32

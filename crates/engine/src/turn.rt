@@ -20,7 +20,7 @@ use tables::rows::State;
 use tables::{WorkQueue, queue, records, rows, sends};
 use validate::live;
 
-// A turn's answer, and the queue pair that it served; 0 where it served none.
+// A turn's answer, and the queue pair that it served; 0 where it served none: turn_leaves takes both, as C has them.
 #[derive(Clone, Copy)]
 pub struct Turned {
     pub answer: Answer,
@@ -52,7 +52,7 @@ fn can_run(state: &State, q: usize) -> bool
     meet::is_free(state, q, opcode)
 }
 
-// How many queue pairs a turn passes over that visits them from `next` on; 8 where no head may run.
+// How many queue pairs a turn passes over that visits them from `next` on; 8 where no head may run, as passed_over has it.
 fn first_runnable(state: &State, next: usize) -> usize
     requires { (accepts state.now ≡ true) × (next < qp_count) }
     ensures { result ≡ passed_over next (runnable (card state.now)) }

@@ -1,4 +1,5 @@
-// The tests of post receive, flush and enqueue on a queue pair, and the completion of a flushed receive.
+// The tests of post receive, flush and enqueue on a queue pair, and the completion of a flushed receive. LivePair is a clause of each: a type that
+// held it would be made anew after every store.
 ghost use Rattle.std.specs.Prelude.{◌≡◌, eqb, leb};
 ghost use Rattle.tables.specs.Layout.{places_of};
 ghost use Rattle.tables.specs.State.{card};

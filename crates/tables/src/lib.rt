@@ -94,7 +94,7 @@ pub struct Region {
     pub virt: u64,
 }
 
-// A receive record, of at most two scatter/gather entries.
+// A receive record, of at most two scatter/gather entries, both of which the layout holds.
 #[derive(Clone, Copy, Default)]
 pub struct ReceiveRecord {
     pub wr: u64,

@@ -1,4 +1,5 @@
-// The papers' limits, bits, states, opcodes and statuses, by name.
+// The papers' limits, bits, states, opcodes and statuses, by name. They are numbers, as C lends records and the state with any byte in them: the
+// definitions of answers 4 and 15 and of the rules look at each.
 
 // ---- tables and lengths
 pub const PD_COUNT: usize = 8;

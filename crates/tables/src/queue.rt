@@ -34,7 +34,7 @@ impl CompletionQueue {
 
 // ---- completion queues in the state
 
-// The head of a queue, for completion queue n.
+// The head of a queue, for completion queue n. No From: it could not ask that the numbers fit a byte.
 fn store_head(state: &mut State, n: usize, q: CompletionQueue)
     requires { (n < cq_count) × (q.first < 256) × (q.count < 256) × (q.places < 256) }
     ensures { state.new ≡ put_row cq_t state.old n (head_of q) }
@@ -46,6 +46,8 @@ fn store_head(state: &mut State, n: usize, q: CompletionQueue)
     };
     rows::store_cq(state, n, h);
 }
+
+// The struct is made here and in push_completion, not by a function: handed on before its ring is read, it costs two copies of 384 bytes.
 
 // The oldest completion of queue n, which leaves it: only its place is read, only the head is touched.
 pub fn take_front(state: &mut State, n: usize) -> Completion

@@ -1,4 +1,5 @@
-// The tables in the lent state: each object's rows read and written by value. Layout: specs/Layout.antt and docs/STATE.md.
+// The tables in the lent state: each object's rows read and written by value. Layout: specs/Layout.antt and docs/STATE.md. Each row has a
+// layout of its own. That a row's number is below the table's count is a clause: a type for each kind of number would be made at every use.
 ghost use Rattle.std.specs.Prelude.{◌≡◌, ◌<◌, ◌≤◌, ◌+◌, length};
 ghost use Rattle.wire.specs.Parts.{part_at, put_part};
 ghost use Rattle.wire.specs.Table.{row_at, put_row};

@@ -11,6 +11,9 @@ use tables::limits::{CQ_COUNT, MR_COUNT, PD_COUNT, QP_COUNT};
 use tables::rows::State;
 use tables::{Kind, rows};
 
+// Each search gives its table's count where no number is free, as free_pdn .. of Search.antt do, on which the tests of answer 8 stand; three are
+// a line over the search that they share.
+
 #[tactic(auto, using(crate::proofs::SearchLaws::free_pdn_lem))]
 pub fn free_pdn(state: &State) -> usize
     ensures { result ≡ free_pdn (card state.now) }
