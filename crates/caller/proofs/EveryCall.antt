@@ -77,8 +77,7 @@ module _ (l : List ℕ) where
   reset_ends n p =
       let ok : memory_ok n ≡ true = not-false _ p.1.0 in
       outcome _ _ _
-      (reset_done l n (eqb-true (length l) state_size (not-false _ p.0)) (leb-true 1 n (and_left (leb 1 n) (leb n most_memory) ok))
-      (leb-true n most_memory (and_right (leb 1 n) (leb n most_memory) ok)) (reset_bytes n) refl)
+      (reset_done l n (eqb-true (length l) state_size (not-false _ p.0)) ok (reset_bytes n) refl)
 
   control_ends : (k a : List ℕ) → refusal (owed_checks card accepts l (Call.control k a)) ≡ none → HasOutcome l (Call.control k a)
   unfolding checks control_checks
