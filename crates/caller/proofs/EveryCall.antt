@@ -5,17 +5,16 @@ use mathlib.Core.Bool.{Bool, true, false, not}
 use mathlib.Core.List.{List, ◌++◌}
 use mathlib.Core.Option.{Option, none, some, some-ne-none}
 use Prim.Native.Nat.{ℕ, ◌+◌, ◌*◌, ◌<◌, ◌≤◌}
-use lib.Dec.{leb}
 use lib.ListN.{length}
-use borrow.Author.Tests.{not-false, eqb-true, eqb-false, leb-true, leb-false, ltb-false, le-ltb}
+use borrow.Author.Tests.{not-false, eqb-true, eqb-false, leb-false, ltb-false, le-ltb}
 use Rattle.wire.specs.Checks.{Check, refusal, Passed}
 use Rattle.wire.specs.Codec.{decode, encode}
 use Rattle.wire.specs.Table.{row_at}
 use Rattle.wire.proofs.CheckLaws.{passed}
-use Rattle.wire.proofs.ScanLaws.{and_left, and_right, and_off}
+use Rattle.wire.proofs.ScanLaws.{and_off}
 use Rattle.tables.specs.Commands.{command_of, ack_least, ack_need}
 use Rattle.tables.specs.Layout.{state_size, cq_t, turn_t}
-use Rattle.tables.specs.Limits.{most_memory, qp_count}
+use Rattle.tables.specs.Limits.{qp_count}
 use Rattle.tables.specs.Queue.{front_at, pop_bytes, post_bytes}
 use Rattle.tables.specs.Records.{receive_codec, receive_checks, receive_read, send_checks, completion_codec}
 use Rattle.tables.specs.Reset.{reset_bytes}

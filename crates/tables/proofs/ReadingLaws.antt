@@ -17,7 +17,6 @@ use Rattle.wire.specs.Codec.{fields_at, put_fields, decode, encode}
 use Rattle.wire.specs.Le.{le_at, put_le}
 use Rattle.wire.proofs.LeLaws.{le_at_below, le_at_split}
 use Rattle.tables.specs.Limits.{most_sges, most_inline, most_receive_sges}
-use Rattle.tables.specs.Layout.{kind_codec}
 use Rattle.tables.specs.Commands.{control_class, head_read}
 use Rattle.tables.specs.Records.{sge_codec, sge_at, no_sge, send_codec, flag_bits, is_inline, inline_length, send_checks, send_read, send_bad, send_size, receive_codec, receive_checks, receive_read}
 use Rattle.tables.specs.Refusal.{result_by}

@@ -1,4 +1,3 @@
-use mathlib.Core.Path.{◌∙◌}
 use Rattle.commands.proofs.CaseLaws.{passes, fails}
 use Rattle.commands.proofs.PagesCaseLaws.{list_fits, listed_access, listed_dead, listed_range, listed_full, listed_done}
 use Rattle.commands.proofs.pages.register_paged.Goals as goal

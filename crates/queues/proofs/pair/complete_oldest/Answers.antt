@@ -1,5 +1,4 @@
 use Rattle.queues.proofs.LiveLaws.{pair_below, pair_first}
-use Rattle.queues.proofs.PutLaws.{put_sized}
 use Rattle.queues.proofs.FlushLaws.{flush_waits, flush_bytes_lem}
 use Rattle.queues.proofs.pair.complete_oldest.Goals as goal
 

@@ -1,4 +1,3 @@
-use Rattle.std.proofs.Common.{rules, ◌≡◌, ap}
 use Rattle.tables.proofs.FlagLaws.{head_dropped}
 use Rattle.tables.proofs.queue.drop_oldest.Goals as goal
 

@@ -1,6 +1,4 @@
-use Rattle.std.proofs.Common.{rules, ◌≡◌, ap}
 use native.Mathlib.Omega.{arith}
-use mathlib.Core.Path.{◌∙◌}
 use Rattle.tables.proofs.FlagLaws.{flag_within, flag_read}
 use Rattle.tables.proofs.rows.load_flag.Goals as goal
 

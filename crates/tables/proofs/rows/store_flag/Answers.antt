@@ -1,6 +1,4 @@
-use Rattle.std.proofs.Common.{rules, ◌≡◌, ap}
 use native.Mathlib.Omega.{arith}
-use mathlib.Core.Path.{◌∙◌}
 use Rattle.tables.proofs.FlagLaws.{flag_within, flag_put}
 use Rattle.tables.proofs.rows.store_flag.Goals as goal
 

@@ -1,4 +1,3 @@
-use Rattle.std.proofs.Common.{rules, ◌≡◌, ap}
 use native.Mathlib.Omega.{arith}
 use Rattle.tables.proofs.FlagLaws.{head_within, head_put}
 use Rattle.tables.proofs.rows.store_head.Goals as goal

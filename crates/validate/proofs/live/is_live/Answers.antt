@@ -1,6 +1,5 @@
-use Rattle.std.proofs.Common.{rules, ◌≡◌}
+use Rattle.std.proofs.Common.{rules}
 use native.Mathlib.Omega.{arith}
-use mathlib.Core.Path.{◌∙◌, sym}
 use Rattle.tables.proofs.FlagLaws.{object_live, object_out}
 use Rattle.validate.proofs.live.is_live.Goals as goal
 
