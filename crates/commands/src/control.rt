@@ -163,7 +163,7 @@ pub fn read_verb(command: &[u8]) -> Result<Verb, Refusal>
     Verb::try_from(records::read_head(command)?)
 }
 
-// The command chooses the reader and the rules.
+// The command chooses the reader and the rules: a match, since each arm calls a function of other parameters.
 fn run(state: &mut State, command: &[u8], verb: Verb) -> Result<Ack, Refusal>
     requires { verb_number verb ≡ le_at 1 command.now 1 }
     ensures { Chosen state.old command.now result state.new }

@@ -25,6 +25,7 @@ const DEST_BIT: u32 = 32768;
 
 const MASK_BITS: u32 = STATE_BIT + RIGHTS_BIT + DEST_BIT;
 
+// The type and the destination as the record and the row have them: any byte.
 const RC: u8 = 2;
 
 const NO_DEST: u8 = 8;

@@ -37,7 +37,7 @@ pub fn fills_receive(opcode: u8) -> bool
     (SEND <= opcode) & (opcode <= SEND_IMM)
 }
 
-// Whether queue pair n is live.
+// Whether queue pair n is live, of a number that is one of the table: no second test.
 pub fn is_live(state: &State, n: usize) -> bool
     requires { n < qp_count }
     ensures { result ≡ is_live (row_at qp_flag_t state.now n) }

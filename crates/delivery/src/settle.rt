@@ -1,4 +1,5 @@
 // What a post send leaves in the state: completions, error states, the receive consumed. Definitions: specs/Settle.antt.
+// That a receive has two entries at most is a clause: ReceiveRecord is tables', where any count can stand.
 ghost use Rattle.std.specs.Prelude.{◌≡◌, true, false, cond, ◌&&◌, ◌||◌, ◌<◌, ◌≤◌, eqb, length};
 ghost use Rattle.wire.specs.Table.{row_at};
 ghost use Rattle.tables.specs.Layout.{state_size, cq_t, waiting_t};

@@ -14,6 +14,8 @@ use tables::limits::{FLAT, MOST_PAGES, PAGE_SIZE};
 use tables::rows::State;
 use tables::{Sge, rows};
 
+// That an entry's bytes are mapped is a clause, as it speaks of the state too.
+
 // The place in memory where an entry begins; 0 for an empty one.
 fn place_of(state: &State, s: Sge) -> usize
     requires { (accepts state.now ≡ true) × (mapped_all (card state.now) (sge_bytes (s ∷ [])) ≡ true) }

@@ -32,7 +32,7 @@ fn put_place(state: &mut State, p: usize, sent: &[u8])
     rows::store_kind(state, p, records::send_head(sent).into());
 }
 
-// The record `sent` as the newest of queue pair q's queue.
+// The record `sent` as the newest of queue pair q's queue. Apart from queue::post_receive, which stores a value.
 pub fn push_send(state: &mut State, q: usize, sent: &[u8])
     requires q_lt_qp_count { (q < qp_count) × ((row_at send_head_t state.old q).count < most_queued) }
     requires in_bounds { (576 ≤ length sent.now) × (length sent.now ≤ record_size) }

@@ -228,7 +228,8 @@ fn completion_written(answer: Answer) -> usize
     }
 }
 
-// ---- the call of a record, with its answer record written
+// ---- the call of a record, with its answer record written; the two that return bytes have a buffer of their own, and `out` is lent, as there is
+// no heap
 
 fn answer_control(state: &mut [u8], body: &[u8], out: &mut [u8]) -> usize
     requires { 135 ≤ length out.old }

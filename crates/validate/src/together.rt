@@ -273,7 +273,7 @@ impl Queue<'_> {
 }
 
 impl Pair<'_> {
-    // All places of the receives.
+    // All places of the receives: one number of each row, where completions_pass ors three.
     pub fn receives_pass(self, count: u8) -> bool
         ensures { Enough result (all_below most_waiting (λ k. receive_ok (row_at receive_t self.entry.state.now (most_waiting * self.entry.n + k)))) }
     {
