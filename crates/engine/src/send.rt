@@ -1,5 +1,5 @@
 // Post send: document 01, "Posting and delivering", up to answer 3; the request that passes is run by the crate delivery.
-ghost use Rattle.std.specs.Prelude.{◌≡◌, not, List, [], ℕ, ◌<◌, eqb, length};
+ghost use Rattle.std.specs.Prelude.{◌≡◌, true, false, not, List, [], ℕ, ◌<◌, eqb, length};
 ghost use Rattle.wire.specs.Table.{row_at};
 ghost use Rattle.tables.specs.Layout.{state_size, send_head_t};
 ghost use Rattle.tables.specs.Limits.{qp_count};
@@ -7,6 +7,8 @@ ghost use Rattle.tables.specs.declared.Sge.{Sge};
 ghost use Rattle.rules.specs.Call.{Call};
 ghost use Rattle.rules.specs.Contract.{Owes};
 ghost use Rattle.rules.specs.Send.{delivery_checks};
+ghost use Rattle.rules.specs.Touch.{reads};
+ghost use Rattle.tables.specs.Records.{is_inline};
 ghost use Rattle.dma.specs.Moves.{Ready};
 ghost use Rattle.delivery.specs.Asked.{asked};
 ghost use Rattle.delivery.specs.Meet.{Sender};
@@ -43,7 +45,7 @@ fn direct_error(state: &mut State, q: usize, own: QueuePair, s: SendRecord) -> A
 
 // "QP 2; QP not in RTS 3", 10, and then the request run on the queue pair.
 fn direct(state: &mut State, memory: &mut [u8], qpn: u32, r: &WorkRequest) -> Answer
-    requires { Ready state.old memory.old }
+    requires { Ready state.old memory.old × (is_inline r.now.head ≡ true → reads r.now.head.opcode ≡ false) }
     ensures { Ran delivery_checks state.old qpn (asked r.now) memory.old result state.new memory.new }
 {
     let q = qpn as usize;

@@ -10,4 +10,4 @@ move_bytes-requires-clause-carries c =
     c.far_mask.result c.far_mask.ensures a.far.now c.requires.list c.sges_permitted.result c.sges_permitted.ensures in
     carries a.state.now a.memory.now a.e r.head r.sges.now r.inline.now a.w a.n c.requires.side c.requires.fits
     (sym j ∙ c.if-not-sges_permitted.false) a.far.now c.requires.list
-    (record { plain = r.bounded.plain; short = r.bounded.short; total = c.requires.total })
+    (record { plain = r.few; short = r.short; total = c.requires.total })

@@ -27,8 +27,8 @@ pub returns-then-own-ne-RTS : goal.returns-then-own-ne-RTS
 returns-then-own-ne-RTS c =
     let r : Request = asked c.args.r.now in
     let its : let a = c.args in Sender a.state.now a.qpn c.load_qp-own.result = record {
-      accepted = c.requires.accepted;
-      size = c.requires.size;
+      accepted = c.requires.0.accepted;
+      size = c.requires.0.size;
       below = c.if-q-ge-QP_COUNT.false;
       live = sym c.is_live.ensures ∙ c.if-not-is_live.false;
       row = c.load_qp-own.ensures;
@@ -43,8 +43,8 @@ pub returns-then-is_queued : goal.returns-then-is_queued
 returns-then-is_queued c =
     let r : Request = asked c.args.r.now in
     let its : let a = c.args in Sender a.state.now a.qpn c.load_qp-own.result = record {
-      accepted = c.requires.accepted;
-      size = c.requires.size;
+      accepted = c.requires.0.accepted;
+      size = c.requires.0.size;
       below = c.if-q-ge-QP_COUNT.false;
       live = sym c.is_live.ensures ∙ c.if-not-is_live.false;
       row = c.load_qp-own.ensures;
@@ -61,8 +61,8 @@ pub returns : goal.returns
 returns c =
     let r : Request = asked c.args.r.now in
     let its : let a = c.args in Sender a.state.now a.qpn c.load_qp-own.result = record {
-      accepted = c.requires.accepted;
-      size = c.requires.size;
+      accepted = c.requires.0.accepted;
+      size = c.requires.0.size;
       below = c.if-q-ge-QP_COUNT.false;
       live = sym c.is_live.ensures ∙ c.if-not-is_live.false;
       row = c.load_qp-own.ensures;

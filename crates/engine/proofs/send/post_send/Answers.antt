@@ -24,12 +24,16 @@ inline_bytes-requires c =
 pub new-r-requires : goal.new-r-requires
 new-r-requires c =
     let x : List ℕ = c.args.sent.now in
-    rw c.inline_bytes.ensures (bounded x _ (posted x _ (sym c.read_send.ensures ∙ c.in-Ok.is)))
+    let b = bounded x _ (posted x _ (sym c.read_send.ensures ∙ c.in-Ok.is)) in
+    record { few = b.plain; short = rw c.inline_bytes.ensures b.short }
 
 pub direct-requires : goal.direct-requires
 direct-requires c =
     let s = c.in-Some.ensures.value in
-    record { accepted = s.0; size = accepted_size _ s.0; whole = c.if-memory-load_memory.false ∙ c.load_memory.ensures }
+    let b = bounded c.args.sent.now _ (posted _ _ (sym c.read_send.ensures ∙ c.in-Ok.is)) in (
+      record { accepted = s.0; size = accepted_size _ s.0; whole = c.if-memory-load_memory.false ∙ c.load_memory.ensures },
+      rw c.new-r.ensures.same_head b.there,
+    )
 
 pub returns-in-Ok : goal.returns-in-Ok
 returns-in-Ok c =
