@@ -2,7 +2,9 @@ use borrow.Author.Rules.{rules}
 use mathlib.Core.Path.{◌≡◌, sym, ◌∙◌}
 use native.Mathlib.Omega.{arith}
 use Prim.Native.Nat.{◌+◌, ◌*◌}
-use Rattle.wire.proofs.FlagLaws.{flags_most, all_set, some_clear, flag_by_bits, word_found, word_past}
+use Rattle.std.proofs.lemmas.Nat.{trailing_le}
+use lib.Bits.{bit_xor}
+use Rattle.wire.proofs.FlagLaws.{all_set, some_clear, flag_by_bits, word_found, word_past}
 use Rattle.wire.proofs.ScanLaws.{lowest_start, lowest_none}
 use Rattle.wire.proofs.lowest_clear.Goals as goal
 
@@ -11,10 +13,8 @@ loop-i-init c = (search rules, lowest_start (8 * c.args.words) _)
 
 pub overflow_add-result : goal.overflow_add-result
 overflow_add-result c =
-    let p = c.args.at + 8 * c.loop-i.i in
-    let e = flag_by_bits 8 c.args.s.now p (λ h. c.if-flags-ne-ALL_SET8.true (c.get-flags.ensures ∙ h)) in
-    let most = flags_most c.args.s.now p 8 in
-    rw (c.get-flags.ensures, e) (search rules)
+    let most = trailing_le 64 (bit_xor c.get-flags.result 72340172838076673) in
+    search rules
 
 pub returns-then-flags-ne-ALL_SET8 : goal.returns-then-flags-ne-ALL_SET8
 returns-then-flags-ne-ALL_SET8 c =
