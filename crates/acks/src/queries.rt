@@ -3,7 +3,7 @@
 
 ghost use Rattle.std.specs.Prelude.{List, ◌≡◌, ℕ, ◌≤◌, ◌<◌, length};
 ghost use Rattle.wire.specs.Codec.{decode, encode, fields_of, values_of, put_fields};
-ghost use Rattle.tables.specs.Queries.{caps_lines, work_lines, objects_lines, device_codec, port_codec, report_read};
+ghost use Rattle.tables.specs.Queries.{caps_lines, work_lines, objects_lines, device_codec, port_codec, report_read, device_read, port_read};
 
 use tables::refusal::Refusal;
 use tables::{Device, DeviceCaps, DeviceObjects, DeviceWork, Port};
@@ -171,4 +171,22 @@ impl Report for Port {
             message: wire::get(ack, 5),
         }
     }
+}
+
+// ---- the readers of the two acks
+
+// Reads an ack of command 0.
+#[tactic(auto, unfolding(tables::specs::Queries::device_codec, tables::specs::Queries::device_read))]
+pub fn read_device(ack: &[u8]) -> Result<Device, Refusal>
+    ensures { result ≡ device_read ack.now }
+{
+    read_report(ack)
+}
+
+// Reads an ack of command 1.
+#[tactic(auto, unfolding(tables::specs::Queries::port_codec, tables::specs::Queries::port_read))]
+pub fn read_port(ack: &[u8]) -> Result<Port, Refusal>
+    ensures { result ≡ port_read ack.now }
+{
+    read_report(ack)
 }
