@@ -74,6 +74,12 @@ module _ (g : Registration) (ps : List ℕ) (memory : ℕ) where
     abbrev first : Bool
     first = not (eqb g.length 0) && s && not (leb page_size g.start) && c
 
+    pub range_off : first ≡ false → false ≡ in_pages memory g ps
+    range_off h = rw (← e, ← f, h)
+
+    pub range_on : first ≡ true → (x : Bool) → x ≡ entries_ok memory ps → x ≡ in_pages memory g ps
+    range_on h x i = rw (← e, ← f, h) i
+
   -- a list that passes them
   range_known : in_pages memory g ps ≡ true → (length ps ≤ most_pages) × (entries_ok memory ps ≡ true)
   range_known e =

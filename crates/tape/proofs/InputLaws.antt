@@ -22,10 +22,19 @@ abbrev pub answered : {E : Type 0} → Result ℕ E → ℤ
 answered (Ok n) = pos n
 answered (Err e) = negsuc 0
 
+-- one that answered with so many bytes
+pub gives_read : (file : ℤ) (buffer : List ℕ) (n : ℕ) → Happened (Event.read file (pos n) buffer) → Gives file buffer n false
+gives_read file buffer n h = record { answer = pos n; happened = h; bytes = refl; failure = refl }
+
+-- one that failed
+pub gives_error : (file : ℤ) (buffer : List ℕ) → Happened (Event.read file (negsuc 0) buffer) → Gives file buffer 0 true
+gives_error file buffer h = record { answer = negsuc 0; happened = h; bytes = refl; failure = refl }
+
+-- one that ended with either
 pub gives : {E : Type 0} (file : ℤ) (buffer : List ℕ) (r : Result ℕ E) → Happened (Event.read file (answered r) buffer)
     → Gives file buffer (count_in r) (is_err r)
-gives file buffer (Ok n) h = record { answer = pos n; happened = h; bytes = refl; failure = refl }
-gives file buffer (Err e) h = record { answer = negsuc 0; happened = h; bytes = refl; failure = refl }
+gives file buffer (Ok n) h = gives_read file buffer n h
+gives file buffer (Err e) h = gives_error file buffer h
 
 module _ {file : ℤ} {buffer : List ℕ} {n : ℕ} {failed : Bool} (g : Gives file buffer n failed) where
   pub gives_bytes : failed ≡ false → Happened (Event.read file (pos n) buffer)
