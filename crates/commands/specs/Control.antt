@@ -35,7 +35,7 @@ left_by none l l' = l'
 left_by (some n) l l' = l
 
 -- "ack 0 is OK, 1 is error"
-abbrev pub outcome_ack : Result Ack Refusal → Ack
+abbrev pub outcome_ack : {E : Type 0} → Result Ack E → Ack
 outcome_ack (Err r) = ack.Error
 outcome_ack (Ok a) = a
 

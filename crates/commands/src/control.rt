@@ -29,7 +29,7 @@ use validate::{find, live, regions};
 pub const ACK_LEAST: usize = 13;
 
 // The class byte and the command byte.
-const HEAD_SIZE: usize = 2;
+pub const HEAD_SIZE: usize = 2;
 
 // The test of a command without data.
 pub fn no_data(command: &[u8]) -> Result<(), Refusal>
@@ -204,7 +204,7 @@ fn ack_need(command: &[u8]) -> usize
 }
 
 // What the ack says of a command.
-pub fn ack_of(outcome: Result<Ack, Refusal>) -> Ack
+pub fn ack_of<E: Drop>(outcome: Result<Ack, E>) -> Ack
     ensures { result ≡ outcome_ack outcome }
 {
     outcome.unwrap_or(Ack::Error)
