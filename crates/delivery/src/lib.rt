@@ -3,14 +3,13 @@
 #![tactic(auto)]
 
 ghost use Rattle.std.specs.Prelude.{◌≡◌, true, false};
-ghost use Rattle.tables.specs.Records.{is_inline};
 ghost use Rattle.tables.specs.State.{card};
 ghost use Rattle.rules.specs.Send.{hold_checks};
-ghost use Rattle.rules.specs.Touch.{reads};
 ghost use Rattle.dma.specs.Moves.{Ready};
 ghost use Rattle.delivery.specs.Meet.{Sender, is_free};
 ghost use Rattle.delivery.specs.Deliver.{is_single};
 ghost use Rattle.delivery.specs.Asked.{asked};
+ghost use Rattle.delivery.specs.Request.{Bounded};
 ghost use Rattle.delivery.specs.Run.{Met, Carried, CarriedOne, Ran, Flushed};
 
 use meet::Ends;
@@ -41,7 +40,7 @@ fn carry_single(state: &mut State, memory: &mut [u8], e: Ends, s: SendRecord, a:
 fn carry_out(state: &mut State, memory: &mut [u8], e: Ends, r: &WorkRequest) -> u8
     requires ready { Ready state.old memory.old }
     requires met { Met state.old e r.now.head.opcode }
-    requires there { is_inline r.now.head ≡ true → reads r.now.head.opcode ≡ false }
+    requires bounded { Bounded r.now.head r.now.inline.now }
     ensures { Carried state.old e.q (asked r.now) memory.old result state.new memory.new }
 {
     let total = r.total();
@@ -60,7 +59,7 @@ pub fn run(
     own: QueuePair,
     r: &WorkRequest,
 ) -> Answer
-    requires { Ready state.old memory.old × Sender state.old q own × (own.state ≡ 6 → ⊥) × (is_inline r.now.head ≡ true → reads r.now.head.opcode ≡ false) }
+    requires { Ready state.old memory.old × Sender state.old q own × (own.state ≡ 6 → ⊥) × Bounded r.now.head r.now.inline.now }
     ensures { Ran hold_checks state.old q (asked r.now) memory.old result state.new memory.new }
 {
     let e = match meet::meet(state, q, own, r.head.opcode) {
@@ -88,7 +87,7 @@ pub fn flush(state: &mut State, q: usize, own: QueuePair, s: SendRecord) -> Answ
 // A request of queue pair q, which is live, that nothing holds: carried out, or flushed where it is in error. A second way to carry_out beside run, whose
 // machine code a second caller of run would make slower.
 pub fn finish(state: &mut State, memory: &mut [u8], q: usize, r: &WorkRequest) -> u8
-    requires { Ready state.old memory.old × (((card state.old).qp q).live ≡ true) × (is_free state.old q r.now.head.opcode ≡ true) × (is_inline r.now.head ≡ true → reads r.now.head.opcode ≡ false) }
+    requires { Ready state.old memory.old × (((card state.old).qp q).live ≡ true) × (is_free state.old q r.now.head.opcode ≡ true) × Bounded r.now.head r.now.inline.now }
     ensures { Carried state.old q (asked r.now) memory.old result state.new memory.new }
 {
     let own = rows::load_qp(state, q);

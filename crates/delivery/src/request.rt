@@ -73,14 +73,14 @@ pub fn is_single(s: SendRecord) -> bool
     !is_inline(s) & (s.count == 1) & !meet::takes_receive(s.opcode)
 }
 
-// The number of bytes of a request's message.
+// The number of bytes of a request's message, whose entries are the first that it counts.
 pub fn total_of(s: SendRecord, sges: &[Sge], inline: &[u8]) -> u64
-    requires { is_inline s ≡ false → (length sges.now ≡ s.count) × (s.count ≤ most_sges) }
+    requires { is_inline s ≡ false → (s.count ≤ length sges.now) × (s.count ≤ most_sges) }
     ensures { result ≡ total_by s sges.now inline.now }
 {
     if is_inline(s) {
         inline.len() as u64
     } else {
-        permit::sges_total(sges)
+        permit::sges_total(&sges[..s.count as usize])
     }
 }

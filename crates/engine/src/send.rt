@@ -7,11 +7,10 @@ ghost use Rattle.tables.specs.declared.Sge.{Sge};
 ghost use Rattle.rules.specs.Call.{Call};
 ghost use Rattle.rules.specs.Contract.{Owes};
 ghost use Rattle.rules.specs.Send.{delivery_checks};
-ghost use Rattle.rules.specs.Touch.{reads};
-ghost use Rattle.tables.specs.Records.{is_inline};
 ghost use Rattle.dma.specs.Moves.{Ready};
 ghost use Rattle.delivery.specs.Asked.{asked};
 ghost use Rattle.delivery.specs.Meet.{Sender};
+ghost use Rattle.delivery.specs.Request.{Bounded};
 ghost use Rattle.delivery.specs.Run.{request_by, Ran};
 
 use delivery::meet;
@@ -45,7 +44,7 @@ fn direct_error(state: &mut State, q: usize, own: QueuePair, s: SendRecord) -> A
 
 // "QP 2; QP not in RTS 3", 10, and then the request run on the queue pair.
 fn direct(state: &mut State, memory: &mut [u8], qpn: u32, r: &WorkRequest) -> Answer
-    requires { Ready state.old memory.old × (is_inline r.now.head ≡ true → reads r.now.head.opcode ≡ false) }
+    requires { Ready state.old memory.old × Bounded r.now.head r.now.inline.now }
     ensures { Ran delivery_checks state.old qpn (asked r.now) memory.old result state.new memory.new }
 {
     let q = qpn as usize;

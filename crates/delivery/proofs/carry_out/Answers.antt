@@ -8,7 +8,7 @@ pub taken_receive-w-requires : goal.taken_receive-w-requires
 taken_receive-w-requires c =
     let a = c.args in
     let r = a.r.now in
-    let told : Told c.args.r.now.head c.args.r.now.inline.now = record { limits = record { plain = c.args.r.now.few; short = c.args.r.now.short; there = c.requires.there }; wr = search rules; imm = search rules } in (
+    let told : Told c.args.r.now.head c.args.r.now.inline.now = record { limits = c.requires.bounded; wr = search rules; imm = search rules } in (
       peer_below a.state.now a.memory.now a.e.q c.requires.ready.accepted r.head r.sges.now r.inline.now told c.requires.met.good a.e c.requires.met.rows,
       head_below a.state.now a.memory.now a.e.q c.requires.ready.accepted r.head r.sges.now r.inline.now told c.requires.met.good a.e c.requires.met.rows,
     )
@@ -17,7 +17,7 @@ pub deliver-st-requires-clause-ready : goal.deliver-st-requires-clause-ready
 deliver-st-requires-clause-ready c =
     let a = c.args in
     let r = a.r.now in
-    let told : Told c.args.r.now.head c.args.r.now.inline.now = record { limits = record { plain = c.args.r.now.few; short = c.args.r.now.short; there = c.requires.there }; wr = search rules; imm = search rules } in
+    let told : Told c.args.r.now.head c.args.r.now.inline.now = record { limits = c.requires.bounded; wr = search rules; imm = search rules } in
     let ends : Ending a.state.now a.memory.now a.e.q r.head r.sges.now r.inline.now a.e c.taken_receive-w.result c.total-total.result =
     ending a.state.now a.memory.now a.e.q c.requires.ready.accepted r.head r.sges.now r.inline.now told c.requires.met.good a.e
     c.requires.met.rows _ c.total-total.ensures _ c.taken_receive-w.ensures in
@@ -27,7 +27,7 @@ pub settle-requires : goal.settle-requires
 settle-requires c =
     let a = c.args in
     let r = a.r.now in
-    let told : Told c.args.r.now.head c.args.r.now.inline.now = record { limits = record { plain = c.args.r.now.few; short = c.args.r.now.short; there = c.requires.there }; wr = search rules; imm = search rules } in
+    let told : Told c.args.r.now.head c.args.r.now.inline.now = record { limits = c.requires.bounded; wr = search rules; imm = search rules } in
     let ends : Ending a.state.now a.memory.now a.e.q r.head r.sges.now r.inline.now a.e c.taken_receive-w.result c.total-total.result =
     ending a.state.now a.memory.now a.e.q c.requires.ready.accepted r.head r.sges.now r.inline.now told c.requires.met.good a.e
     c.requires.met.rows _ c.total-total.ensures _ c.taken_receive-w.ensures in
@@ -37,7 +37,7 @@ pub returns : goal.returns
 returns c =
     let a = c.args in
     let r = a.r.now in
-    let told : Told c.args.r.now.head c.args.r.now.inline.now = record { limits = record { plain = c.args.r.now.few; short = c.args.r.now.short; there = c.requires.there }; wr = search rules; imm = search rules } in
+    let told : Told c.args.r.now.head c.args.r.now.inline.now = record { limits = c.requires.bounded; wr = search rules; imm = search rules } in
     let ends : Ending a.state.now a.memory.now a.e.q r.head r.sges.now r.inline.now a.e c.taken_receive-w.result c.total-total.result =
     ending a.state.now a.memory.now a.e.q c.requires.ready.accepted r.head r.sges.now r.inline.now told c.requires.met.good a.e
     c.requires.met.rows _ c.total-total.ensures _ c.taken_receive-w.ensures in

@@ -32,7 +32,7 @@ direct-requires c =
     let s = c.in-Some.ensures.value in
     let b = bounded c.args.sent.now _ (posted _ _ (sym c.read_send.ensures ∙ c.in-Ok.is)) in (
       record { accepted = s.0; size = accepted_size _ s.0; whole = c.if-memory-load_memory.false ∙ c.load_memory.ensures },
-      rw c.new-r.ensures.same_head b.there,
+      record { plain = c.new-r.result.few; short = c.new-r.result.short; there = rw c.new-r.ensures.same_head b.there },
     )
 
 pub returns-in-Ok : goal.returns-in-Ok

@@ -22,11 +22,12 @@ pub finish-requires : goal.finish-requires
 finish-requires c =
     let l = c.args.state.now in
     let h = head_of_lem l c.requires.0.accepted c.args.q c.requires.1 in
-    let f = c.first_send-s.ensures in (
+    let f = c.first_send-s.ensures in
+    let b = head_bounded l c.args.q h _ f.0 _ f.1 _ c.inline_of.ensures in (
       c.requires.0,
       h.live,
       ap (λ (s : SendRecord). is_free l c.args.q s.opcode) c.new-r.ensures.same_head ∙ head_free l c.args.q h _ f.0 _ f.1 _ c.inline_of.ensures,
-      rw c.new-r.ensures.same_head (head_bounded l c.args.q h _ f.0 _ f.1 _ c.inline_of.ensures).there,
+      record { plain = c.new-r.result.few; short = c.new-r.result.short; there = rw c.new-r.ensures.same_head b.there },
     )
 
 pub returns : goal.returns
