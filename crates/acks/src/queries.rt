@@ -173,14 +173,14 @@ impl Report for Port {
     }
 }
 
-// ---- the readers of the two acks
+// ---- the two acks, each read by a function of its own: ReadBack speaks of what these give
 
 // Reads an ack of command 0.
 #[tactic(auto, unfolding(tables::specs::Queries::device_codec, tables::specs::Queries::device_read))]
 pub fn read_device(ack: &[u8]) -> Result<Device, Refusal>
     ensures { result ≡ device_read ack.now }
 {
-    read_report(ack)
+    read_report::<Device>(ack)
 }
 
 // Reads an ack of command 1.
@@ -188,5 +188,5 @@ pub fn read_device(ack: &[u8]) -> Result<Device, Refusal>
 pub fn read_port(ack: &[u8]) -> Result<Port, Refusal>
     ensures { result ≡ port_read ack.now }
 {
-    read_report(ack)
+    read_report::<Port>(ack)
 }
