@@ -24,8 +24,8 @@ pub mod meet;
 pub mod request;
 pub mod settle;
 
-// Steps 3 to 6 of a write or a read of one entry, without a list of entries. Apart from carry_out, by which a write of 64 bytes takes 1,104
-// instructions (bench/instructions), and by this 931.
+// Steps 3 to 6 of a write or a read of one entry, without a list of entries. Apart from carry_out, by which a write of 64 bytes took 18.6 %
+// more instructions (bench/instructions).
 fn carry_single(state: &mut State, memory: &mut [u8], e: Ends, s: SendRecord, a: Sge) -> u8
     requires ready { Ready state.old memory.old }
     requires s_value { (is_single s ≡ true) × Met state.old e s.opcode }

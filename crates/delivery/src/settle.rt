@@ -174,8 +174,8 @@ pub fn settle(state: &mut State, e: Ends, s: SendRecord, w: ReceiveRecord, st: u
     fail_if(state, st == REMOTE_INVALID, e.d);
 }
 
-// What is left of that by a request that takes no receive: no byte where it succeeds silently. Apart from settle, by which a write of 64 bytes takes
-// 1,016 instructions (bench/instructions), and by this 931.
+// What is left of that by a request that takes no receive: no byte where it succeeds silently. Apart from settle, by which a write of 64 bytes took
+// 9.1 % more instructions (bench/instructions).
 pub fn settle_single(state: &mut State, e: Ends, s: SendRecord, st: u8, n: u64)
     requires { Settling state.old e s no_record st n × (takes s.opcode ≡ false) × (eqb st 7 ≡ false) }
     ensures { state.new ≡ settled_bytes state.old e s no_record st n }
