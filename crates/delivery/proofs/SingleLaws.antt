@@ -68,7 +68,7 @@ module _ (s : SendRecord) (i : is_single s ≡ true) where
     own_range : own_by s (a ∷ []) ≡ range a.address a.key a.length
     own_range = rw (plain, list_is) (one_bytes a)
 
-    far_range : sge_bytes (far_list s no_record a.length) ≡ range s.address s.key a.length
+    pub far_range : sge_bytes (far_list s no_record a.length) ≡ range s.address s.key a.length
     far_range = rw unfilled (one_bytes (record { address = s.address; length = a.length; key = s.key }))
 
     pub single_sending : Sending s (a ∷ []) [] a.length

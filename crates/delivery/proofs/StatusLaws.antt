@@ -101,6 +101,8 @@ module _ (l m : List ℕ) (e : Ends) (s : SendRecord) (sges : List Sge) (v : Lis
               memory = i ∙ ap (λ (y : List Sge). carried (card l) s v (take s.count sges) y m) is;
             }
 
+      -- what the move asks of the peer's side: a byte that anybody may use is mapped, so whose use it was does not matter
+      module _ (p : Party) (x : ℕ) (list : List Sge) (z : allows_all (card l) p x (sge_bytes list) ≡ true) (is : list ≡ far_list s w n) where
         far_total : (f : Bool) → (not f || fit) ≡ true → sge_total (cond f (cut n (receive_sges w)) (record { address = s.address; length = n; key = s.key } ∷ [])) ≡ n
         unfolding sge_total
         far_total true i = cut_total n (receive_sges w) (leb-true n (sge_total (receive_sges w)) i)
@@ -111,7 +113,7 @@ module _ (l m : List ℕ) (e : Ends) (s : SendRecord) (sges : List Sge) (v : Lis
             let f : sge_total list ≡ n = rw is (far_total (fills o) k) in
             record {
               most = rw f side.short;
-              target = permitted_mapped_all (card l) (party_in e.far) (far_mask o) (sge_bytes list) (rw is z);
+              target = permitted_mapped_all (card l) p x (sge_bytes list) z;
               plain = λ i. (permitted_mapped_all (card l) (party_in e.own) (own_mask o) (sge_bytes (take s.count sges)) (rw i at h), (rw i at y.total) ∙ sym f);
               short = λ i. (y.short i, (rw i at y.total) ∙ sym f);
             }
